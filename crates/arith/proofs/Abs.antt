@@ -1,0 +1,95 @@
+-- The size of an integer, in ℕ, where `omega` reads it: of a sum, a product, a negation; from bounds on both sides and back; and that a number fits its width.
+use mathlib.Core.Path.{_≡_, refl, sym, subst}
+use mathlib.Core.Bool.{Bool, true, false, cond}
+use Prim.Native.Nat.{ℕ, zero, suc, _+_, _*_, _-_, _/_, _^_, _≤_, _<_}
+use native.Mathlib.Nat.{div-le-self, lt-of-le-of-lt, le-refl, mul-le-mul-left, mul-le-mul-right, le-trans}
+use native.Mathlib.Omega.{arith}
+use lib.Dec.{T, ltb, leb→le, le→leb, ltb→lt}
+use lib.IntN.{ℤ, pos, negsuc, negℤ, subℕ, natAbs, _+ℤ_, _-ℤ_, _*ℤ_}
+use lib.Signed.{_≤ℤ_, leZ, leZ-yes, mag, quotZ, remZ, shrZ, mag-rem, mag-shr}
+use mir.Syntax.{Width}
+use mir.Val.{SFits, hbits}
+
+-- −B ≤ x ≤ B
+pub record Within (B : ℕ) (x : ℤ) : Type 0 where
+  pub lo : negℤ (pos B) ≤ℤ x
+  pub hi : x ≤ℤ pos B
+
+pub abs-neg : (x : ℤ) → natAbs (negℤ x) ≡ natAbs x
+abs-neg (pos zero) = refl
+abs-neg (pos (suc n)) = refl
+abs-neg (negsuc n) = refl
+
+abs-cond : (c : Bool) (a b : ℕ) → (T c → a < b) → natAbs (cond c (negsuc (b - suc a)) (pos (a - b))) ≤ a + b
+abs-cond true a b f = omega (arith, f tt)
+abs-cond false a b f = omega arith
+
+abs-sub : (a b : ℕ) → natAbs (subℕ a b) ≤ a + b
+abs-sub a b = abs-cond (ltb a b) a b (ltb→lt a b)
+
+pub abs-add : (x y : ℤ) → natAbs (x +ℤ y) ≤ natAbs x + natAbs y
+abs-add (pos a) (pos b) = le-refl (a + b)
+abs-add (pos a) (negsuc b) = abs-sub a (suc b)
+abs-add (negsuc a) (pos b) = omega (arith, abs-sub b (suc a))
+abs-add (negsuc a) (negsuc b) = omega arith
+
+pub abs-minus : (x y : ℤ) → natAbs (x -ℤ y) ≤ natAbs x + natAbs y
+abs-minus x y = omega (arith, abs-add x (negℤ y), abs-neg y)
+
+pub abs-mul : (x y : ℤ) → natAbs (x *ℤ y) ≡ natAbs x * natAbs y
+abs-mul (pos a) (pos b) = refl
+abs-mul (pos a) (negsuc b) = abs-neg (pos (a * suc b))
+abs-mul (negsuc a) (pos b) = abs-neg (pos (suc a * b))
+abs-mul (negsuc a) (negsuc b) = refl
+
+-- a product of two bounded numbers
+pub abs-mul-le : (x y : ℤ) {A B : ℕ} → natAbs x ≤ A → natAbs y ≤ B → natAbs (x *ℤ y) ≤ A * B
+abs-mul-le x y {A} {B} h k = subst (λ (n : ℕ). n ≤ A * B) (sym (abs-mul x y)) (le-trans (mul-le-mul-right (natAbs y) h) (mul-le-mul-left A k))
+
+-- ---- bounds on both sides
+abs-lo : (B n : ℕ) → T (leZ (negℤ (pos B)) (negsuc n)) → suc n ≤ B
+abs-lo zero n t = absurd t
+abs-lo (suc B) n t = omega (arith, leb→le n B t)
+
+pub abs≤ : {B : ℕ} {x : ℤ} → Within B x → natAbs x ≤ B
+abs≤ {B} {x = pos n} h = leb→le n B (h .hi .le)
+abs≤ {B} {x = negsuc n} h = abs-lo B n (h .lo .le)
+
+neg-le : (B n : ℕ) → T (leZ (negℤ (pos B)) (pos n))
+neg-le zero n = le→leb 0 n (omega arith)
+neg-le (suc B) n = tt
+
+lo-abs : (B n : ℕ) → suc n ≤ B → T (leZ (negℤ (pos B)) (negsuc n))
+lo-abs zero n h = absurd (none n h)
+  where
+    none : (n : ℕ) → suc n ≤ 0 → ⊥
+    none n h = omega arith
+lo-abs (suc B) n h = le→leb n B (omega arith)
+
+pub within : {B : ℕ} (x : ℤ) → natAbs x ≤ B → Within B x
+within {B} (pos n) h = record { lo = leZ-yes (neg-le B n); hi = leZ-yes (le→leb n B h) }
+within {B} (negsuc n) h = record { lo = leZ-yes (lo-abs B n h); hi = leZ-yes tt }
+
+-- ---- fits
+pub mag≤abs : (x : ℤ) → mag x ≤ natAbs x
+mag≤abs (pos n) = le-refl n
+mag≤abs (negsuc n) = omega arith
+
+pub sfits-abs : {w : Width} (x : ℤ) → natAbs x < 2 ^ hbits w → SFits w x
+sfits-abs x h = record { sfits = omega (arith, mag≤abs x) }
+
+pub sfits-within : {w : Width} {B : ℕ} {x : ℤ} → Within B x → B < 2 ^ hbits w → SFits w x
+sfits-within {x = x} h k = sfits-abs x (omega (arith, abs≤ h))
+
+-- a quotient, toward zero or down, and a remainder are no larger than the dividend
+pub abs-quot : (z d : ℤ) → natAbs (quotZ z d) ≤ natAbs z
+abs-quot (pos a) (pos b) = div-le-self a b
+abs-quot (pos a) (negsuc b) = subst (λ (n : ℕ). n ≤ a) (sym (abs-neg (pos (a / suc b)))) (div-le-self a (suc b))
+abs-quot (negsuc a) (pos b) = subst (λ (n : ℕ). n ≤ suc a) (sym (abs-neg (pos (suc a / b)))) (div-le-self (suc a) b)
+abs-quot (negsuc a) (negsuc b) = div-le-self (suc a) (suc b)
+
+pub sfits-rem : {w : Width} (z d : ℤ) → SFits w z → SFits w (remZ z d)
+sfits-rem z d h = record { sfits = lt-of-le-of-lt (mag-rem z d) (h .sfits) }
+
+pub sfits-shr : {w : Width} (z : ℤ) (m : ℕ) → SFits w z → SFits w (shrZ z m)
+sfits-shr z m h = record { sfits = lt-of-le-of-lt (mag-shr z m) (h .sfits) }

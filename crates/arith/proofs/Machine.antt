@@ -1,0 +1,158 @@
+-- What the machine's signed arithmetic leaves to an author. A signed local holds bits, so a need speaks of `toZ w (ofZ w ..)` around each number.
+-- `Size u` finds the plain number v that u stands for, a bound on its size, and what is left to show: one order of natural numbers for each step, for `omega`.
+--     fits? (search (sizes, sized ..)) (omega arith)       that a sum, a difference or a product fits
+--     value? (search (sizes, sized ..)) (omega arith)      that u is v
+--     bounded? u (search (sizes, sized ..)) (omega arith)  that u is within a bound
+use mathlib.Core.Path.{_≡_, refl, sym, _∙_, ap, ap₂, subst}
+use Prim.Native.Nat.{ℕ, suc, _+_, _*_, _/_, _^_, _≤_, _<_}
+use native.Mathlib.Nat.{le-refl, le-trans, lt-of-le-of-lt, add-le-add, div-lt-iff-lt-mul, div-add-mod, mod-lt}
+use native.Mathlib.Omega.{arith}
+use lib.Dec.{T, leb}
+use lib.IntN.{ℤ, pos, negsuc, negℤ, natAbs, _+ℤ_, _-ℤ_, _*ℤ_}
+use lib.Signed.{mag, quotZ, shrZ}
+use mir.Syntax.{Width, w32, w64}
+use mir.Val.{SFits, hbits, toZ, ofZ}
+use mir.Facts.{toZ-ofZ, sfits-widen}
+use Rattle.arith.proofs.Abs.{abs-add, abs-minus, abs-mul-le, abs-neg, abs-quot, sfits-abs}
+
+pub record Size (u : ℤ) : Type 1 where
+  pub v : ℤ
+  pub B : ℕ
+  pub Ob : Type 0
+  pub is : Ob → u ≡ v
+  pub ok : Ob → natAbs v ≤ B
+
+-- ---- the proofs, shut
+
+pub is-add : (a b : ℤ) (x : Size a) (y : Size b) → x .Ob × y .Ob → a +ℤ b ≡ x .v +ℤ y .v
+is-add a b x y t = ap₂ _+ℤ_ (x .is (t .0)) (y .is (t .1))
+
+pub ok-add : (a b : ℤ) (x : Size a) (y : Size b) → x .Ob × y .Ob → natAbs (x .v +ℤ y .v) ≤ x .B + y .B
+ok-add a b x y t = le-trans (abs-add (x .v) (y .v)) (add-le-add (x .ok (t .0)) (y .ok (t .1)))
+
+pub is-sub : (a b : ℤ) (x : Size a) (y : Size b) → x .Ob × y .Ob → a -ℤ b ≡ x .v -ℤ y .v
+is-sub a b x y t = ap₂ _-ℤ_ (x .is (t .0)) (y .is (t .1))
+
+pub ok-sub : (a b : ℤ) (x : Size a) (y : Size b) → x .Ob × y .Ob → natAbs (x .v -ℤ y .v) ≤ x .B + y .B
+ok-sub a b x y t = le-trans (abs-minus (x .v) (y .v)) (add-le-add (x .ok (t .0)) (y .ok (t .1)))
+
+pub is-mul : (a b : ℤ) (x : Size a) (y : Size b) → x .Ob × y .Ob → a *ℤ b ≡ x .v *ℤ y .v
+is-mul a b x y t = ap₂ _*ℤ_ (x .is (t .0)) (y .is (t .1))
+
+pub ok-mul : (a b : ℤ) (x : Size a) (y : Size b) → x .Ob × y .Ob → natAbs (x .v *ℤ y .v) ≤ x .B * y .B
+ok-mul a b x y t = abs-mul-le (x .v) (y .v) (x .ok (t .0)) (y .ok (t .1))
+
+pub is-neg : (a : ℤ) (x : Size a) → x .Ob → negℤ a ≡ negℤ (x .v)
+is-neg a x t = ap negℤ (x .is t)
+
+pub ok-neg : (a : ℤ) (x : Size a) → x .Ob → natAbs (negℤ (x .v)) ≤ x .B
+ok-neg a x t = subst (λ (n : ℕ). n ≤ x .B) (sym (abs-neg (x .v))) (x .ok t)
+
+pub is-quot : (a b : ℤ) (x : Size a) (y : Size b) → x .Ob × y .Ob → quotZ a b ≡ quotZ (x .v) (y .v)
+is-quot a b x y t = ap₂ quotZ (x .is (t .0)) (y .is (t .1))
+
+pub ok-quot : (a b : ℤ) (x : Size a) (y : Size b) → x .Ob × y .Ob → natAbs (quotZ (x .v) (y .v)) ≤ x .B
+ok-quot a b x y t = le-trans (abs-quot (x .v) (y .v)) (x .ok (t .0))
+
+div-more : (a B m : ℕ) → 0 < m → a ≤ B → a / m < B / m + 1
+div-more a B m h l = div-lt-iff-lt-mul h .1 (omega (arith, div-add-mod B m, mod-lt B h))
+
+-- a quotient rounded down
+pub abs-floor : (z : ℤ) (m : ℕ) {B : ℕ} → 0 < m → natAbs z ≤ B → natAbs (shrZ z m) ≤ B / m + 1
+abs-floor (pos a) m {B} h l = omega (arith, div-more a B m h l)
+abs-floor (negsuc a) m {B} h l = div-more a B m h (omega arith)
+
+pub is-floor : (a : ℤ) (m : ℕ) (x : Size a) → x .Ob × (0 < m) → shrZ a m ≡ shrZ (x .v) m
+is-floor a m x t = ap (λ z. shrZ z m) (x .is (t .0))
+
+pub ok-floor : (a : ℤ) (m : ℕ) (x : Size a) → x .Ob × (0 < m) → natAbs (shrZ (x .v) m) ≤ x .B / m + 1
+ok-floor a m x t = abs-floor (x .v) m (t .1) (x .ok (t .0))
+
+pub is-bits : (w : Width) (a : ℤ) (x : Size a) → x .Ob × (x .B < 2 ^ hbits w) → toZ w (ofZ w a) ≡ x .v
+is-bits w a x t = ap (λ z. toZ w (ofZ w z)) (x .is (t .0)) ∙ toZ-ofZ {w = w} (sfits-abs {w = w} (x .v) (lt-of-le-of-lt (x .ok (t .0)) (t .1)))
+
+pub ok-bits : (w : Width) (a : ℤ) (x : Size a) → x .Ob × (x .B < 2 ^ hbits w) → natAbs (x .v) ≤ x .B
+ok-bits w a x t = x .ok (t .0)
+
+-- ---- the rules
+
+abbrev pub s-add : (a b : ℤ) → Size a → Size b → Size (a +ℤ b)
+s-add a b x y = record { v = x .v +ℤ y .v; B = x .B + y .B; Ob = x .Ob × y .Ob; is = is-add a b x y; ok = ok-add a b x y }
+
+abbrev pub s-sub : (a b : ℤ) → Size a → Size b → Size (a -ℤ b)
+s-sub a b x y = record { v = x .v -ℤ y .v; B = x .B + y .B; Ob = x .Ob × y .Ob; is = is-sub a b x y; ok = ok-sub a b x y }
+
+abbrev pub s-mul : (a b : ℤ) → Size a → Size b → Size (a *ℤ b)
+s-mul a b x y = record { v = x .v *ℤ y .v; B = x .B * y .B; Ob = x .Ob × y .Ob; is = is-mul a b x y; ok = ok-mul a b x y }
+
+abbrev pub s-neg : (a : ℤ) → Size a → Size (negℤ a)
+s-neg a x = record { v = negℤ (x .v); B = x .B; Ob = x .Ob; is = is-neg a x; ok = ok-neg a x }
+
+abbrev pub s-quot : (a b : ℤ) → Size a → Size b → Size (quotZ a b)
+s-quot a b x y = record { v = quotZ (x .v) (y .v); B = x .B; Ob = x .Ob × y .Ob; is = is-quot a b x y; ok = ok-quot a b x y }
+
+abbrev pub s-floor : (a : ℤ) (m : ℕ) → Size a → Size (shrZ a m)
+s-floor a m x = record { v = shrZ (x .v) m; B = x .B / m + 1; Ob = x .Ob × (0 < m); is = is-floor a m x; ok = ok-floor a m x }
+
+abbrev pub s-bits : (w : Width) (a : ℤ) → Size a → Size (toZ w (ofZ w a))
+s-bits w a x = record { v = x .v; B = x .B; Ob = x .Ob × (x .B < 2 ^ hbits w); is = is-bits w a x; ok = ok-bits w a x }
+
+abbrev pub s-pos : (n : ℕ) → T (leb 0 n) → Size (pos n)
+s-pos n t = record { v = pos n; B = n; Ob = Unit {0}; is = λ t. refl; ok = λ t. le-refl n }
+
+abbrev pub s-negsuc : (n : ℕ) → T (leb 0 n) → Size (negsuc n)
+s-negsuc n t = record { v = negsuc n; B = suc n; Ob = Unit {0}; is = λ t. refl; ok = λ t. le-refl (suc n) }
+
+pub ruleset sizes = (tt, s-pos, s-negsuc, s-bits, s-neg, s-quot, s-floor, s-mul, s-sub, s-add)
+
+-- ---- what is known of a number
+
+-- a bound
+abbrev pub sized : (x : ℤ) (B : ℕ) → natAbs x ≤ B → Size x
+sized x B h = record { v = x; B = B; Ob = Unit {0}; is = λ t. refl; ok = λ t. h }
+
+-- an equation and a bound, as of a callee's result
+abbrev pub sized-as : (x v : ℤ) (B : ℕ) → x ≡ v → natAbs v ≤ B → Size x
+sized-as x v B e h = record { v = v; B = B; Ob = Unit {0}; is = λ t. e; ok = λ t. h }
+
+-- a number of the machine's, read back from its bits
+pub is-held : (w : Width) (x : ℤ) → SFits w x → Unit {0} → toZ w (ofZ w x) ≡ x
+is-held w x h t = toZ-ofZ {w = w} h
+
+abbrev pub held : (w : Width) (x : ℤ) (B : ℕ) → SFits w x → natAbs x ≤ B → Size (toZ w (ofZ w x))
+held w x B h l = record { v = x; B = B; Ob = Unit {0}; is = is-held w x h; ok = λ t. l }
+
+-- bits of which the number is known
+pub is-of-bits : (w : Width) (n : ℕ) (x : ℤ) → n ≡ ofZ w x → SFits w x → Unit {0} → toZ w n ≡ x
+is-of-bits w n x e h t = ap (λ (k : ℕ). toZ w k) e ∙ toZ-ofZ {w = w} h
+
+abbrev pub of-bits : (w : Width) (n : ℕ) (x : ℤ) (B : ℕ) → n ≡ ofZ w x → SFits w x → natAbs x ≤ B → Size (toZ w n)
+of-bits w n x B e h l = record { v = x; B = B; Ob = Unit {0}; is = is-of-bits w n x e h; ok = λ t. l }
+
+-- a natural number, read as signed bits
+pub is-nat : (w : Width) (n B : ℕ) → n ≤ B → B < 2 ^ hbits w → toZ w n ≡ pos n
+is-nat w n B h t = toZ-ofZ {w = w} {z = pos n} (record { sfits = lt-of-le-of-lt h t })
+
+abbrev pub of-nat : (w : Width) (n B : ℕ) → n ≤ B → Size (toZ w n)
+of-nat w n B h = record { v = pos n; B = B; Ob = B < 2 ^ hbits w; is = is-nat w n B h; ok = λ t. h }
+
+-- a 32-bit element, read, and read as 64 bits
+pub element : (x : ℤ) → mag x < 2 ^ 31 → toZ w32 (ofZ w32 x) ≡ x
+element x h = toZ-ofZ {w = w32} (record { sfits = h })
+
+pub widen-fits : (x : ℤ) → mag x < 2 ^ 31 → SFits w64 (toZ w32 (ofZ w32 x))
+widen-fits x h = rw (element x h) (sfits-widen {w = w32} tt (record { sfits = h }))
+
+pub widened : (x : ℤ) → mag x < 2 ^ 31 → toZ w64 (ofZ w64 (toZ w32 (ofZ w32 x))) ≡ x
+widened x h = toZ-ofZ {w = w64} (widen-fits x h) ∙ element x h
+
+-- ---- the answers
+
+pub fits? : {w : Width} {u : ℤ} (x : Size u) → x .Ob × (x .B < 2 ^ hbits w) → SFits w u
+fits? {w} {u} x t = sfits-abs {w = w} u (lt-of-le-of-lt (subst (λ z. natAbs z ≤ x .B) (sym (x .is (t .0))) (x .ok (t .0))) (t .1))
+
+pub value? : {u : ℤ} (x : Size u) → x .Ob → u ≡ x .v
+value? x t = x .is t
+
+pub bounded? : (u : ℤ) {K : ℕ} (x : Size u) → x .Ob × (x .B ≤ K) → natAbs u ≤ K
+bounded? u {K} x t = subst (λ z. natAbs z ≤ K) (sym (x .is (t .0))) (le-trans (x .ok (t .0)) (t .1))

@@ -1,0 +1,117 @@
+-- A cell: refusal 14, its corners and refusal 5 on them, where their records stand, and its block.
+use mathlib.Core.Path.{_≡_}
+use Prim.Native.Nat.{ℕ, zero, suc, _+_, _*_, _/_, _%_, _^_, _≤_, _<_}
+use mathlib.Core.List.{List}
+use lib.Dec.{leb, ltb, eqb}
+use lib.IntN.{ℤ, natAbs}
+use lib.ListN.{getD}
+use Rattle.arith.specs.Choice.{pick}
+use Rattle.lattice.specs.declared.Shape.{Shape}
+use Rattle.lattice.specs.Outcome.{Check, refuseUnless, firstOf}
+use Rattle.lattice.specs.Buffer.{at}
+use Rattle.lattice.specs.Digits.{digit}
+use Rattle.cell.specs.declared.Layout.{Layout}
+use Rattle.lattice.specs.Shape.{count, orders, entries}
+use Rattle.lattice.specs.Axes.{Place, OnUsed}
+use Rattle.lattice.specs.Records.{nodeNumber, recordsField, entryIndex, sampleLimit, entryLimit}
+
+-- the place of three indices
+unfoldable pub placeAt : List ℕ → Place
+placeAt xs a = pick (ltb a 3) (getD xs a 0) 0
+
+-- 14: a cell index above count − 2, or not 0 on an unused axis; place is the axis
+unfoldable pub indexOutcome : Shape → ℕ → ℕ → Check
+indexOutcome s i a = refuseUnless (pick (ltb a (s .axes)) (leb (i + 2) (count s a)) (eqb i 0)) 14 a
+
+unfoldable pub cellOutcome : Shape → Place → Check
+cellOutcome s cell = firstOf 3 (λ a. indexOutcome s (cell a) a)
+
+-- entry i of the corner records: corners in order, x fastest, entries by number; place 0 on an unused axis
+unfoldable pub cornerPlace : Shape → Place → ℕ → Place
+cornerPlace s cell i a =
+    pick (ltb a (s .axes)) (orders s * (cell a + digit (λ b. 2) (i / entries s) a) + digit (λ b. orders s) (i % entries s) a) 0
+
+-- the entries of the 2^n corner records
+unfoldable pub cornerEntries : Shape → ℕ
+cornerEntries s = 2 ^ s .axes * entries s
+
+-- 5: an entry beyond its limit; place is its index in the records
+unfoldable pub entryOutcome : Shape → List ℤ → Place → Check
+entryOutcome s rs p = refuseUnless (leb (natAbs (recordsField s rs p)) (entryLimit (orders s) (s .axes) p)) 5 (entryIndex s p)
+
+-- the first entry of the corners, in corner order, beyond its limit
+unfoldable pub cornersOutcome : Shape → List ℤ → Place → Check
+cornersOutcome s rs cell = firstOf (cornerEntries s) (λ i. entryOutcome s rs (cornerPlace s cell i))
+
+-- a cell that 14 does not refuse: document 01's accepted cell
+pub record Accepted (s : Shape) (cell : Place) : Type 0 where
+  pub used : (a : ℕ) → a < s .axes → cell a + 2 ≤ count s a
+  pub unused : (a : ℕ) → s .axes ≤ a → cell a ≡ 0
+
+-- ---- where the numbers of a cell stand in the records
+
+-- the record of the low corner
+unfoldable pub base : Shape → Place → ℕ
+base s cell = nodeNumber s cell * entries s
+
+-- from a node's record to that of its upper neighbour on axis a
+unfoldable pub far : Shape → ℕ → ℕ
+far s zero = entries s
+far s (suc a) = count s a * far s a
+
+-- from an order to the next on axis a
+unfoldable pub near : Shape → ℕ → ℕ
+near s a = orders s ^ a
+
+-- number t = m·end + order along axis a, from the low end's value
+unfoldable pub offset : Shape → ℕ → ℕ → ℕ
+offset s a t = t / orders s * far s a + t % orders s * near s a
+
+-- the record of corner c, x fastest
+unfoldable pub cornerStart : Shape → Place → ℕ → ℕ
+cornerStart s cell c = base s cell + (c % 2 * far s 0 + (c / 2 % 2 * far s 1 + c / 2 / 2 * far s 2))
+
+-- the limit of entry e of a record
+unfoldable pub limitOf : ℕ → ℕ → ℕ
+limitOf m e = sampleLimit * 2 ^ (e % m + (e / m % m + e / m / m))
+
+-- the limit test of the record that starts at `start`
+unfoldable pub recordOutcome : (ℕ → ℕ) → ℕ → List ℤ → ℕ → Check
+recordOutcome limits n rs start = firstOf n (λ e. refuseUnless (leb (natAbs (at rs (start + e))) (limits e)) 5 (start + e))
+
+-- what a layout holds
+pub record Laid (s : Shape) (cell : Place) (l : Layout) : Type 0 where
+  pub orders-are : l .orders ≡ orders s
+  pub entries-are : l .entries ≡ entries s
+  pub base-is : l .base ≡ base s cell
+  pub far-x : getD (l .far) 0 0 ≡ far s 0
+  pub far-y : getD (l .far) 1 0 ≡ far s 1
+  pub far-z : getD (l .far) 2 0 ≡ far s 2
+
+-- a layout whose sums fit
+pub record Small (l : Layout) : Type 0 where
+  pub base-low : l .base ≤ 2 ^ 32
+  pub x-low : getD (l .far) 0 0 ≤ 2 ^ 32
+  pub y-low : getD (l .far) 1 0 ≤ 2 ^ 32
+  pub z-low : getD (l .far) 2 0 ≤ 2 ^ 32
+
+-- ---- the block of a cell, and the numbers of its corners
+
+-- on one axis: a node from one below the cell's index to two above it, as far as there is one
+pub record NearCell (count c i : ℕ) : Type 0 where
+  pub low : c ≤ i + 1
+  pub high : i ≤ c + 2
+  pub there : i < count
+
+-- on one axis: a number of one of the cell's two ends
+pub record AtEnds (m c j : ℕ) : Type 0 where
+  pub low : m * c ≤ j
+  pub high : j < m * c + 2 * m
+
+-- a node of the block
+abbrev pub InBlock : ℕ → Place → Place → Place → Type 0
+InBlock n count cell = OnUsed n (λ a. NearCell (count a) (cell a))
+
+-- an entry of a corner's record
+abbrev pub InCorners : ℕ → ℕ → Place → Place → Type 0
+InCorners m n cell = OnUsed n (λ a. AtEnds m (cell a))

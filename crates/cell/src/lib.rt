@@ -1,0 +1,181 @@
+// A cell of a table: its index test, where its corner records stand, and the limit test of its corners.
+ghost use mathlib.Core.Path.{_≡_};
+ghost use Prim.Native.Nat.{ℕ, _+_, _*_, _/_, _%_, _^_, _<_, _≤_};
+ghost use lib.Dec.{leb};
+ghost use lib.IntN.{natAbs};
+ghost use lib.ListN.{length, getD};
+ghost use Rattle.lattice.specs.Outcome.{refuseUnless, firstOf};
+ghost use Rattle.lattice.specs.Answer.{meaning};
+ghost use Rattle.lattice.specs.Buffer.{at};
+ghost use Rattle.lattice.specs.Shape.{count, orders, entries, size, Shaped};
+ghost use Rattle.cell.specs.Cell.{placeAt, indexOutcome, cellOutcome, cornersOutcome, Accepted, Laid, Small, base, far, cornerStart, limitOf, recordOutcome};
+use lattice::Answer;
+use lattice::Shape;
+
+// Where the corner records of a cell stand.
+pub struct Layout {
+    pub orders: usize,
+    pub entries: usize,
+    pub base: usize,
+    pub far: [usize; 3],
+}
+
+const LIMITS: [[u64; 27]; 2] = [
+    [
+        32768,
+        65536,
+        65536,
+        131072,
+        65536,
+        131072,
+        131072,
+        262144,
+        0,
+        0,
+        0,
+        0,
+        0,
+        0,
+        0,
+        0,
+        0,
+        0,
+        0,
+        0,
+        0,
+        0,
+        0,
+        0,
+        0,
+        0,
+        0,
+    ],
+    [
+        32768,
+        65536,
+        131072,
+        65536,
+        131072,
+        262144,
+        131072,
+        262144,
+        524288,
+        65536,
+        131072,
+        262144,
+        131072,
+        262144,
+        524288,
+        262144,
+        524288,
+        1048576,
+        131072,
+        262144,
+        524288,
+        262144,
+        524288,
+        1048576,
+        524288,
+        1048576,
+        2097152,
+    ],
+];
+
+fn check_index(s: Shape, index: u32, axis: u32) -> Answer
+    requires { ⌜ axis < 3 ⌝ }
+    ensures { λ r. ⌜ meaning r ≡ indexOutcome s index axis ⌝ }
+{
+    let a = axis as usize;
+    let count = s.counts[a] as usize;
+    if axis < s.axes {
+        lattice::refuse_unless(index as usize + 2 <= count, 14, a)
+    } else {
+        lattice::refuse_unless(index == 0, 14, a)
+    }
+}
+
+// Refusal 14.
+pub fn check_cell(s: Shape, cell: [u32; 3]) -> Answer
+    ensures { λ r. ⌜ meaning r ≡ cellOutcome s (placeAt cell) ⌝ }
+{
+    let x = check_index(s, cell[0], 0);
+    let y = check_index(s, cell[1], 1);
+    let z = check_index(s, cell[2], 2);
+    lattice::earlier(lattice::earlier(x, y), z)
+}
+
+pub fn lay_out(s: Shape, cell: [u32; 3]) -> Layout
+    requires { ⌜ Shaped s ⌝ }
+    requires { ⌜ Accepted s (placeAt cell) ⌝ }
+    ensures { λ r. ⌜ Laid s (placeAt cell) r ⌝ }
+{
+    let size = lattice::record_entries(s);
+    let rows = s.counts[0] as usize;
+    let planes = s.counts[1] as usize;
+    let node = cell[0] as usize + rows * (cell[1] as usize + planes * cell[2] as usize);
+    Layout {
+        orders: lattice::orders(s.degree),
+        entries: size,
+        base: node * size,
+        far: [size, rows * size, planes * (rows * size)],
+    }
+}
+
+// The limits of the entries of a record.
+fn entry_limits(m: usize) -> [u64; 27]
+    requires { ⌜ (2 ≤ m) × (m ≤ 3) ⌝ }
+    ensures { λ r. ⌜ ((e : ℕ) → e < m ^ 3 → getD r e 0 ≡ limitOf m e) ⌝ }
+{
+    if m == 2 {
+        return LIMITS[0];
+    }
+    LIMITS[1]
+}
+
+// The limit test of the record that starts at `start`.
+fn check_record(limits: &[u64; 27], n: usize, records: &[i32], start: usize) -> Answer
+    requires { ⌜ (n ≤ 27) × (start + n ≤ length (now records)) ⌝ }
+    ensures { λ r. ⌜ meaning r ≡ recordOutcome (λ e. getD (now (limits .entry)) e 0) n (now (records .entry)) start ⌝ }
+{
+    let mut e: usize = 0;
+    while e < n {
+        let x = records[start + e] as i64;
+        if limits[e] < arith::magnitude(x) {
+            return lattice::refuse_unless(false, 5, start + e);
+        }
+        e += 1;
+    }
+    Answer::Done
+}
+
+// Where the record of corner c starts.
+fn corner_start(l: Layout, c: usize) -> usize
+    requires { ⌜ (c < 8) × Small l ⌝ }
+    ensures { λ r. ⌜ r ≡ l .base + (c % 2 * getD (l .far) 0 0 + (c / 2 % 2 * getD (l .far) 1 0 + c / 2 / 2 * getD (l .far) 2 0)) ⌝ }
+{
+    let x = l.far[0];
+    let y = l.far[1];
+    let z = l.far[2];
+    l.base + (c % 2 * x + (c / 2 % 2 * y + c / 2 / 2 * z))
+}
+
+// Refusal 5 at the first entry of the corners, in corner order, beyond its limit.
+pub fn check_corners(s: Shape, records: &[i32], cell: [u32; 3], l: Layout) -> Answer
+    requires { ⌜ Shaped s × (length (now records) ≡ size s) ⌝ }
+    requires { ⌜ Accepted s (placeAt cell) × Laid s (placeAt cell) l ⌝ }
+    ensures { λ r. ⌜ meaning r ≡ cornersOutcome s (now (records .entry)) (placeAt cell) ⌝ }
+{
+    let limits = entry_limits(l.orders);
+    let n = l.entries;
+    let corners: usize = 1 << s.axes;
+    let mut c: usize = 0;
+    while c < corners {
+        let start = corner_start(l, c);
+        let one = check_record(&limits, n, records, start);
+        if let Answer::Refused(_) = one {
+            return one;
+        }
+        c += 1;
+    }
+    Answer::Done
+}

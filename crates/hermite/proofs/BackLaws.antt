@@ -1,0 +1,172 @@
+-- One axis: back is linear, forward and back undo each other but for the doubling, and the sizes of what each gives.
+use mathlib.Core.Path.{_≡_, refl, sym, ap, subst, _∙_}
+use mathlib.Core.Bool.{Bool, true, false}
+use mathlib.Core.List.{[], _∷_}
+use Prim.Native.Nat.{ℕ, zero, suc, _+_, _*_, _-_, _%_, _^_, _≤_, _<_}
+use native.Mathlib.Nat.{le-trans, le-of-eq, mul-le-mul-right, mod-eq-of-lt, add-mod-left}
+use native.Mathlib.Omega.{arith}
+use native.Mathlib.Decide.{decLt}
+use borrow.Author.Tests.{lt-ltb, le-ltb}
+use lib.Dec.{ltb, eqb, lit≤}
+use lib.IntN.{ℤ, pos, _*ℤ_, natAbs, negℤ-negℤ}
+use Rattle.arith.proofs.Choices.{pick-true, pick-false}
+use Rattle.arith.proofs.Quote.{quotes, ring! }
+use Rattle.arith.proofs.Sums.{sum-ext, abs-weighted}
+use Rattle.arith.specs.Choice.{pick}
+use Rattle.arith.specs.Sum.{sum, total}
+use Rattle.lattice.proofs.Along.{Linear}
+use Rattle.hermite.specs.Hermite.{multiplier, turned, forward, solved, backward}
+use Rattle.hermite.proofs.General.{by-order, graded-sum}
+use Rattle.hermite.proofs.HermiteLaws.{turned-mul, mul-turned, sum-turned, turned-size, forward-low, forward-high}
+
+-- ---- back is linear
+
+-- 1 at k, else 0
+abbrev pub unit : ℕ → ℕ → ℤ
+unit k i = pick (eqb k i) (pos 1) (pos 0)
+
+solved-linear : (m : ℕ) (y : ℕ → ℤ) (o : ℕ) → solved m y o ≡ sum 3 (λ k. solved m (unit k) o *ℤ y k)
+unfolding solved sum pick
+solved-linear m y zero = ring! (y 0 ∷ y 1 ∷ y 2 ∷ []) (search quotes depth 40) (search quotes depth 40) tt
+solved-linear m y (suc zero) = ring! (y 0 ∷ y 1 ∷ y 2 ∷ multiplier m 1 0 ∷ []) (search quotes depth 40) (search quotes depth 40) tt
+solved-linear m y (suc (suc o)) =
+    ring! (y 0 ∷ y 1 ∷ y 2 ∷ multiplier m 1 0 ∷ multiplier m 2 0 ∷ multiplier m 2 1 ∷ []) (search quotes depth 40) (search quotes depth 40 fits 4000) tt
+
+pub backward-parts : (m : ℕ) (c : ℕ → ℤ) (t : ℕ) (low : Bool)
+    → pick low (solved m c t) (turned (t - m) (solved m (λ k. c (2 * m - 1 - k)) (t - m)))
+    ≡ sum 3 (λ k. pick low (solved m (unit k) t) (turned (t - m) (solved m (unit k) (t - m))) *ℤ c (pick low k (2 * m - 1 - k)))
+unfolding pick
+backward-parts m c t true = solved-linear m c t
+backward-parts m c t false =
+    let y : ℕ → ℤ = λ k. c (2 * m - 1 - k) in
+    ap (turned (t - m)) (solved-linear m y (t - m))
+    ∙ sym (sum-turned 3 (t - m) (λ k. solved m (unit k) (t - m) *ℤ y k))
+    ∙ sum-ext 3 (λ k. turned (t - m) (solved m (unit k) (t - m) *ℤ y k)) (λ k. turned (t - m) (solved m (unit k) (t - m)) *ℤ y k) (λ k l. sym (turned-mul (t - m) (solved m (unit k) (t - m)) (y k)))
+
+unfoldable pub backward-linear : (m : ℕ) → Linear (backward m)
+unfolding backward
+backward-linear m = record {
+  width = 3;
+  factor = λ t k. pick (ltb t m) (solved m (unit k) t) (turned (t - m) (solved m (unit k) (t - m)));
+  place = λ t k. pick (ltb t m) k (2 * m - 1 - k);
+  is = λ c t. backward-parts m c t (ltb t m);
+}
+
+-- ---- each end
+
+module _ (m : ℕ) (m2 : 2 ≤ m) (m3 : m ≤ 3) where
+  solved-ext : (x y : ℕ → ℤ) (o : ℕ) → o < m → ((k : ℕ) → k < m → x k ≡ y k) → solved m x o ≡ solved m y o
+  unfolding solved
+  solved-ext x y zero l h = h 0 l
+  solved-ext x y (suc zero) l h = rw (h 0 (omega arith), h 1 l)
+  solved-ext x y (suc (suc o)) l h = rw (h 0 (omega arith), h 1 (omega arith), h 2 (omega arith))
+
+-- twice an end's numbers from its coefficients, and its coefficients from these
+solved-table : (m : ℕ) → 2 ≤ m → m ≤ 3 → (o : ℕ) → o < m → (y : ℕ → ℤ) → solved m (λ k. sum m (λ p. multiplier m k p *ℤ y p)) o ≡ pos 2 *ℤ y o
+unfolding solved sum multiplier
+solved-table = by-order (λ m o. (y : ℕ → ℤ) → solved m (λ k. sum m (λ p. multiplier m k p *ℤ y p)) o ≡ pos 2 *ℤ y o)
+    (λ y. ring! (y 0 ∷ y 1 ∷ []) (search quotes depth 40) (search quotes depth 40) tt)
+    (λ y. ring! (y 0 ∷ y 1 ∷ []) (search quotes depth 40) (search quotes depth 40) tt)
+    (λ y. ring! (y 0 ∷ y 1 ∷ y 2 ∷ []) (search quotes depth 40) (search quotes depth 40) tt)
+    (λ y. ring! (y 0 ∷ y 1 ∷ y 2 ∷ []) (search quotes depth 40) (search quotes depth 40) tt)
+    (λ y. ring! (y 0 ∷ y 1 ∷ y 2 ∷ []) (search quotes depth 40 fits 4000) (search quotes depth 40) tt)
+
+table-solved : (m : ℕ) → 2 ≤ m → m ≤ 3 → (k : ℕ) → k < m → (y : ℕ → ℤ) → sum m (λ o. multiplier m k o *ℤ solved m y o) ≡ pos 2 *ℤ y k
+unfolding solved sum multiplier
+table-solved = by-order (λ m k. (y : ℕ → ℤ) → sum m (λ o. multiplier m k o *ℤ solved m y o) ≡ pos 2 *ℤ y k)
+    (λ y. ring! (y 0 ∷ y 1 ∷ []) (search quotes depth 40) (search quotes depth 40) tt)
+    (λ y. ring! (y 0 ∷ y 1 ∷ []) (search quotes depth 40) (search quotes depth 40) tt)
+    (λ y. ring! (y 0 ∷ y 1 ∷ y 2 ∷ []) (search quotes depth 40) (search quotes depth 40) tt)
+    (λ y. ring! (y 0 ∷ y 1 ∷ y 2 ∷ []) (search quotes depth 40) (search quotes depth 40) tt)
+    (λ y. ring! (y 0 ∷ y 1 ∷ y 2 ∷ []) (search quotes depth 40) (search quotes depth 40) tt)
+
+-- ---- both ends
+
+turned-twice : (o : ℕ) (z : ℤ) → turned o (turned o z) ≡ z
+unfolding turned
+turned-twice zero z = refl
+turned-twice (suc zero) z = negℤ-negℤ z
+turned-twice (suc (suc o)) z = refl
+
+module _ (m : ℕ) (m2 : 2 ≤ m) (m3 : m ≤ 3) where
+  pub backward-low : (c : ℕ → ℤ) (o : ℕ) → o < m → backward m c o ≡ solved m c o
+  unfolding backward
+  backward-low c o l = pick-true (ltb o m) (solved m c o) (turned (o - m) (solved m (λ k. c (2 * m - 1 - k)) (o - m))) (lt-ltb o m l)
+
+  pub backward-high : (c : ℕ → ℤ) (o : ℕ) → backward m c (m + o) ≡ turned o (solved m (λ k. c (2 * m - 1 - k)) o)
+  unfolding backward
+  backward-high c o =
+      pick-false (ltb (m + o) m) (solved m c (m + o)) (turned (m + o - m) (solved m (λ k. c (2 * m - 1 - k)) (m + o - m))) (le-ltb (m + o) m (omega arith))
+      ∙ ap (λ (p : ℕ). turned p (solved m (λ k. c (2 * m - 1 - k)) p)) (omega arith)
+
+  -- what holds of the numbers of both ends, the high coefficients counted from their end, holds of all
+  by-place : (P : ℕ → Type 0) → ((o : ℕ) → o < m → P o) → ((o : ℕ) → o < m → P (m + o)) → (t : ℕ) → t < 2 * m → P t
+  by-place P f g t l = go (decLt t m)
+    where
+      go : Dec (t < m) → P t
+      go (yes h) = f t h
+      go (no h) = subst P (omega arith) (g (t - m) (omega arith))
+
+  by-count : (P : ℕ → Type 0) → ((k : ℕ) → k < m → P k) → ((k : ℕ) → k < m → P (2 * m - 1 - k)) → (i : ℕ) → i < 2 * m → P i
+  by-count P f g i l = go (decLt i m)
+    where
+      go : Dec (i < m) → P i
+      go (yes h) = f i h
+      go (no h) = subst P (omega arith) (g (2 * m - 1 - i) (omega arith))
+
+  -- back of the coefficients is twice the numbers
+  pub back-forth : (x : ℕ → ℤ) (t : ℕ) → t < 2 * m → backward m (forward m 0 x) t ≡ pos 2 *ℤ x t
+  back-forth x = by-place (λ t. backward m (forward m 0 x) t ≡ pos 2 *ℤ x t)
+      (λ o l. backward-low (forward m 0 x) o l
+      ∙ solved-ext m m2 m3 (forward m 0 x) (λ k. sum m (λ p. multiplier m k p *ℤ x (m * 0 + p))) o l (λ k p. forward-low m 0 m2 m3 x k p)
+      ∙ solved-table m m2 m3 o l (λ p. x (m * 0 + p)) ∙ ap (λ (i : ℕ). pos 2 *ℤ x i) (omega arith))
+      (λ o l. backward-high (forward m 0 x) o
+      ∙ ap (turned o) (solved-ext m m2 m3 (λ k. forward m 0 x (2 * m - 1 - k)) (λ k. sum m (λ p. multiplier m k p *ℤ turned p (x (m * 0 + (m + p))))) o l (λ k p. forward-high m 0 m2 m3 x k p)
+      ∙ solved-table m m2 m3 o l (λ p. turned p (x (m * 0 + (m + p)))) ∙ mul-turned o (pos 2) (x (m * 0 + (m + o))))
+      ∙ turned-twice o (pos 2 *ℤ x (m * 0 + (m + o))) ∙ ap (λ (i : ℕ). pos 2 *ℤ x i) (omega arith))
+
+  -- the coefficients of what back gives are twice the coefficients
+  pub forth-back : (c : ℕ → ℤ) (i : ℕ) → i < 2 * m → forward m 0 (backward m c) i ≡ pos 2 *ℤ c i
+  forth-back c = by-count (λ i. forward m 0 (backward m c) i ≡ pos 2 *ℤ c i)
+      (λ k l. forward-low m 0 m2 m3 (backward m c) k l
+      ∙ sum-ext m (λ o. multiplier m k o *ℤ backward m c (m * 0 + o)) (λ o. multiplier m k o *ℤ solved m c o)
+      (λ o p. ap (λ z. multiplier m k o *ℤ z) (ap (backward m c) (omega arith) ∙ backward-low c o p)) ∙ table-solved m m2 m3 k l c)
+      (λ k l. forward-high m 0 m2 m3 (backward m c) k l
+      ∙ sum-ext m (λ o. multiplier m k o *ℤ turned o (backward m c (m * 0 + (m + o)))) (λ o. multiplier m k o *ℤ solved m (λ j. c (2 * m - 1 - j)) o)
+      (λ o p. ap (λ z. multiplier m k o *ℤ z) (ap (turned o) (ap (backward m c) (omega arith) ∙ backward-high c o) ∙ turned-twice o (solved m (λ j. c (2 * m - 1 - j)) o)))
+      ∙ table-solved m m2 m3 k l (λ j. c (2 * m - 1 - j)))
+
+-- ---- sizes
+
+row-total : (m : ℕ) → 2 ≤ m → m ≤ 3 → (k : ℕ) → k < m → total m (λ o. natAbs (multiplier m k o) * 2 ^ o) ≤ 32
+unfolding total multiplier
+row-total = by-order (λ m k. total m (λ o. natAbs (multiplier m k o) * 2 ^ o) ≤ 32) (lit≤ tt) (lit≤ tt) (lit≤ tt) (lit≤ tt) (lit≤ tt)
+
+solved-total : (m : ℕ) → 2 ≤ m → m ≤ 3 → (o : ℕ) → o < m → total 3 (λ k. natAbs (solved m (unit k) o)) ≤ 32
+unfolding total multiplier solved pick
+solved-total = by-order (λ m o. total 3 (λ k. natAbs (solved m (unit k) o)) ≤ 32) (lit≤ tt) (lit≤ tt) (lit≤ tt) (lit≤ tt) (lit≤ tt)
+
+module _ (m : ℕ) (m2 : 2 ≤ m) (m3 : m ≤ 3) (B : ℕ) where
+  -- numbers within B, doubled with each order, have coefficients within 32 B
+  pub forward-size : (c : ℕ) (x : ℕ → ℤ) → ((t : ℕ) → t < 2 * m → natAbs (x (m * c + t)) ≤ B * 2 ^ (t % m)) → (i : ℕ) → i < 2 * m → natAbs (forward m c x i) ≤ 32 * B
+  forward-size c x h =
+      by-count m m2 m3 (λ i. natAbs (forward m c x i) ≤ 32 * B)
+      (λ k l. le-trans (le-of-eq (ap natAbs (forward-low m c m2 m3 x k l))) (end (λ o. x (m * c + o)) (λ o p. subst (λ (i : ℕ). natAbs (x (m * c + o)) ≤ B * 2 ^ i) (mod-eq-of-lt p) (h o (omega arith))) k l))
+      (λ k l. le-trans (le-of-eq (ap natAbs (forward-high m c m2 m3 x k l)))
+      (end (λ o. turned o (x (m * c + (m + o)))) (λ o p. le-trans (le-of-eq (turned-size o (x (m * c + (m + o))))) (subst (λ (i : ℕ). natAbs (x (m * c + (m + o))) ≤ B * 2 ^ i) (high o p) (h (m + o) (omega arith)))) k l))
+    where
+      end : (y : ℕ → ℤ) → ((o : ℕ) → o < m → natAbs (y o) ≤ B * 2 ^ o) → (k : ℕ) → k < m → natAbs (sum m (λ o. multiplier m k o *ℤ y o)) ≤ 32 * B
+      end y h k l = le-trans (graded-sum m (multiplier m k) y (λ o. 2 ^ o) B h) (mul-le-mul-right B (row-total m m2 m3 k l))
+
+      high : (o : ℕ) → o < m → (m + o) % m ≡ o
+      high o p = add-mod-left m o ∙ mod-eq-of-lt p
+
+  -- coefficients within B have doubled numbers within 32 B
+  pub backward-size : (c : ℕ → ℤ) → ((i : ℕ) → i < 2 * m → natAbs (c i) ≤ B) → (t : ℕ) → t < 2 * m → natAbs (backward m c t) ≤ 32 * B
+  backward-size c h =
+      by-place m m2 m3 (λ t. natAbs (backward m c t) ≤ 32 * B)
+      (λ o l. le-trans (le-of-eq (ap natAbs (backward-low m m2 m3 c o l))) (end c (λ k p. h k (omega arith)) o l))
+      (λ o l. le-trans (le-of-eq (ap natAbs (backward-high m m2 m3 c o) ∙ turned-size o (solved m (λ k. c (2 * m - 1 - k)) o))) (end (λ k. c (2 * m - 1 - k)) (λ k p. h (2 * m - 1 - k) (omega arith)) o l))
+    where
+      end : (y : ℕ → ℤ) → ((k : ℕ) → k < 3 → natAbs (y k) ≤ B) → (o : ℕ) → o < m → natAbs (solved m y o) ≤ 32 * B
+      end y h o l = le-trans (le-of-eq (ap natAbs (solved-linear m y o))) (le-trans (abs-weighted 3 (λ k. solved m (unit k) o) y B h) (mul-le-mul-right B (solved-total m m2 m3 o l)))

@@ -1,0 +1,89 @@
+-- One axis: the multiplier table, coefficients and back, weights, a stage. m is 2 for degree 3 and 3 for degree 5, so the degree is 2m − 1.
+-- Along an axis, order o at node i stands at place m·i + o; the 2m numbers of a cell are numbered t = m·end + order. N is the number of steps of a cell.
+use Prim.Native.Nat.{ℕ, zero, suc, _+_, _*_, _-_, _^_}
+use mathlib.Core.Bool.{Bool, true, false}
+use mathlib.Core.List.{List, [], _∷_}
+use lib.Dec.{ltb}
+use lib.ListN.{getD}
+use lib.IntN.{ℤ, pos, negℤ, _+ℤ_, _-ℤ_, _*ℤ_}
+use Rattle.arith.specs.Int.{_^ℤ_}
+use Rattle.arith.specs.Sum.{sum}
+use Rattle.arith.specs.Choice.{pick}
+use Rattle.lattice.specs.Axes.{Rule}
+
+-- ---- the table of document 01
+
+-- the multipliers by order: of the first m coefficients of degree 3, then of degree 5
+abbrev pub rows : List (List ℤ)
+rows =
+    (pos 2 ∷ pos 0 ∷ pos 0 ∷ [])
+    ∷ (pos 6 ∷ pos 1 ∷ pos 0 ∷ [])
+    ∷ (pos 0 ∷ pos 0 ∷ pos 0 ∷ [])
+    ∷ (pos 2 ∷ pos 0 ∷ pos 0 ∷ [])
+    ∷ (pos 10 ∷ pos 1 ∷ pos 0 ∷ [])
+    ∷ (pos 20 ∷ pos 4 ∷ pos 1 ∷ [])
+    ∷ []
+
+-- what coefficient k, counted from an end, takes of that end's number of order o
+unfoldable pub multiplier : ℕ → ℕ → ℕ → ℤ
+multiplier m k o = getD (getD rows (3 * (m - 2) + k) []) o (pos 0)
+
+-- a number of order o at the high end: order 1 is subtracted
+unfoldable pub turned : ℕ → ℤ → ℤ
+turned zero z = z
+turned (suc zero) z = negℤ z
+turned (suc (suc o)) z = z
+
+-- what coefficient i takes of number t: a low coefficient of the low end, a high one of the high end
+unfoldable pub share : ℕ → ℕ → ℕ → ℤ
+share m i t =
+    pick (ltb i m) (pick (ltb t m) (multiplier m i t) (pos 0))
+    (pick (ltb t m) (pos 0) (turned (t - m) (multiplier m (2 * m - 1 - i) (t - m))))
+
+-- ---- coefficients, and back
+
+-- doubled coefficient i of cell c
+unfoldable pub forward : ℕ → ℕ → Rule
+forward m c x i = sum (2 * m) (λ t. share m i t *ℤ x (m * c + t))
+
+-- twice an end's number of order o, from the coefficients counted from that end
+unfoldable pub solved : ℕ → (ℕ → ℤ) → ℕ → ℤ
+solved m y zero = y 0
+solved m y (suc zero) = pos 2 *ℤ y 1 -ℤ multiplier m 1 0 *ℤ y 0
+solved m y (suc (suc o)) = pos 2 *ℤ y 2 -ℤ multiplier m 2 0 *ℤ y 0 -ℤ multiplier m 2 1 *ℤ (pos 2 *ℤ y 1 -ℤ multiplier m 1 0 *ℤ y 0)
+
+-- twice number t of a cell, from its doubled coefficients
+unfoldable pub backward : ℕ → Rule
+backward m c t = pick (ltb t m) (solved m c t) (turned (t - m) (solved m (λ k. c (2 * m - 1 - k)) (t - m)))
+
+-- ---- weights and stages
+
+-- of a dose or, along its axis, of a slope
+pub data Kind : Type 0 where
+  value : Kind
+  slope : Kind
+
+-- a slope where the flag is set
+unfoldable pub kindOf : Bool → Kind
+kindOf true = slope
+kindOf false = value
+
+-- weight i, where a = N − u and b = u; for a slope its derivative
+unfoldable pub weight : Kind → ℤ → ℤ → ℕ → ℕ → ℤ
+weight value a b d i = a ^ℤ (d - i) *ℤ b ^ℤ i
+weight slope a b d i = pos i *ℤ (a ^ℤ (d - i) *ℤ b ^ℤ (i - 1)) -ℤ pos (d - i) *ℤ (a ^ℤ (d - i - 1) *ℤ b ^ℤ i)
+
+unfoldable pub weightAt : Kind → ℕ → ℕ → ℕ → ℕ → ℤ
+weightAt k m N u i = weight k (pos (N - u)) (pos u) (2 * m - 1) i
+
+unfoldable pub divisor : Kind → ℕ → ℕ → ℕ
+divisor value m N = 2 * N ^ (2 * m - 1)
+divisor slope m N = 2 * N ^ (2 * m - 2)
+
+-- the numbers of cell c by the table, summed with the weights of step u, not yet divided
+unfoldable pub stageSum : Kind → ℕ → ℕ → ℕ → ℕ → Rule
+stageSum k m N c u x j = sum (2 * m) (λ i. forward m c x i *ℤ weightAt k m N u i)
+
+-- what a stage takes of number t: the table folded into the weights
+unfoldable pub basis : Kind → ℕ → ℕ → ℕ → ℕ → ℤ
+basis k m N u t = sum (2 * m) (λ i. share m i t *ℤ weightAt k m N u i)

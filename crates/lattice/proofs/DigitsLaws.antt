@@ -1,0 +1,66 @@
+-- The digits of a number are those that it was made of.
+use mathlib.Core.Path.{_≡_, sym, ap, _∙_}
+use Prim.Native.Nat.{ℕ, zero, suc, _+_, _*_, _/_, _%_, _^_, _≤_, _<_}
+use native.Mathlib.Nat.{zero-mod, zero-div, mod-lt, mod-eq-of-lt, div-eq-of-lt, add-mul-mod-self-left, add-mul-div-left, mul-le-mul-left, pow-zero, pow-succ', zero-add, zero-lt-suc, not-suc-le-zero, div-lt-iff-lt-mul, mod-add-div}
+use native.Mathlib.Omega.{arith}
+use Rattle.lattice.specs.Digits.{number, span, digit}
+
+digit-none : (radix : ℕ → ℕ) (a : ℕ) → digit radix 0 a ≡ 0
+unfolding digit
+digit-none radix zero = zero-mod (radix 0)
+digit-none radix (suc a) = ap (λ (v : ℕ). digit (λ b. radix (suc b)) v a) (zero-div (radix 0)) ∙ digit-none (λ b. radix (suc b)) a
+
+some : {a b : ℕ} → a < b → 0 < b
+some h = omega arith
+
+pub digit-number : (n : ℕ) (radix p : ℕ → ℕ) → ((a : ℕ) → a < n → p a < radix a) → ((a : ℕ) → n ≤ a → p a ≡ 0) → (a : ℕ) → digit radix (number n radix p) a ≡ p a
+unfolding digit number
+digit-number zero radix p h k a = digit-none radix a ∙ sym (k a (omega arith))
+digit-number (suc n) radix p h k zero =
+    let z : p 0 < radix 0 = h 0 (omega arith) in
+    add-mul-mod-self-left (p 0) (radix 0) (number n (λ a. radix (suc a)) (λ a. p (suc a))) ∙ mod-eq-of-lt z
+digit-number (suc n) radix p h k (suc a) =
+    let z : p 0 < radix 0 = h 0 (omega arith) in
+    ap (λ (v : ℕ). digit (λ b. radix (suc b)) v a)
+    (add-mul-div-left (p 0) (number n (λ a. radix (suc a)) (λ a. p (suc a))) (some z) ∙ ap (λ (v : ℕ). v + number n (λ a. radix (suc a)) (λ a. p (suc a))) (div-eq-of-lt z) ∙ zero-add (number n (λ a. radix (suc a)) (λ a. p (suc a))))
+    ∙ digit-number n (λ b. radix (suc b)) (λ b. p (suc b)) (λ b l. h (suc b) (omega arith)) (λ b l. k (suc b) (omega arith)) a
+
+pub digit-below : (radix : ℕ → ℕ) (v a : ℕ) → 0 < radix a → digit radix v a < radix a
+unfolding digit
+digit-below radix v zero h = mod-lt v h
+digit-below radix v (suc a) h = digit-below (λ b. radix (suc b)) (v / radix 0) a h
+
+pub number-below : (n : ℕ) (radix p : ℕ → ℕ) → ((a : ℕ) → a < n → p a < radix a) → number n radix p < span n radix
+unfolding number span
+number-below zero radix p h = omega arith
+number-below (suc n) radix p h =
+    let z : p 0 < radix 0 = h 0 (omega arith) in
+    let y = mul-le-mul-left (radix 0) (number-below n (λ a. radix (suc a)) (λ a. p (suc a)) (λ a l. h (suc a) (omega arith))) in
+    omega arith
+
+pub span-power : (m n : ℕ) → span n (λ b. m) ≡ m ^ n
+unfolding span
+span-power m zero = sym (pow-zero m)
+span-power m (suc n) = ap (λ (k : ℕ). m * k) (span-power m n) ∙ sym (pow-succ' m n)
+
+-- a number below the span is made of its digits, and has no others
+rest-below : (v r k : ℕ) → v < r * k → (0 < r) × (v / r < k)
+rest-below v zero k h = absurd (none h)
+  where
+    none : v < 0 * k → ⊥
+    none h = omega arith
+rest-below v (suc r) k h = (omega arith, div-lt-iff-lt-mul (zero-lt-suc r) .1 (omega arith))
+
+pub number-digit : (n : ℕ) (radix : ℕ → ℕ) (v : ℕ) → v < span n radix → number n radix (digit radix v) ≡ v
+unfolding number digit span
+number-digit zero radix v h = omega arith
+number-digit (suc n) radix v h =
+    let k = rest-below v (radix 0) (span n (λ a. radix (suc a))) h in
+    ap (λ (i : ℕ). v % radix 0 + radix 0 * i) (number-digit n (λ a. radix (suc a)) (v / radix 0) (k .1)) ∙ mod-add-div v (radix 0)
+
+pub digit-beyond : (n : ℕ) (radix : ℕ → ℕ) (v : ℕ) → v < span n radix → (a : ℕ) → n ≤ a → digit radix v a ≡ 0
+unfolding digit span
+digit-beyond zero radix v h a l = ap (λ (i : ℕ). digit radix i a) (let e : v ≡ 0 = omega arith in e) ∙ digit-none radix a
+digit-beyond (suc n) radix v h zero l = absurd (not-suc-le-zero l)
+digit-beyond (suc n) radix v h (suc a) l =
+    digit-beyond n (λ b. radix (suc b)) (v / radix 0) (rest-below v (radix 0) (span n (λ b. radix (suc b))) h .1) a (omega arith)

@@ -1,0 +1,9 @@
+-- Laws of the definitions, for the crates above.
+pub mod OutcomeLaws
+pub mod BufferLaws
+pub mod DigitsLaws
+pub mod ShapeLaws
+pub mod Along
+pub mod Local
+pub mod PassLaws
+pub mod RecordsLaws

@@ -1,0 +1,24 @@
+use Rattle.lattice.specs.Shape.{size}
+use Rattle.lattice.proofs.ShapeLaws.{size-high}
+use native.Mathlib.Omega.{arith}
+use borrow.Author.Needs.{needs}
+use Rattle.lattice.proofs.table_entries.Statement.{statement}
+use Rattle.lattice.proofs.table_entries.Tie as tie
+
+node-count-requires : tie.Need-node-count-requires
+node-count-requires c κs = search needs
+
+record-entries-requires : tie.Need-record-entries-requires
+record-entries-requires c κs = search needs
+
+mul-result : tie.Need-mul-result
+unfolding size
+mul-result c = rw (c .before .node-count .ensures, c .record-entries .ensures) (omega (arith, size-high (c .before .before .args .s) (c .before .before .pre)))
+
+returns : tie.Need-returns
+unfolding size
+returns c = cc
+
+pub table-entries-spec : {M : Type 1} → statement M
+table-entries-spec =
+    tie.close (tie.spec node-count-requires record-entries-requires mul-result returns)

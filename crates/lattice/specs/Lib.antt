@@ -1,0 +1,9 @@
+-- Reading order: Outcome, Answer, Buffer, Digits, Shape, Axes, Records, Flat.
+pub mod Outcome
+pub mod Answer
+pub mod Buffer
+pub mod Digits
+pub mod Shape
+pub mod Axes
+pub mod Records
+pub mod Flat
