@@ -5,7 +5,6 @@ use mathlib.Core.List.{[], _∷_}
 use Prim.Native.Nat.{ℕ, zero, suc, _+_, _*_, _-_, _%_, _^_, _≤_, _<_}
 use native.Mathlib.Nat.{le-trans, le-of-eq, mul-le-mul-right, mod-eq-of-lt, add-mod-left}
 use native.Mathlib.Omega.{arith}
-use native.Mathlib.Decide.{decLt}
 use borrow.Author.Tests.{lt-ltb, le-ltb}
 use lib.Dec.{ltb, eqb, lit≤}
 use lib.IntN.{ℤ, pos, _*ℤ_, natAbs, negℤ-negℤ}
@@ -16,7 +15,7 @@ use Rattle.arith.specs.Choice.{pick}
 use Rattle.arith.specs.Sum.{sum, total}
 use Rattle.lattice.proofs.Along.{Linear}
 use Rattle.hermite.specs.Hermite.{multiplier, turned, forward, solved, backward}
-use Rattle.hermite.proofs.General.{by-order, graded-sum}
+use Rattle.hermite.proofs.General.{by-order, by-place, by-count, graded-sum}
 use Rattle.hermite.proofs.HermiteLaws.{turned-mul, mul-turned, sum-turned, turned-size, forward-low, forward-high}
 
 -- ---- back is linear
@@ -99,24 +98,9 @@ module _ (m : ℕ) (m2 : 2 ≤ m) (m3 : m ≤ 3) where
       pick-false (ltb (m + o) m) (solved m c (m + o)) (turned (m + o - m) (solved m (λ k. c (2 * m - 1 - k)) (m + o - m))) (le-ltb (m + o) m (omega arith))
       ∙ ap (λ (p : ℕ). turned p (solved m (λ k. c (2 * m - 1 - k)) p)) (omega arith)
 
-  -- what holds of the numbers of both ends, the high coefficients counted from their end, holds of all
-  by-place : (P : ℕ → Type 0) → ((o : ℕ) → o < m → P o) → ((o : ℕ) → o < m → P (m + o)) → (t : ℕ) → t < 2 * m → P t
-  by-place P f g t l = go (decLt t m)
-    where
-      go : Dec (t < m) → P t
-      go (yes h) = f t h
-      go (no h) = subst P (omega arith) (g (t - m) (omega arith))
-
-  by-count : (P : ℕ → Type 0) → ((k : ℕ) → k < m → P k) → ((k : ℕ) → k < m → P (2 * m - 1 - k)) → (i : ℕ) → i < 2 * m → P i
-  by-count P f g i l = go (decLt i m)
-    where
-      go : Dec (i < m) → P i
-      go (yes h) = f i h
-      go (no h) = subst P (omega arith) (g (2 * m - 1 - i) (omega arith))
-
   -- back of the coefficients is twice the numbers
   pub back-forth : (x : ℕ → ℤ) (t : ℕ) → t < 2 * m → backward m (forward m 0 x) t ≡ pos 2 *ℤ x t
-  back-forth x = by-place (λ t. backward m (forward m 0 x) t ≡ pos 2 *ℤ x t)
+  back-forth x = by-place m (λ t. backward m (forward m 0 x) t ≡ pos 2 *ℤ x t)
       (λ o l. backward-low (forward m 0 x) o l
       ∙ solved-ext m m2 m3 (forward m 0 x) (λ k. sum m (λ p. multiplier m k p *ℤ x (m * 0 + p))) o l (λ k p. forward-low m 0 m2 m3 x k p)
       ∙ solved-table m m2 m3 o l (λ p. x (m * 0 + p)) ∙ ap (λ (i : ℕ). pos 2 *ℤ x i) (omega arith))
@@ -127,7 +111,7 @@ module _ (m : ℕ) (m2 : 2 ≤ m) (m3 : m ≤ 3) where
 
   -- the coefficients of what back gives are twice the coefficients
   pub forth-back : (c : ℕ → ℤ) (i : ℕ) → i < 2 * m → forward m 0 (backward m c) i ≡ pos 2 *ℤ c i
-  forth-back c = by-count (λ i. forward m 0 (backward m c) i ≡ pos 2 *ℤ c i)
+  forth-back c = by-count m (λ i. forward m 0 (backward m c) i ≡ pos 2 *ℤ c i)
       (λ k l. forward-low m 0 m2 m3 (backward m c) k l
       ∙ sum-ext m (λ o. multiplier m k o *ℤ backward m c (m * 0 + o)) (λ o. multiplier m k o *ℤ solved m c o)
       (λ o p. ap (λ z. multiplier m k o *ℤ z) (ap (backward m c) (omega arith) ∙ backward-low c o p)) ∙ table-solved m m2 m3 k l c)
@@ -150,7 +134,7 @@ module _ (m : ℕ) (m2 : 2 ≤ m) (m3 : m ≤ 3) (B : ℕ) where
   -- numbers within B, doubled with each order, have coefficients within 32 B
   pub forward-size : (c : ℕ) (x : ℕ → ℤ) → ((t : ℕ) → t < 2 * m → natAbs (x (m * c + t)) ≤ B * 2 ^ (t % m)) → (i : ℕ) → i < 2 * m → natAbs (forward m c x i) ≤ 32 * B
   forward-size c x h =
-      by-count m m2 m3 (λ i. natAbs (forward m c x i) ≤ 32 * B)
+      by-count m (λ i. natAbs (forward m c x i) ≤ 32 * B)
       (λ k l. le-trans (le-of-eq (ap natAbs (forward-low m c m2 m3 x k l))) (end (λ o. x (m * c + o)) (λ o p. subst (λ (i : ℕ). natAbs (x (m * c + o)) ≤ B * 2 ^ i) (mod-eq-of-lt p) (h o (omega arith))) k l))
       (λ k l. le-trans (le-of-eq (ap natAbs (forward-high m c m2 m3 x k l)))
       (end (λ o. turned o (x (m * c + (m + o)))) (λ o p. le-trans (le-of-eq (turned-size o (x (m * c + (m + o))))) (subst (λ (i : ℕ). natAbs (x (m * c + (m + o))) ≤ B * 2 ^ i) (high o p) (h (m + o) (omega arith)))) k l))
@@ -164,7 +148,7 @@ module _ (m : ℕ) (m2 : 2 ≤ m) (m3 : m ≤ 3) (B : ℕ) where
   -- coefficients within B have doubled numbers within 32 B
   pub backward-size : (c : ℕ → ℤ) → ((i : ℕ) → i < 2 * m → natAbs (c i) ≤ B) → (t : ℕ) → t < 2 * m → natAbs (backward m c t) ≤ 32 * B
   backward-size c h =
-      by-place m m2 m3 (λ t. natAbs (backward m c t) ≤ 32 * B)
+      by-place m (λ t. natAbs (backward m c t) ≤ 32 * B)
       (λ o l. le-trans (le-of-eq (ap natAbs (backward-low m m2 m3 c o l))) (end c (λ k p. h k (omega arith)) o l))
       (λ o l. le-trans (le-of-eq (ap natAbs (backward-high m m2 m3 c o) ∙ turned-size o (solved m (λ k. c (2 * m - 1 - k)) o))) (end (λ k. c (2 * m - 1 - k)) (λ k p. h (2 * m - 1 - k) (omega arith)) o l))
     where

@@ -116,7 +116,7 @@ module _ (k : Kind) (m : ℕ) (m2 : 2 ≤ m) (m3 : m ≤ 3) (o : ℕ) (l : o < m
       ∙ sum-zero m (λ j. row k m j o *ℤ (pos 0 ^ℤ (top k m - j) *ℤ b ^ℤ j))
       (λ j p. ap (λ z. row k m j o *ℤ (z *ℤ b ^ℤ j)) (zero-power (top k m - j) (power-left k m j m2 p)) ∙ ap (λ z. row k m j o *ℤ z) (zero-*ℤ (b ^ℤ j)) ∙ *ℤ-zero (row k m j o))
 
-nothing-turned : (k : Kind) (o : ℕ) → turned o (facing k (pos 0)) ≡ pos 0
+pub nothing-turned : (k : Kind) (o : ℕ) → turned o (facing k (pos 0)) ≡ pos 0
 unfolding turned facing
 nothing-turned value zero = refl
 nothing-turned value (suc zero) = refl
@@ -128,7 +128,7 @@ nothing-turned slope (suc (suc o)) = refl
 -- ---- a stage at the ends
 
 -- by the two ends' parts
-by-ends : (k : Kind) (m N c u : ℕ) → 2 ≤ m → m ≤ 3 → (x : ℕ → ℤ) (j : ℕ)
+pub by-ends : (k : Kind) (m N c u : ℕ) → 2 ≤ m → m ≤ 3 → (x : ℕ → ℤ) (j : ℕ)
     → stageSum k m N c u x j ≡ sum m (λ o. basis k m N u o *ℤ x (m * c + o)) +ℤ sum m (λ o. basis k m N u (m + o) *ℤ x (m * c + (m + o)))
 unfolding stage-linear
 by-ends k m N c u m2 m3 x j = stage-linear k m N c u .is x j ∙ sum-ends m m2 m3 (λ t. basis k m N u t *ℤ x (m * c + t))

@@ -1,9 +1,11 @@
 -- Finite sums cut in two, sums of nothing, sizes of sums by bounds that grow, and facts of 0, 1 and 2 by cases.
-use mathlib.Core.Path.{_≡_, refl, sym, ap, ap₂, _∙_}
+use mathlib.Core.Path.{_≡_, refl, sym, ap, ap₂, subst, _∙_}
 use mathlib.Core.List.{[], _∷_}
 use Prim.Native.Nat.{ℕ, zero, suc, _+_, _*_, _-_, _≤_, _<_}
 use native.Mathlib.Nat.{not-suc-le-zero, le-trans, le-of-eq, mul-le-mul-left}
 use native.Mathlib.Omega.{arith}
+use native.Mathlib.Decide.{decLt}
+use lib.Dec.{lit≤}
 use lib.IntN.{ℤ, pos, negℤ, _+ℤ_, _*ℤ_, natAbs, +ℤ-idl, +ℤ-idr, negℤ-+ℤ}
 use Rattle.arith.proofs.Abs.{abs-mul}
 use Rattle.arith.proofs.Choices.{by-m}
@@ -32,6 +34,22 @@ by-order P p q r s t = by-m (λ m. (o : ℕ) → o < m → P m o) two (by-3 (P 3
       where
         none : (k : ℕ) → suc (suc k) < 2 → ⊥
         none k l = omega arith
+
+-- of the numbers of both ends, and of the coefficients, the high ones counted from their end
+module _ (m : ℕ) where
+  pub by-place : (P : ℕ → Type 0) → ((o : ℕ) → o < m → P o) → ((o : ℕ) → o < m → P (m + o)) → (t : ℕ) → t < 2 * m → P t
+  by-place P f g t l = go (decLt t m)
+    where
+      go : Dec (t < m) → P t
+      go (yes h) = f t h
+      go (no h) = subst P (omega arith) (g (t - m) (omega arith))
+
+  pub by-count : (P : ℕ → Type 0) → ((k : ℕ) → k < m → P k) → ((k : ℕ) → k < m → P (2 * m - 1 - k)) → (i : ℕ) → i < 2 * m → P i
+  by-count P f g i l = go (decLt i m)
+    where
+      go : Dec (i < m) → P i
+      go (yes h) = f i h
+      go (no h) = subst P (omega arith) (g (2 * m - 1 - i) (omega arith))
 
 -- ---- sums
 
@@ -71,6 +89,18 @@ module _ (m : ℕ) (m2 : 2 ≤ m) (m3 : m ≤ 3) where
   pub total-ends : (f : ℕ → ℕ) → total (2 * m) f ≡ total m f + total m (λ o. f (m + o))
   unfolding total
   total-ends = by-m (λ m. (f : ℕ → ℕ) → total (2 * m) f ≡ total m f + total m (λ o. f (m + o))) (λ f. omega arith) (λ f. omega arith) m m2 m3
+
+-- three numbers of which there are m, the others nothing
+module _ (m : ℕ) (m2 : 2 ≤ m) (m3 : m ≤ 3) where
+  pub sum-three : (f : ℕ → ℤ) → ((o : ℕ) → m ≤ o → o < 3 → f o ≡ pos 0) → sum 3 f ≡ sum m f
+  unfolding sum
+  sum-three = by-m (λ m. (f : ℕ → ℤ) → ((o : ℕ) → m ≤ o → o < 3 → f o ≡ pos 0) → sum 3 f ≡ sum m f)
+      (λ f h. ap (λ z. sum 2 f +ℤ z) (h 2 (lit≤ tt) (lit≤ tt)) ∙ +ℤ-idr (sum 2 f)) (λ f h. refl) m m2 m3
+
+  pub total-three : (f : ℕ → ℕ) → ((o : ℕ) → m ≤ o → o < 3 → f o ≡ 0) → total 3 f ≡ total m f
+  unfolding total
+  total-three = by-m (λ m. (f : ℕ → ℕ) → ((o : ℕ) → m ≤ o → o < 3 → f o ≡ 0) → total 3 f ≡ total m f)
+      (λ f h. let e = h 2 (lit≤ tt) (lit≤ tt) in omega arith) (λ f h. refl) m m2 m3
 
 -- ---- numbers within B times a measure of their own, each times its factor
 module _ (n : ℕ) (k x : ℕ → ℤ) (g : ℕ → ℕ) (B : ℕ) (h : (i : ℕ) → i < n → natAbs (x i) ≤ B * g i) where

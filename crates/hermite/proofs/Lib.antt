@@ -3,3 +3,9 @@ pub mod General
 pub mod HermiteLaws
 pub mod Ends
 pub mod BackLaws
+pub mod Reach
+pub mod Sizes
+pub mod DotLaws
+pub mod StageLaws
+pub mod WeightLaws
+pub mod BasisLaws

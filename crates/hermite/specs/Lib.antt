@@ -1,1 +1,2 @@
 pub mod Hermite
+pub mod Stage

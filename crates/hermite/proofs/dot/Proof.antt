@@ -1,0 +1,70 @@
+-- `hermite::dot` meets its contract: the sizes of the products sum to less than 2^63, so each product and each shorter sum fits.
+use lib.Dec.{lit<}
+use Rattle.lattice.specs.Buffer.{at}
+use Rattle.hermite.proofs.DotLaws.{one-fits, two-fits, three-fits, whole}
+use borrow.Author.Needs.{needs}
+use Rattle.hermite.proofs.dot.Statement.{statement}
+use Rattle.hermite.proofs.dot.Tie as tie
+
+array-copy-out-result : tie.Need-array-copy-out-result
+array-copy-out-result c = search needs
+
+array-copy-out-result-2 : tie.Need-array-copy-out-result-2
+array-copy-out-result-2 c = search needs
+
+mul-result : tie.Need-mul-result
+mul-result c = one-fits (at (c .before .before .args .t1)) (at (c .before .before .args .t2)) (c .before .before .pre) 0 (lit< tt) (c .before .result .given) (c .result2 .given)
+
+array-copy-out-result-3 : tie.Need-array-copy-out-result-3
+array-copy-out-result-3 c = search needs
+
+array-copy-out-result-4 : tie.Need-array-copy-out-result-4
+array-copy-out-result-4 c = search needs
+
+mul-result-2 : tie.Need-mul-result-2
+mul-result-2 c =
+    let p = c .before .before .before .before in
+    one-fits (at (p .args .t1)) (at (p .args .t2)) (p .pre) 1 (lit< tt) (c .before .result3 .given) (c .result4 .given)
+
+add-result : tie.Need-add-result
+add-result c =
+    let p = c .before .before .before .before in
+    two-fits (at (p .args .t1)) (at (p .args .t2)) (p .pre) (c .before .before .before .result .given) (c .before .before .result2 .given) (c .before .result3 .given) (c .result4 .given)
+
+array-copy-out-result-5 : tie.Need-array-copy-out-result-5
+array-copy-out-result-5 c = search needs
+
+array-copy-out-result-6 : tie.Need-array-copy-out-result-6
+array-copy-out-result-6 c = search needs
+
+mul-result-3 : tie.Need-mul-result-3
+mul-result-3 c =
+    let p = c .before .before .before .before .before .before in
+    one-fits (at (p .args .t1)) (at (p .args .t2)) (p .pre) 2 (lit< tt) (c .before .result5 .given) (c .result6 .given)
+
+add-result-2 : tie.Need-add-result-2
+add-result-2 c =
+    let p = c .before .before .before .before .before .before in
+    three-fits (at (p .args .t1)) (at (p .args .t2)) (p .pre) (c .before .before .before .before .before .result .given) (c .before .before .before .before .result2 .given) (c .before .before .before .result3 .given) (c .before .before .result4 .given) (c .before .result5 .given) (c .result6 .given)
+
+returns : tie.Need-returns
+returns c =
+    let p = c .before .before .before .before .before .before in
+    whole (at (p .args .t1)) (at (p .args .t2)) (p .pre) (c .before .before .before .before .before .result .given) (c .before .before .before .before .result2 .given) (c .before .before .before .result3 .given) (c .before .before .result4 .given) (c .before .result5 .given) (c .result6 .given)
+
+pub dot-spec : {M : Type 1} → statement M
+dot-spec =
+    tie.close
+    (tie.spec
+    array-copy-out-result
+    array-copy-out-result-2
+    mul-result
+    array-copy-out-result-3
+    array-copy-out-result-4
+    mul-result-2
+    add-result
+    array-copy-out-result-5
+    array-copy-out-result-6
+    mul-result-3
+    add-result-2
+    returns)

@@ -1,0 +1,71 @@
+-- `hermite::mirrored` meets its contract, by the two cases of the flag.
+use lib.Dec.{T, ltb, lit<}
+use Rattle.arith.proofs.Machine.{Size, sizes, fits?, value?}
+use Rattle.lattice.specs.Buffer.{at}
+use Rattle.hermite.proofs.DotLaws.{element}
+use Rattle.hermite.proofs.BasisLaws.{mirror-slope, mirror-value}
+use Prim.Native.Nat.{ℕ, _^_}
+use native.Mathlib.Omega.{arith}
+use mir.Syntax.{w64}
+use mir.Val.{toZ, ofZ}
+use borrow.Author.Needs.{needs}
+use Rattle.hermite.proofs.mirrored.Statement.{statement}
+use Rattle.hermite.proofs.mirrored.Tie as tie
+
+abbrev k-x : (c : tie.Start) (i : ℕ) → T (ltb i 3) → Size (toZ w64 (ofZ w64 (at (c .args .t2) i)))
+k-x c i t = element (c .args .t2) i (2 ^ 62) (c .pre i (lit< t)) (lit< tt)
+
+ruleset known = (k-x, sizes)
+
+array-copy-out-t7 : tie.Need-array-copy-out-t7
+array-copy-out-t7 c = search needs
+
+sub-t8 : tie.Need-sub-t8
+sub-t8 c = fits? (search known depth 40) (omega arith)
+
+array-copy-out-t11 : tie.Need-array-copy-out-t11
+array-copy-out-t11 c = search needs
+
+array-copy-out-t14 : tie.Need-array-copy-out-t14
+array-copy-out-t14 c = search needs
+
+sub-t15 : tie.Need-sub-t15
+sub-t15 c = fits? (search known depth 40) (omega arith)
+
+returns : tie.Need-returns
+returns c =
+    let s = c .before .before .before .before in
+    mirror-slope (s .args .t2) _ _ _ (s .args .slope) (c .before .before .before .if1 .taken) (value? (search known depth 40) (omega arith)) (value? (search known depth 40) tt) (value? (search known depth 40) (omega arith))
+
+array-copy-out-t18 : tie.Need-array-copy-out-t18
+array-copy-out-t18 c = search needs
+
+array-copy-out-t21 : tie.Need-array-copy-out-t21
+array-copy-out-t21 c = search needs
+
+sub-t22 : tie.Need-sub-t22
+sub-t22 c = fits? (search known depth 40) (omega arith)
+
+array-copy-out-t25 : tie.Need-array-copy-out-t25
+array-copy-out-t25 c = search needs
+
+returns-2 : tie.Need-returns-2
+returns-2 c =
+    let s = c .before .before .before .before in
+    mirror-value (s .args .t2) _ _ _ (s .args .slope) (c .before .before .before .if1 .left) (value? (search known depth 40) tt) (value? (search known depth 40) (omega arith)) (value? (search known depth 40) tt)
+
+pub mirrored-spec : {M : Type 1} → statement M
+mirrored-spec =
+    tie.close
+    (tie.spec
+    array-copy-out-t7
+    sub-t8
+    array-copy-out-t11
+    array-copy-out-t14
+    sub-t15
+    returns
+    array-copy-out-t18
+    array-copy-out-t21
+    sub-t22
+    array-copy-out-t25
+    returns-2)

@@ -1,0 +1,36 @@
+-- What the calls of one axis state: the basis of a step as the code holds it, the numbers of two ends, and whether numbers count units or eighths.
+use mathlib.Core.Path.{_≡_}
+use mathlib.Core.Bool.{Bool, true, false}
+use Prim.Native.Nat.{ℕ, _+_, _*_, _-_, _≤_, _<_}
+use lib.Dec.{ltb}
+use lib.IntN.{ℤ, pos, natAbs}
+use Rattle.arith.specs.Choice.{pick}
+use Rattle.arith.specs.Sum.{total}
+use Rattle.lattice.specs.Buffer.{at}
+use Rattle.hermite.specs.declared.Basis.{Basis}
+use Rattle.hermite.specs.Hermite.{Kind, basis}
+
+-- a cell has 256 steps an axis
+abbrev pub steps : ℕ
+steps = 256
+
+-- b holds what a stage at step u takes of the numbers of the low and of the high end, 0 from order m on
+pub record Folds (k : Kind) (m u : ℕ) (b : Basis) : Type 0 where
+  pub m-low : 2 ≤ m
+  pub m-high : m ≤ 3
+  pub step : u ≤ steps
+  pub low : (o : ℕ) → o < 3 → at (b .low) o ≡ pick (ltb o m) (basis k m steps u o) (pos 0)
+  pub high : (o : ℕ) → o < 3 → at (b .high) o ≡ pick (ltb o m) (basis k m steps u (m + o)) (pos 0)
+
+-- number t of two ends of m numbers each
+unfoldable pub bothEnds : ℕ → (ℕ → ℤ) → (ℕ → ℤ) → ℕ → ℤ
+bothEnds m low high t = pick (ltb t m) (low t) (high (t - m))
+
+-- the sum of the sizes of all products of a stage, which no sum on the way exceeds
+unfoldable pub load : Basis → (ℕ → ℤ) → (ℕ → ℤ) → ℕ
+load b low high = total 3 (λ o. natAbs (at (b .low) o) * natAbs (low o)) + total 3 (λ o. natAbs (at (b .high) o) * natAbs (high o))
+
+-- how many of what numbers count make a unit: eighths or units
+unfoldable pub parts : Bool → ℕ
+parts true = 8
+parts false = 1
