@@ -1,0 +1,93 @@
+-- What follows where estimation is not refused: the facts of the table, and every record within its limits and found again by its place.
+use mathlib.Core.Path.{_≡_, sym, ap, _∙_}
+use mathlib.Core.List.{List, _++_, append-nil}
+use Prim.Native.Nat.{ℕ, _/_, _≤_}
+use native.Mathlib.Omega.{arith}
+use lib.Dec.{leb, eqb, ltb, lit<}
+use lib.IntN.{ℤ, pos, natAbs}
+use lib.ListN.{length, drop}
+use lib.Seq.{drop-length}
+use borrow.Author.Tests.{leb-true, eqb-true}
+use Rattle.arith.proofs.Choices.{on-pick}
+use Rattle.lattice.specs.declared.Shape.{Shape}
+use Rattle.lattice.specs.Outcome.{Check, done, refuseUnless, first}
+use Rattle.lattice.specs.Buffer.{overwrite}
+use Rattle.lattice.specs.Shape.{count, orders, nodes, size, shapeOutcome, Shaped}
+use Rattle.lattice.specs.Axes.{Place}
+use Rattle.lattice.specs.Records.{samplesField, recordsField, entryIndex, entryPlace, sampleLimit, entryLimit, limitOutcome}
+use Rattle.lattice.proofs.OutcomeLaws.{first-done, refuse-done, when-done}
+use Rattle.lattice.proofs.BufferLaws.{length-tabulate, getD-tabulate}
+use Rattle.lattice.proofs.ShapeLaws.{shaped, orders-range, nodes-is}
+use Rattle.lattice.proofs.RecordsLaws.{InTable, index-below, place-back, limit-each}
+use Rattle.estimate.specs.Estimate.{tableRecords, recordsOf, estimateOutcome, estimateWrites, Estimable}
+use Rattle.estimate.specs.Passes.{ordersOn, gridOf, Grids, Samples}
+use Rattle.estimate.proofs.EstimateLaws.{limits}
+use Rattle.estimate.proofs.EntryLaws.{orders-some}
+
+-- ---- a table that estimation takes
+
+pub estimated : (s : Shape) (xs : List ℤ) (room : ℕ) → estimateOutcome s xs room ≡ done tt → Estimable s xs room
+unfolding estimateOutcome
+estimated s xs room h =
+    let last : Check = limitOutcome sampleLimit xs in
+    let fits : Check = first (refuseUnless (leb (size s) room) 9 0) last in
+    let a = first-done (shapeOutcome s) (first (refuseUnless (eqb (length xs) (nodes s)) 4 0) fits) tt h in
+    let b = first-done (refuseUnless (eqb (length xs) (nodes s)) 4 0) fits tt (a .1) in
+    let c = first-done (refuseUnless (leb (size s) room) 9 0) last tt (b .1) in
+    record {
+      passed = a .0;
+      shape = shaped s (a .0);
+      whole = eqb-true (length xs) (nodes s) (refuse-done (eqb (length xs) (nodes s)) 4 0 (b .0));
+      small = limit-each sampleLimit xs (c .1);
+      fits = leb-true (size s) room (refuse-done (leb (size s) room) 9 0 (c .0));
+    }
+
+orders-high : (s : Shape) (a : ℕ) → ordersOn s a ≤ 3
+unfolding ordersOn
+orders-high s a = on-pick (λ m. m ≤ 3) (ltb a (s .axes)) (orders s) 1 (λ e. orders-range (s .degree) .1) (λ e. omega arith)
+
+pub grids : (s : Shape) → Shaped s → Grids (gridOf s)
+unfolding gridOf
+grids s ok =
+    record {
+      y-low = ok .low 1 (lit< tt);
+      x-high = ok .high 0 (lit< tt);
+      y-high = ok .high 1 (lit< tt);
+      z-high = ok .high 2 (lit< tt);
+      mx-low = orders-some s ok 0;
+      my-low = orders-some s ok 1;
+      mz-low = orders-some s ok 2;
+      mx-high = orders-high s 0;
+      my-high = orders-high s 1;
+      mz-high = orders-high s 2;
+    }
+
+pub grid-samples : (s : Shape) (xs : List ℤ) (room : ℕ) → Estimable s xs room → Samples (gridOf s) xs
+unfolding gridOf
+grid-samples s xs room ok = record { grid = grids s (ok .shape); whole = ok .whole ∙ nodes-is s; small = ok .small }
+
+-- ---- its records
+
+pub records-length : (s : Shape) (xs : List ℤ) → length (recordsOf s xs) ≡ size s
+unfolding recordsOf
+records-length s xs = length-tabulate (size s) (λ i. tableRecords s xs (entryPlace s i))
+
+-- a slice of exactly the records' length holds the records
+pub written : (s : Shape) (xs old : List ℤ) → estimateOutcome s xs (length old) ≡ done tt → length old ≡ size s → estimateWrites s xs old ≡ recordsOf s xs
+unfolding estimateWrites
+written s xs old h e =
+    sym (when-done (overwrite (recordsOf s xs) old) old h)
+    ∙ ap (λ (n : ℕ). recordsOf s xs ++ drop n old) (records-length s xs ∙ sym e)
+    ∙ ap (λ (l : List ℤ). recordsOf s xs ++ l) (drop-length old) ∙ append-nil (recordsOf s xs)
+
+-- an entry is read back at its place
+pub read-back : (s : Shape) (xs : List ℤ) (p : Place) → s .axes ≤ 3 → InTable s (λ a. p a / orders s) → ((a : ℕ) → s .axes ≤ a → p a ≡ 0) → recordsField s (recordsOf s xs) p ≡ tableRecords s xs p
+unfolding recordsField recordsOf
+read-back s xs p l here none =
+    getD-tabulate (size s) (λ i. tableRecords s xs (entryPlace s i)) (entryIndex s p) (pos 0) (index-below s p here none)
+    ∙ ap (tableRecords s xs) (place-back s p here none l)
+
+-- an entry of total order q lies within ±32768·2^q
+pub entry-limit : (s : Shape) (xs : List ℤ) (room : ℕ) → Estimable s xs room → (p : Place) → natAbs (tableRecords s xs p) ≤ entryLimit (orders s) (s .axes) p
+unfolding entryLimit tableRecords samplesField
+entry-limit s xs room ok p = limits sampleLimit (orders s) (s .axes) (count s) (samplesField s xs) (λ q. ok .small _) p

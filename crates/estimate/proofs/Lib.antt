@@ -1,0 +1,9 @@
+-- Laws of the definitions, for the crates above, and of what the inner functions write.
+pub mod General
+pub mod EstimateLaws
+pub mod PlacedLaws
+pub mod PassesLaws
+pub mod EntryLaws
+pub mod RowsLaws
+pub mod CallLaws
+pub mod Examples

@@ -1,0 +1,95 @@
+-- One pass: its groups of orders, the machine's numbers that it reads, and the sizes of what it gives.
+use mathlib.Core.Path.{_≡_}
+use mathlib.Core.List.{List}
+use Prim.Native.Nat.{ℕ, zero, suc, _+_, _*_, _/_, _%_, _≤_, _<_}
+use native.Mathlib.Nat.{mul-le-mul, le-trans}
+use native.Mathlib.Omega.{arith}
+use lib.Dec.{ltb}
+use lib.IntN.{ℤ, pos, _-ℤ_, _*ℤ_, natAbs}
+use lib.ListN.{length}
+use mir.Syntax.{w32}
+use mir.Val.{toZ, ofZ}
+use mir.Facts.{toZ-ofZ}
+use borrow.Author.Tests.{ltb-true}
+use Rattle.arith.proofs.Abs.{abs-add, abs-minus, abs-mul, sfits-abs}
+use Rattle.arith.proofs.Choices.{on-pick}
+use Rattle.lattice.specs.Buffer.{at}
+use Rattle.estimate.specs.declared.Grid.{Grid}
+use Rattle.estimate.specs.Estimate.{left, right, byOrder}
+use Rattle.estimate.specs.Passes.{passLimit, passOf, rowStart, rowZ, rowYZ, recordSize, rowSize, Read, Grids, Samples}
+use Rattle.estimate.proofs.General.{group-room, high-digit, low-digit, pair-below}
+
+-- a number read from its bits
+pub bits : (x : ℤ) → natAbs x ≤ passLimit → toZ w32 (ofZ w32 x) ≡ x
+bits x h = toZ-ofZ {w = w32} (sfits-abs x (omega arith))
+
+-- ---- neighbours
+
+pub left-below : (count i : ℕ) → i < count → left i < count
+unfolding left
+left-below count zero h = h
+left-below count (suc i) h = omega arith
+
+pub right-below : (count i : ℕ) → i < count → right count i < count
+unfolding right
+right-below count i h = on-pick (λ k. k < count) (ltb (suc i) count) (suc i) i (λ e. ltb-true (suc i) count e) (λ e. h)
+
+-- ---- a pass
+
+pub pass-group : (m : ℕ) (l f r : ℕ → ℤ) (t o : ℕ) → o < m → byOrder o (l t) (f t) (r t) ≡ passOf m l f r (m * t + o)
+unfolding passOf
+pass-group m l f r t o h = rw (high-digit m t o h, low-digit m t o h)
+
+-- what an order of numbers within B is within
+pub order-size : (o : ℕ) (l f r : ℤ) (B : ℕ) → natAbs l ≤ B → natAbs f ≤ B → natAbs r ≤ B → natAbs (byOrder o l f r) ≤ 4 * B
+unfolding byOrder
+order-size zero l f r B a b c = omega arith
+order-size (suc zero) l f r B a b c = omega (arith, abs-minus r l)
+order-size (suc (suc o)) l f r B a b c = omega (arith, abs-add (l -ℤ pos 2 *ℤ f) r, abs-minus l (pos 2 *ℤ f), abs-mul (pos 2) f)
+
+-- ---- rows
+
+module _ (g : Grid) (ok : Grids g) where
+  pub column-high : g .my * g .mz ≤ 9
+  column-high = mul-le-mul (ok .my-high) (ok .mz-high)
+
+  pub record-high : recordSize g ≤ 27
+  record-high = mul-le-mul (ok .mx-high) column-high
+
+  pub row-high : rowSize g ≤ 1728
+  row-high = mul-le-mul record-high (ok .x-high)
+
+  pub rows-high : g .cy * g .cz ≤ 4096
+  rows-high = mul-le-mul (ok .y-high) (ok .z-high)
+
+  pub row-z-high : g .mz * g .cx ≤ 192
+  row-z-high = mul-le-mul (ok .mz-high) (ok .x-high)
+
+  pub row-yz-high : g .my * (g .mz * g .cx) ≤ 576
+  row-yz-high = mul-le-mul (ok .my-high) row-z-high
+
+row-in : (g : Grid) (xs : List ℤ) (y z : ℕ) → Samples g xs → y < g .cy → z < g .cz → rowStart g y z + g .cx ≤ length xs
+unfolding rowStart
+row-in g xs y z ok h k = rw (ok .whole) (group-room (g .cx) (y + g .cy * z) (g .cy * g .cz) (pair-below (g .cy) (g .cz) y z h k))
+
+pub row-read : (g : Grid) (xs : List ℤ) (y z : ℕ) → Samples g xs → y < g .cy → z < g .cz → Read xs (rowStart g y z) (g .cx)
+row-read g xs y z ok h k = record { inside = row-in g xs y z ok h k; small = λ t l. le-trans (ok .small (rowStart g y z + t)) (omega arith) }
+
+-- what a row, worked off along z, and along z and y, is within
+pub row-z-size : (g : Grid) (xs : List ℤ) (y z t : ℕ) → Samples g xs → natAbs (rowZ g xs y z t) ≤ 131072
+unfolding rowZ passOf
+row-z-size g xs y z t ok =
+    order-size (t % g .mz) (at xs (rowStart g y (left z) + i)) (at xs (rowStart g y z + i)) (at xs (rowStart g y (right (g .cz) z) + i)) 32768
+    (ok .small (rowStart g y (left z) + i)) (ok .small (rowStart g y z + i)) (ok .small (rowStart g y (right (g .cz) z) + i))
+  where
+    i : ℕ
+    i = t / g .mz
+
+pub row-yz-size : (g : Grid) (xs : List ℤ) (y z t : ℕ) → Samples g xs → natAbs (rowYZ g xs y z t) ≤ passLimit
+unfolding rowYZ passOf
+row-yz-size g xs y z t ok =
+    order-size (t % g .my) (rowZ g xs (left y) z i) (rowZ g xs y z i) (rowZ g xs (right (g .cy) y) z i) 131072
+    (row-z-size g xs (left y) z i ok) (row-z-size g xs y z i ok) (row-z-size g xs (right (g .cy) y) z i ok)
+  where
+    i : ℕ
+    i = t / g .my

@@ -1,0 +1,82 @@
+-- `estimate::check_estimate` meets its contract: the shape is tested first, since the other tests need it; the rest is one expression.
+use mathlib.Core.Path.{_≡_, sym, ap, _∙_}
+use lib.Dec.{leb, eqb}
+use lib.ListN.{length}
+use denote.Ref.{now}
+use borrow.Author.Needs.{needs}
+use Rattle.lattice.specs.Outcome.{Check, refuseUnless, first}
+use Rattle.lattice.specs.Answer.{meaning}
+use Rattle.lattice.specs.Shape.{nodes, size, Shaped}
+use Rattle.lattice.specs.Records.{limitOutcome}
+use Rattle.lattice.proofs.OutcomeLaws.{refused-first, first-passed}
+use Rattle.lattice.proofs.ShapeLaws.{shaped}
+use Rattle.estimate.specs.Estimate.{estimateOutcome}
+use Rattle.estimate.proofs.check_estimate.Statement.{statement}
+use Rattle.estimate.proofs.check_estimate.Tie as tie
+
+-- the shape is not refused
+told : (c : tie.After-enum-told2) → Shaped (c .before .before .before .args .s)
+told c = shaped (c .before .before .before .args .s) (sym (c .before .before .check-shape .ensures) ∙ ap meaning (c .enum-told2 .given .1))
+
+check-shape-requires : tie.Need-check-shape-requires
+check-shape-requires c κs = search needs
+
+enum-told : tie.Need-enum-told
+enum-told c = search needs
+
+enum-told-2 : tie.Need-enum-told-2
+enum-told-2 c = search needs
+
+node-count-requires : tie.Need-node-count-requires
+node-count-requires c κs = told c
+
+refuse-unless-requires : tie.Need-refuse-unless-requires
+refuse-unless-requires c κs = search needs
+
+table-entries-requires : tie.Need-table-entries-requires
+table-entries-requires c κs = told (c .before .before)
+
+refuse-unless-requires-2 : tie.Need-refuse-unless-requires-2
+refuse-unless-requires-2 c κs = search needs
+
+check-limit-requires : tie.Need-check-limit-requires
+check-limit-requires c κs = search needs
+
+earlier-requires : tie.Need-earlier-requires
+earlier-requires c κs = search needs
+
+earlier-requires-2 : tie.Need-earlier-requires-2
+earlier-requires-2 c κs = search needs
+
+returns : tie.Need-returns
+unfolding estimateOutcome
+returns c =
+    let g = ap meaning (c .enum-told .given .1) in
+    g ∙ sym (refused-first _ (sym (c .before .before .check-shape .ensures) ∙ g))
+
+returns-2 : tie.Need-returns-2
+unfolding estimateOutcome
+returns-2 c =
+    let b = c .before .before .before .before .before .before .before in
+    let a = b .before .before .before .args in
+    let xs = a .samples .now in
+    let rest : Check = first (refuseUnless (eqb (length xs) (nodes (a .s))) 4 0) (first (refuseUnless (leb (size (a .s)) (a .room)) 9 0) (limitOutcome 32768 xs)) in
+    let e : meaning (c .earlier2 .result) ≡ rest = cc in
+    e ∙ sym (first-passed _ rest (sym (b .before .before .check-shape .ensures) ∙ ap meaning (b .enum-told2 .given .1)))
+
+pub check-estimate-spec : {M : Type 1} → statement M
+check-estimate-spec =
+    tie.close
+    (tie.spec
+    check-shape-requires
+    enum-told
+    enum-told-2
+    node-count-requires
+    refuse-unless-requires
+    table-entries-requires
+    refuse-unless-requires-2
+    check-limit-requires
+    earlier-requires
+    earlier-requires-2
+    returns
+    returns-2)

@@ -1,0 +1,54 @@
+-- `estimate::estimate` meets its contract: where the gate passes, its facts are what the body asks for; where it refuses, nothing is written.
+use mathlib.Core.Path.{sym, ap, _∙_}
+use lib.ListN.{length}
+use denote.Ref.{now}
+use borrow.Author.Needs.{needs}
+use Rattle.lattice.proofs.OutcomeLaws.{when-done, when-refused}
+use Rattle.lattice.specs.Answer.{meaning}
+use Rattle.estimate.specs.Estimate.{estimateWrites}
+use Rattle.estimate.proofs.CallLaws.{estimated}
+use Rattle.estimate.proofs.estimate.Statement.{statement}
+use Rattle.estimate.proofs.estimate.Tie as tie
+
+check-estimate-requires : tie.Need-check-estimate-requires
+check-estimate-requires c κs = search needs
+
+enum-told : tie.Need-enum-told
+enum-told c = search needs
+
+fill-records-requires : tie.Need-fill-records-requires
+fill-records-requires c κs =
+    let a = c .before .before .before .before .args in
+    estimated (a .s) (a .samples .now) (length (a .records .now)) (sym (c .before .before .before .check-estimate .ensures) ∙ ap meaning (c .before .enum-told .given .1))
+
+enum-told-2 : tie.Need-enum-told-2
+enum-told-2 c = search needs
+
+same-length : tie.Need-same-length
+same-length c = search needs
+
+returns : tie.Need-returns
+unfolding estimateWrites
+returns c =
+    let b = c .before .before .before .before .before .before in
+    let e = c .before .before .before .before .before .check-estimate .ensures in
+    (e, c .before .fill-records .ensures ∙ when-done _ (b .args .records .now) (sym e ∙ ap meaning (c .before .before .before .enum-told .given .1)))
+
+returns-2 : tie.Need-returns-2
+unfolding estimateWrites
+returns-2 c =
+    let b = c .before .before .before in
+    let e = c .before .before .check-estimate .ensures in
+    (e, when-refused _ (b .args .records .now) (sym e ∙ ap meaning (c .enum-told2 .given .1)))
+
+pub estimate-spec : {M : Type 1} → statement M
+estimate-spec =
+    tie.close
+    (tie.spec
+    check-estimate-requires
+    enum-told
+    fill-records-requires
+    enum-told-2
+    same-length
+    returns
+    returns-2)

@@ -1,0 +1,69 @@
+-- Estimates: all records from the samples, and the call that writes them.
+use mathlib.Core.Path.{_≡_}
+use Prim.Native.Nat.{ℕ, zero, suc, _+_, _/_, _%_, _≤_, _<_}
+use mathlib.Core.List.{List}
+use lib.Dec.{leb, ltb, eqb}
+use lib.IntN.{ℤ, pos, _+ℤ_, _-ℤ_, _*ℤ_, natAbs}
+use lib.ListN.{length}
+use Rattle.arith.specs.Choice.{pick}
+use Rattle.lattice.specs.declared.Shape.{Shape}
+use Rattle.lattice.specs.Outcome.{Check, done, refuseUnless, first, whenDone}
+use Rattle.lattice.specs.Buffer.{at, tabulate, overwrite}
+use Rattle.lattice.specs.Shape.{count, orders, nodes, size, shapeOutcome, Shaped}
+use Rattle.lattice.specs.Axes.{Field, Rule, sweep, axes}
+use Rattle.lattice.specs.Records.{samplesField, entryPlace, sampleLimit, limitOutcome}
+
+-- a neighbour missing at a border is taken equal to f: it is the node itself
+unfoldable pub left : ℕ → ℕ
+left zero = zero
+left (suc i) = i
+
+unfoldable pub right : ℕ → ℕ → ℕ
+right count i = pick (ltb (suc i) count) (suc i) i
+
+-- order 0 is the value, order 1 is D = r − l, order 2 is S = l − 2f + r
+unfoldable pub byOrder : ℕ → ℤ → ℤ → ℤ → ℤ
+byOrder zero l f r = f
+byOrder (suc zero) l f r = r -ℤ l
+byOrder (suc (suc o)) l f r = l -ℤ pos 2 *ℤ f +ℤ r
+
+-- along one axis: order o at node i stands at place m·i + o
+unfoldable pub estimate : ℕ → ℕ → Rule
+estimate m count x j = byOrder (j % m) (x (left (j / m))) (x (j / m)) (x (right count (j / m)))
+
+-- all records come from the samples this way, axis after axis
+unfoldable pub records : ℕ → ℕ → (ℕ → ℕ) → Field → Field
+records m n count samples = sweep (axes n) (λ a. estimate m (count a)) samples
+
+-- on one axis: node j is node i or a neighbour of it
+pub record NextTo (count i j : ℕ) : Type 0 where
+  pub low : i ≤ j + 1
+  pub high : j ≤ i + 1
+  pub there : j < count
+
+-- ---- the call
+
+unfoldable pub tableRecords : Shape → List ℤ → Field
+tableRecords s xs = records (orders s) (s .axes) (count s) (samplesField s xs)
+
+-- the records in one slice
+unfoldable pub recordsOf : Shape → List ℤ → List ℤ
+recordsOf s xs = tabulate (size s) (λ i. tableRecords s xs (entryPlace s i))
+
+-- 1, 2, 3, then 4, 9, 5
+unfoldable pub estimateOutcome : Shape → List ℤ → ℕ → Check
+estimateOutcome s xs room =
+    first (shapeOutcome s)
+    (first (refuseUnless (eqb (length xs) (nodes s)) 4 0) (first (refuseUnless (leb (size s) room) 9 0) (limitOutcome sampleLimit xs)))
+
+-- what the records slice holds afterwards
+unfoldable pub estimateWrites : Shape → List ℤ → List ℤ → List ℤ
+estimateWrites s xs old = whenDone (estimateOutcome s xs (length old)) (overwrite (recordsOf s xs) old) old
+
+-- the facts of a table that estimation takes
+pub record Estimable (s : Shape) (xs : List ℤ) (room : ℕ) : Type 0 where
+  pub passed : shapeOutcome s ≡ done tt
+  pub shape : Shaped s
+  pub whole : length xs ≡ nodes s
+  pub small : (i : ℕ) → natAbs (at xs i) ≤ sampleLimit
+  pub fits : size s ≤ room

@@ -1,0 +1,221 @@
+// Estimation: all records of a table from its samples.
+ghost use mathlib.Core.Path.{_≡_};
+ghost use Prim.Native.Nat.{ℕ, _+_, _*_, _<_, _≤_};
+ghost use lib.IntN.{natAbs};
+ghost use lib.ListN.{length};
+ghost use Rattle.lattice.specs.Answer.{meaning};
+ghost use Rattle.lattice.specs.Buffer.{at, overwrite};
+ghost use Rattle.estimate.specs.Estimate.{left, right, byOrder, recordsOf, estimateOutcome, estimateWrites, Estimable};
+ghost use Rattle.estimate.specs.Passes.{passLimit, placed, since, passOf, ordersOn, gridOf, rowStart, rowZ, rowYZ, recordSize, rowSize, rowOf, rowsOf, Read, Grids, Samples};
+use lattice::Answer;
+use lattice::Shape;
+
+// The node counts, and the numbers that a record holds along each axis: 1 along an unused one.
+pub struct Grid {
+    pub cx: usize,
+    pub cy: usize,
+    pub cz: usize,
+    pub mx: usize,
+    pub my: usize,
+    pub mz: usize,
+}
+
+// The neighbours of a node along an axis.
+pub struct Neighbours {
+    pub low: usize,
+    pub high: usize,
+}
+
+// A neighbour missing at a border is the node itself.
+fn neighbours_of(count: usize, i: usize) -> Neighbours
+    requires { ⌜ i < count ⌝ }
+    ensures { λ r. ⌜ (r .low ≡ left i) × (r .high ≡ right count i) ⌝ }
+{
+    let low = if i == 0 { i } else { i - 1 };
+    let high = if i + 1 < count { i + 1 } else { i };
+    Neighbours {
+        low: low,
+        high: high,
+    }
+}
+
+// The numbers that a record holds along one axis.
+fn orders_on(s: Shape, axis: u32) -> usize
+    ensures { λ r. ⌜ r ≡ ordersOn s axis ⌝ }
+{
+    if axis < s.axes {
+        lattice::orders(s.degree)
+    } else {
+        1
+    }
+}
+
+fn grid_of(s: Shape) -> Grid
+    ensures { λ r. ⌜ r ≡ gridOf s ⌝ }
+{
+    Grid {
+        cx: s.counts[0] as usize,
+        cy: s.counts[1] as usize,
+        cz: s.counts[2] as usize,
+        mx: orders_on(s, 0),
+        my: orders_on(s, 1),
+        mz: orders_on(s, 2),
+    }
+}
+
+// The first m of the value f, D = r − l and S = l − 2f + r.
+fn put_orders(m: usize, l: i32, f: i32, r: i32, out: &mut [i32], k: usize)
+    requires { ⌜ (1 ≤ m) × (m ≤ 3) × (k + m ≤ length (now out)) ⌝ }
+    requires { ⌜ (natAbs l ≤ passLimit) × (natAbs f ≤ passLimit) × (natAbs r ≤ passLimit) ⌝ }
+    ensures { λ _. ⌜ now (out .exit) ≡ placed k m (λ o. byOrder o l f r) (now (out .entry)) ⌝ }
+{
+    out[k] = f;
+    if 1 < m {
+        out[k + 1] = r - l;
+        if 2 < m {
+            out[k + 2] = l - 2 * f + r;
+        }
+    }
+}
+
+// The orders along an axis of `count` numbers, which stand from `mid` on, their neighbours from `low` and from `high` on.
+fn pass(
+    m: usize,
+    xs: &[i32],
+    low: usize,
+    mid: usize,
+    high: usize,
+    count: usize,
+    out: &mut [i32],
+    k: usize,
+)
+    requires { ⌜ (1 ≤ m) × (m ≤ 3) × (k + m * count ≤ length (now out)) ⌝ }
+    requires { ⌜ Read (now xs) low count × Read (now xs) mid count × Read (now xs) high count ⌝ }
+    ensures { λ _. ⌜ now (out .exit) ≡ placed k (m * count) (passOf m (since (now (xs .entry)) low) (since (now (xs .entry)) mid) (since (now (xs .entry)) high)) (now (out .entry)) ⌝ }
+{
+    let mut t: usize = 0;
+    let mut p = k;
+    while t < count {
+        put_orders(m, xs[low + t], xs[mid + t], xs[high + t], out, p);
+        p += m;
+        t += 1;
+    }
+}
+
+// Where row (y, z) of the samples starts.
+fn row_start(g: Grid, y: usize, z: usize) -> usize
+    requires { ⌜ Grids g × (y < g .cy) × (z < g .cz) ⌝ }
+    ensures { λ r. ⌜ r ≡ rowStart g y z ⌝ }
+{
+    g.cx * (y + g.cy * z)
+}
+
+// One row, worked off along z.
+fn row_z(g: Grid, xs: &[i32], y: usize, z: usize, out: &mut [i32], k: usize)
+    requires { ⌜ Samples g (now xs) ⌝ }
+    requires { ⌜ (y < g .cy) × (z < g .cz) × (k + g .mz * g .cx ≤ length (now out)) ⌝ }
+    ensures { λ _. ⌜ now (out .exit) ≡ placed k (g .mz * g .cx) (rowZ g (now (xs .entry)) y z) (now (out .entry)) ⌝ }
+{
+    let n = neighbours_of(g.cz, z);
+    let low = row_start(g, y, n.low);
+    let mid = row_start(g, y, z);
+    let high = row_start(g, y, n.high);
+    pass(g.mz, xs, low, mid, high, g.cx, out, k)
+}
+
+// One row, worked off along z and y; `three` holds it and its neighbours along y, worked off along z.
+fn row_yz(g: Grid, xs: &[i32], y: usize, z: usize, three: &mut [i32], row: &mut [i32])
+    requires { ⌜ Samples g (now xs) ⌝ }
+    requires { ⌜ (y < g .cy) × (z < g .cz) × (length (now three) ≡ 576) × (length (now row) ≡ 576) ⌝ }
+    ensures { λ _. ⌜ ((t : ℕ) → t < g .my * (g .mz * g .cx) → at (now (row .exit)) t ≡ rowYZ g (now (xs .entry)) y z t) ⌝ }
+{
+    let n = neighbours_of(g.cy, y);
+    let w = g.mz * g.cx;
+    row_z(g, xs, n.low, z, three, 0);
+    row_z(g, xs, y, z, three, w);
+    row_z(g, xs, n.high, z, three, w + w);
+    pass(g.my, three, 0, w, w + w, w, row, 0)
+}
+
+// The records of one row, which is worked off along z and y.
+fn fill_row(g: Grid, row: &[i32], out: &mut [i32], k: usize)
+    requires { ⌜ Grids g × (k + rowSize g ≤ length (now out)) ⌝ }
+    requires { ⌜ Read (now row) 0 (g .my * g .mz * g .cx) ⌝ }
+    ensures { λ _. ⌜ now (out .exit) ≡ placed k (rowSize g) (rowOf g (at (now (row .entry)))) (now (out .entry)) ⌝ }
+{
+    let size = g.my * g.mz;
+    let step = g.mx * size;
+    let mut x: usize = 0;
+    let mut p = k;
+    while x < g.cx {
+        let n = neighbours_of(g.cx, x);
+        let low = size * n.low;
+        let mid = size * x;
+        let high = size * n.high;
+        pass(g.mx, row, low, mid, high, size, out, p);
+        p += step;
+        x += 1;
+    }
+}
+
+// The records of all rows; y, z and p follow the row's number r. What lies behind the records stays.
+fn fill_rows(g: Grid, samples: &[i32], records: &mut [i32])
+    requires { ⌜ Samples g (now samples) × (rowSize g * (g .cy * g .cz) ≤ length (now records)) ⌝ }
+    ensures { λ _. ⌜ now (records .exit) ≡ placed 0 (rowSize g * (g .cy * g .cz)) (rowsOf g (now (samples .entry))) (now (records .entry)) ⌝ }
+{
+    let rows = g.cy * g.cz;
+    let step = g.mx * (g.my * g.mz) * g.cx;
+    let mut three = [0i32; 576];
+    let mut row = [0i32; 576];
+    let mut y: usize = 0;
+    let mut z: usize = 0;
+    let mut p: usize = 0;
+    let mut r: usize = 0;
+    while r < rows {
+        row_yz(g, samples, y, z, &mut three, &mut row);
+        fill_row(g, &row, records, p);
+        p += step;
+        r += 1;
+        y += 1;
+        if y == g.cy {
+            y = 0;
+            z += 1;
+        }
+    }
+}
+
+// All records of a table that estimation takes.
+fn fill_records(s: Shape, samples: &[i32], records: &mut [i32])
+    requires { ⌜ Estimable s (now samples) (length (now records)) ⌝ }
+    ensures { λ _. ⌜ now (records .exit) ≡ overwrite (recordsOf s (now (samples .entry))) (now (records .entry)) ⌝ }
+{
+    fill_rows(grid_of(s), samples, records)
+}
+
+// Every refusal of estimation: 1, 2, 3, then 4, 9, 5.
+fn check_estimate(s: Shape, samples: &[i32], room: usize) -> Answer
+    ensures { λ r. ⌜ meaning r ≡ estimateOutcome s (now (samples .entry)) room ⌝ }
+{
+    let shape = lattice::check_shape(s);
+    match shape {
+        Answer::Refused(_) => shape,
+        Answer::Done => {
+            let counted = lattice::refuse_unless(samples.len() == lattice::node_count(s), 4, 0);
+            let roomy = lattice::refuse_unless(lattice::table_entries(s) <= room, 9, 0);
+            let limited = lattice::check_limit(samples, 32768);
+            lattice::earlier(counted, lattice::earlier(roomy, limited))
+        }
+    }
+}
+
+// Estimation: all records of a table from its samples.
+pub fn estimate(s: Shape, samples: &[i32], records: &mut [i32]) -> Answer
+    ensures answer { λ r. ⌜ meaning r ≡ estimateOutcome s (now (samples .entry)) (length (now (records .entry))) ⌝ }
+    ensures written { λ r. ⌜ now (records .exit) ≡ estimateWrites s (now (samples .entry)) (now (records .entry)) ⌝ }
+{
+    let answer = check_estimate(s, samples, records.len());
+    if let Answer::Done = answer {
+        fill_records(s, samples, records);
+    }
+    answer
+}

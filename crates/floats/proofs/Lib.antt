@@ -1,0 +1,7 @@
+-- Reading order: General, StepLaws, Scaled, Bits, WholeLaws, Examples.
+pub mod General
+pub mod StepLaws
+pub mod Scaled
+pub mod Bits
+pub mod WholeLaws
+pub mod Examples

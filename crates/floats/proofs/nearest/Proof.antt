@@ -1,0 +1,106 @@
+-- `floats::nearest` meets its contract: each branch by what `proofs/Bits.antt` says of the bits of y.
+use mathlib.Core.Path.{_≡_, sym, ap, subst, _∙_}
+use Prim.Native.Nat.{ℕ, _+_, _-_, _^_, _≤_}
+use native.Mathlib.Nat.{le-trans}
+use native.Mathlib.Omega.{arith}
+use mathlib.Core.Bool.{Bool, not}
+use lib.Dec.{T, leb, lit≤}
+use lib.IntN.{ℤ}
+use lib.Ieee.{Float, inf, binary32, isNan, toBits, ofBits}
+use lib.Ieee.Bits.{ofBits-toBits}
+use mir.Syntax.{w32, w64}
+use mir.Val.{SFits, toZ, ofZ}
+use mir.Facts.{toZ-ofZ}
+use borrow.Author.Needs.{needs, sfits-of}
+use borrow.Author.Tests.{le-leb, lt-leb}
+use Rattle.arith.specs.Int.{roundHalfUp}
+use Rattle.arith.proofs.Abs.{sfits-abs}
+use Rattle.floats.specs.Bits.{exponent, digits, nearestHeld}
+use Rattle.floats.proofs.Bits.{bits-low, bits-mid, bits-high, digits-size, rounded-size}
+use Rattle.floats.proofs.StepLaws.{clamped-fits}
+use Rattle.floats.proofs.nearest.Statement.{statement}
+use Rattle.floats.proofs.nearest.Tie as tie
+
+-- y is what its bits say
+abbrev bits : tie.Start → ℕ
+bits c = toBits binary32 (c .args .y)
+
+back : (c : tie.Start) → ofBits binary32 (bits c) ≡ c .args .y
+back c = ofBits-toBits binary32 (c .args .y) (subst T (sym (c .good .0 .1)) tt)
+
+high : (c : tie.Start) → 158 ≤ exponent (bits c) → nearestHeld (c .args .y) ≡ nearestHeld (inf (leb 2147483648 (bits c)))
+high c h = ap nearestHeld (sym (back c)) ∙ bits-high (bits c) h (subst (λ (v : Float). T (not (isNan v))) (sym (back c)) (c .pre))
+
+float-to-bits-b : tie.Need-float-to-bits-b
+float-to-bits-b c = search needs
+
+returns : tie.Need-returns
+returns c = sym (ap nearestHeld (sym (back (c .before))) ∙ bits-low (bits (c .before)) (c .if1 .taken))
+
+significand-requires : tie.Need-significand-requires
+significand-requires c κs = search needs
+
+sub-rounded : tie.Need-sub-rounded
+sub-rounded c = search needs
+
+-- the significand, read back
+significand : (c : tie.After-significand) → toZ w64 (ofZ w64 (c .significand .result)) ≡ digits (bits (c .before .before .before))
+significand c = toZ-ofZ {w = w64} (sfits-of (c .significand .ok)) ∙ c .significand .ensures
+
+rounded-requires : tie.Need-rounded-requires
+rounded-requires c κs = (rw (significand c) (le-trans (digits-size (bits (c .before .before .before))) (lit≤ tt)), omega arith)
+
+-- what is rounded: in 32 signed bits, and nearest to y
+module _ (c : tie.After-rounded) where
+  rounding : ℤ
+  rounding = let b = bits (c .before .before .before .before) in roundHalfUp (digits b) (2 ^ (158 - exponent b + 1))
+
+  result : toZ w64 (ofZ w64 (c .rounded .result)) ≡ rounding
+  unfolding rounding
+  result =
+      let b = bits (c .before .before .before .before) in
+      toZ-ofZ {w = w64} (sfits-of (c .rounded .ok)) ∙ c .rounded .ensures ∙ ap (λ z. roundHalfUp z (2 ^ (158 - exponent b + 1))) (significand (c .before))
+
+  small : SFits w32 rounding
+  unfolding rounding
+  small =
+      let b = bits (c .before .before .before .before) in
+      sfits-abs rounding (rounded-size (digits b) (158 - exponent b) (digits-size b) (omega arith))
+
+  held : rounding ≡ nearestHeld (c .before .before .before .before .args .y)
+  unfolding rounding
+  held =
+      let start = c .before .before .before .before in
+      sym (ap nearestHeld (sym (back start)) ∙ bits-mid (bits start) (c .before .before .before .if1 .left) (c .before .before .if2 .taken) ∙ clamped-fits rounding (small .sfits))
+
+cast-result : tie.Need-cast-result
+cast-result c = subst (SFits w32) (sym (result c)) (small c)
+
+returns-2 : tie.Need-returns-2
+returns-2 c = ap (λ z. toZ w32 (ofZ w32 z)) (result c) ∙ toZ-ofZ {w = w32} (small c) ∙ held c
+
+returns-3 : tie.Need-returns-3
+unfolding nearestHeld
+returns-3 c =
+    let start = c .before .before .before in
+    sym (high start (c .before .if2 .left) ∙ ap (λ (s : Bool). nearestHeld (inf s)) (lt-leb 2147483648 (bits start) (c .if3 .taken)))
+
+returns-4 : tie.Need-returns-4
+unfolding nearestHeld
+returns-4 c =
+    let start = c .before .before .before in
+    sym (high start (c .before .if2 .left) ∙ ap (λ (s : Bool). nearestHeld (inf s)) (le-leb 2147483648 (bits start) (c .if3 .left)))
+
+pub nearest-spec : {M : Type 1} → statement M
+nearest-spec =
+    tie.close
+    (tie.spec
+    float-to-bits-b
+    returns
+    significand-requires
+    sub-rounded
+    rounded-requires
+    cast-result
+    returns-2
+    returns-3
+    returns-4)

@@ -1,0 +1,73 @@
+// Float positions as steps, and whole numbers as floats.
+ghost use mathlib.Core.Path.{_≡_};
+ghost use mathlib.Core.Bool.{not};
+ghost use mathlib.Core.Option.{some};
+ghost use Prim.Native.Nat.{_<_, _^_};
+ghost use lib.Dec.{T};
+ghost use lib.IntN.{natAbs};
+ghost use lib.Ieee.{isNan};
+ghost use lib.Ieee.Scale.{finite};
+ghost use Rattle.floats.specs.Step.{step, clamped};
+ghost use Rattle.floats.specs.Whole.{wholeOf};
+ghost use Rattle.floats.specs.Bits.{digits, nearestHeld};
+
+// A float position: whether it is finite, and its step, 0 where it is not.
+pub struct FloatStep {
+    pub finite: bool,
+    pub step: i32,
+}
+
+// The 24 digits of a normal float, times 512, with its sign.
+fn significand(b: u32) -> i64
+    ensures { λ r. ⌜ r ≡ digits b ⌝ }
+{
+    let m = ((b % 8388608 + 8388608) as u64 * 512) as i64;
+    if b < 0x8000_0000 { m } else { -m }
+}
+
+// The whole number nearest to y, halves up, from the bits of y: where e is not 0, y is the significand over 2^(159 − e).
+fn nearest(y: f32) -> i32
+    requires { ⌜ T (not (isNan y)) ⌝ }
+    ensures { λ r. ⌜ r ≡ nearestHeld y ⌝ }
+{
+    let b = f32::to_bits(y);
+    let e = b / 8388608 % 256;
+    if e < 126 {
+        return 0;
+    }
+    if e < 158 {
+        return arith::rounded(significand(b), 158 - e) as i32;
+    }
+    if b < 0x8000_0000 {
+        2147483647
+    } else {
+        -2147483648
+    }
+}
+
+// Whether x is finite, and the step that it becomes, at most as far as an i32 goes.
+pub fn step_of(x: f32) -> FloatStep
+    ensures { λ r. ⌜ (r .finite ≡ finite x) × (r .step ≡ clamped (step 256 x)) ⌝ }
+{
+    let infinity: f32 = 1.0 / 0.0;
+    if x < infinity {
+        if x > -infinity {
+            return FloatStep {
+                finite: true,
+                step: nearest(x * 256.0),
+            };
+        }
+    }
+    FloatStep {
+        finite: false,
+        step: 0,
+    }
+}
+
+// v as a float: exact, and plus zero for 0.
+pub fn whole(v: i32) -> f32
+    requires { ⌜ natAbs v < 2 ^ 24 ⌝ }
+    ensures { λ r. ⌜ wholeOf r ≡ some v ⌝ }
+{
+    v as f32
+}

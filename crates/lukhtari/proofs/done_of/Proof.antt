@@ -1,0 +1,21 @@
+use Rattle.lukhtari.specs.Host.{doneOf}
+use Rattle.lattice.specs.Answer.{meaning}
+use mathlib.Core.Path.{sym, ap}
+use borrow.Author.Needs.{needs}
+use Rattle.lukhtari.proofs.done_of.Statement.{statement}
+use Rattle.lukhtari.proofs.done_of.Tie as tie
+
+enum-told : tie.Need-enum-told
+enum-told c = search needs
+
+enum-known-a : tie.Need-enum-known-a
+enum-known-a c = search needs
+
+returns : tie.Need-returns
+returns c = ap (λ a. doneOf (meaning a)) (sym (c .enum-told .given .1))
+
+returns-2 : tie.Need-returns-2
+returns-2 c = ap (λ a. doneOf (meaning a)) (sym (c .before .a .given .1))
+
+pub done-of-spec : {M : Type 1} → statement M
+done-of-spec = tie.close (tie.spec enum-told enum-known-a returns returns-2)

@@ -1,0 +1,168 @@
+// The calls open to the host: structs of the C interface over the proved calls.
+ghost use mathlib.Core.Path.{_≡_};
+ghost use mathlib.Core.List.{List};
+ghost use lib.ListN.{length};
+ghost use Rattle.lattice.specs.Outcome.{whenDone};
+ghost use Rattle.lattice.specs.Answer.{meaning};
+ghost use Rattle.lattice.specs.Buffer.{overwrite};
+ghost use Rattle.estimate.specs.Estimate.{estimateOutcome, estimateWrites};
+ghost use Rattle.table_file.specs.File.{header, readOutcome, samplesIn, writeOutcome, fileOf};
+ghost use Rattle.table_file.specs.Answers.{tableMeaning, writeMeaning};
+ghost use Rattle.lukhtari.specs.Host.{shapeOf, doneOf, tableFrom, writtenFrom};
+use lattice::Answer;
+use table_file::TableAnswer;
+use table_file::WriteAnswer;
+
+#[repr(C)]
+pub struct Shape {
+    pub axes: u32,
+    pub degree: u32,
+    pub counts: [u32; 3],
+}
+
+#[repr(C)]
+pub struct Index {
+    pub at: [u32; 3],
+}
+
+#[repr(C)]
+pub struct Position {
+    pub at: [i32; 3],
+}
+
+#[repr(C)]
+pub struct FloatPosition {
+    pub x: f32,
+    pub y: f32,
+    pub z: f32,
+}
+
+#[repr(C)]
+pub struct Done {
+    pub number: u32,
+    pub place: usize,
+}
+
+#[repr(C)]
+pub struct Whole {
+    pub number: u32,
+    pub place: usize,
+    pub value: i32,
+}
+
+#[repr(C)]
+pub struct Real {
+    pub number: u32,
+    pub place: usize,
+    pub value: f32,
+}
+
+#[repr(C)]
+pub struct Table {
+    pub number: u32,
+    pub place: usize,
+    pub axes: u32,
+    pub counts: [u32; 3],
+}
+
+#[repr(C)]
+pub struct Written {
+    pub number: u32,
+    pub place: usize,
+    pub length: usize,
+}
+
+fn shape_of(s: Shape) -> lattice::Shape
+    ensures { λ r. ⌜ r ≡ shapeOf s ⌝ }
+{
+    let counts = s.counts;
+    lattice::Shape {
+        axes: s.axes,
+        degree: s.degree,
+        counts: counts,
+    }
+}
+
+fn done_of(a: Answer) -> Done
+    ensures { λ r. ⌜ r ≡ doneOf (meaning a) ⌝ }
+{
+    match a {
+        Answer::Done => Done {
+            number: 0,
+            place: 0,
+        },
+        Answer::Refused(r) => Done {
+            number: r.number,
+            place: r.place,
+        },
+    }
+}
+
+// All records from the samples.
+#[no_mangle]
+pub extern "C" fn lukhtari_estimate(shape: Shape, samples: &[i32], records: &mut [i32]) -> Done
+    ensures { λ r. ⌜ r ≡ doneOf (estimateOutcome (shapeOf shape) (now (samples .entry)) (length (now (records .entry)))) ⌝ }
+    ensures { λ _. ⌜ now (records .exit) ≡ estimateWrites (shapeOf shape) (now (samples .entry)) (now (records .entry)) ⌝ }
+{
+    done_of(estimate::estimate(shape_of(shape), samples, records))
+}
+
+fn table_of(a: TableAnswer) -> Table
+    ensures { λ r. ⌜ r ≡ tableFrom (tableMeaning a) ⌝ }
+{
+    match a {
+        TableAnswer::Table { axes, x, y, z } => Table {
+            number: 0,
+            place: 0,
+            axes: axes,
+            counts: [x, y, z],
+        },
+        TableAnswer::Refused(r) => Table {
+            number: r.number,
+            place: r.place,
+            axes: 0,
+            counts: [0, 0, 0],
+        },
+    }
+}
+
+fn written_of(a: WriteAnswer) -> Written
+    ensures { λ r. ⌜ r ≡ writtenFrom (writeMeaning a) ⌝ }
+{
+    match a {
+        WriteAnswer::Written(k) => Written {
+            number: 0,
+            place: 0,
+            length: k,
+        },
+        WriteAnswer::Refused(r) => Written {
+            number: r.number,
+            place: r.place,
+            length: 0,
+        },
+    }
+}
+
+// A table file, its samples to the front of `samples`.
+#[no_mangle]
+pub extern "C" fn lukhtari_read(bytes: &[u8], samples: &mut [i32]) -> Table
+    ensures { λ r. ⌜ r ≡ tableFrom (readOutcome (now (bytes .entry)) (length (now (samples .entry)))) ⌝ }
+    ensures { λ _. ⌜ now (samples .exit) ≡ whenDone (readOutcome (now (bytes .entry)) (length (now (samples .entry)))) (overwrite (samplesIn (now (bytes .entry))) (now (samples .entry))) (now (samples .entry)) ⌝ }
+{
+    table_of(table_file::read(bytes, samples))
+}
+
+// A table as a file, to the front of `bytes`.
+#[no_mangle]
+pub extern "C" fn lukhtari_write(
+    axes: u32,
+    counts: Index,
+    samples: &[i32],
+    bytes: &mut [u8],
+) -> Written
+    ensures { λ r. ⌜ r ≡ writtenFrom (writeOutcome (header axes (counts .at)) (now (samples .entry)) (length (now (bytes .entry)))) ⌝ }
+    ensures { λ _. ⌜ now (bytes .exit) ≡ whenDone (writeOutcome (header axes (counts .at)) (now (samples .entry)) (length (now (bytes .entry)))) (overwrite (fileOf (header axes (counts .at)) (now (samples .entry))) (now (bytes .entry))) (now (bytes .entry)) ⌝ }
+{
+    let given = counts.at;
+    written_of(table_file::write(axes, given, samples, bytes))
+}

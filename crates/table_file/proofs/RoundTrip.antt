@@ -1,0 +1,239 @@
+-- Reading and writing undo each other, by the numbers of a file and their places.
+use mathlib.Core.Path.{_≡_, refl, sym, ap, ap₂, subst, _∙_}
+use mathlib.Core.Bool.{true}
+use mathlib.Core.List.{List, _∷_, _++_, map}
+use Prim.Native.Nat.{ℕ, suc, _+_, _*_, _-_, _≤_, _<_}
+use native.Mathlib.Nat.{le-refl}
+use native.Mathlib.Omega.{arith}
+use borrow.Author.Tests.{ltb-true, ltb-false}
+use lib.Dec.{ltb, lit<}
+use lib.IntN.{ℤ, pos}
+use mir.Syntax.{w32}
+use mir.Val.{SFits}
+use Rattle.arith.proofs.Abs.{sfits-abs}
+use lib.ListN.{length, getD, take, length-append, length-map, List·getD-append, List·getD-eq-default}
+use lib.Seq.{ext-getD, take-all, getD-at, getD-append-add, getD-take, length-take-le}
+use Rattle.lattice.specs.Outcome.{done, firstOf}
+use Rattle.lattice.specs.Digits.{span}
+use Rattle.lattice.proofs.ShapeLaws.{axes-range, counts-each, count-range, count-unused}
+use Rattle.lattice.proofs.RecordsLaws.{limit-each}
+use Rattle.lattice.specs.Buffer.{at, tabulate}
+use Rattle.lattice.specs.Shape.{axesOutcome, countAllowed, countsOutcome}
+use Rattle.lattice.specs.Records.{sampleLimit, limitOutcome}
+use Rattle.lattice.proofs.BufferLaws.{length-tabulate, getD-tabulate, tabulate-getD}
+use Rattle.table_file.specs.Numbers.{numberAt, bytesOfAll, signedOf, unsignedOf}
+use Rattle.table_file.specs.File.{Header, header, sectionOne, sectionTwo, fileOf, axesIn, countIn, headerIn, nodesIn, samplesIn, countOf, nodesOf, writeOutcome, AreBytes, Permitted}
+use Rattle.table_file.proofs.General.{split}
+use Rattle.table_file.proofs.Twos.{unsigned-signed, signed-unsigned, unsigned-below}
+use Rattle.table_file.proofs.NumberLaws.{number-of-all, number-below, all-numbers}
+use Rattle.table_file.proofs.ReadLaws.{count-read, count-absent}
+use Rattle.table_file.proofs.TakenLaws.{Taken}
+use Rattle.table_file.proofs.WriteLaws.{sample-number, length-file, fit-of, fit-size, fit-writes}
+
+-- ---- the numbers of a file, by their places
+
+-- place 0, places 1 to n, place n + 1, and p places from n + 2 on
+by-place : (n p : ℕ) (P : ℕ → Type 0) → P 0 → ((a : ℕ) → a < n → P (1 + a)) → P (1 + n) → ((i : ℕ) → i < p → P (2 + n + i)) → (k : ℕ) → k < 2 + n + p → P k
+by-place n p P first counts many samples k h =
+    split (ltb k 1) (λ t. let e : 0 ≡ k = omega (arith, ltb-true k 1 t) in subst P e first)
+    (λ t. let l = ltb-false k 1 t in split (ltb k (1 + n))
+    (λ u. let e : 1 + (k - 1) ≡ k = omega arith in subst P e (counts (k - 1) (omega (arith, ltb-true k (1 + n) u))))
+    (λ u. let m = ltb-false k (1 + n) u in split (ltb k (2 + n))
+    (λ v. let e : 1 + n ≡ k = omega (arith, ltb-true k (2 + n) v) in subst P e many)
+    (λ v. let o = ltb-false k (2 + n) v in let e : 2 + n + (k - (2 + n)) ≡ k = omega arith in subst P e (samples (k - (2 + n)) (omega arith)))))
+
+module _ (n : ℕ) (cs : List ℕ) (xs : List ℤ) (few : n ≤ length cs) where
+  abbrev numbers : List ℕ
+  numbers = sectionOne (header n cs) ++ sectionTwo xs
+
+  number-axes : getD numbers 0 0 ≡ n
+  unfolding sectionOne
+  number-axes = refl
+
+  number-count : (a : ℕ) → a < n → getD numbers (1 + a) 0 ≡ getD cs a 0
+  unfolding sectionOne
+  number-count a l =
+      let e : 1 + a ≡ suc a = omega arith in
+      ap (λ (k : ℕ). getD numbers k 0) e
+      ∙ List·getD-append (take n cs) (sectionTwo xs) 0 a (omega (arith, length-take-le n cs few))
+      ∙ getD-take n cs a 0 l
+
+  number-many : getD numbers (1 + n) 0 ≡ length xs
+  unfolding sectionOne sectionTwo
+  number-many =
+      let e : 1 + n ≡ suc n = omega arith in
+      ap (λ (k : ℕ). getD numbers k 0) e ∙ getD-at (take n cs) (length xs) (map unsignedOf xs) 0 n (length-take-le n cs few)
+
+  number-sample : (i : ℕ) → getD numbers (2 + n + i) 0 ≡ unsignedOf (at xs i)
+  unfolding sectionOne sectionTwo
+  number-sample i =
+      let e : 2 + n + i ≡ suc (length (take n cs) + suc i) = omega (arith, length-take-le n cs few) in
+      ap (λ (k : ℕ). getD numbers k 0) e ∙ getD-append-add (take n cs) (length xs ∷ map unsignedOf xs) (suc i) 0 ∙ sample-number xs i
+
+  length-numbers : length numbers ≡ 2 + n + length xs
+  unfolding sectionOne sectionTwo
+  length-numbers = omega (arith, length-append (take n cs) (length xs ∷ map unsignedOf xs), length-take-le n cs few, length-map xs unsignedOf)
+
+-- the samples of a file, by their places
+module _ (bytes : List ℕ) where
+  samples-length : length (samplesIn bytes) ≡ nodesIn bytes
+  unfolding samplesIn
+  samples-length = length-tabulate (nodesIn bytes) (λ i. signedOf (numberAt bytes (4 * (2 + axesIn bytes + i))))
+
+  samples-get : (i : ℕ) → i < nodesIn bytes → at (samplesIn bytes) i ≡ signedOf (numberAt bytes (4 * (2 + axesIn bytes + i)))
+  unfolding samplesIn
+  samples-get i l = getD-tabulate (nodesIn bytes) (λ i. signedOf (numberAt bytes (4 * (2 + axesIn bytes + i)))) i (pos 0) l
+
+-- what is below 3 decides three counts, their product and their test
+module _ (f g : ℕ → ℕ) (same : (a : ℕ) → a < 3 → f a ≡ g a) where
+  three-list : tabulate 3 f ≡ tabulate 3 g
+  unfolding tabulate
+  three-list = rw (same 0 (lit< tt), same 1 (lit< tt), same 2 (lit< tt)) refl
+
+  three-span : span 3 f ≡ span 3 g
+  unfolding span
+  three-span = rw (same 0 (lit< tt), same 1 (lit< tt), same 2 (lit< tt)) refl
+
+  three-test : (n : ℕ) → countsOutcome n f ≡ countsOutcome n g
+  unfolding countsOutcome firstOf
+  three-test n = rw (same 0 (lit< tt), same 1 (lit< tt), same 2 (lit< tt)) refl
+
+-- ---- a file that was read is written again
+
+module _ (bytes : List ℕ) (room : ℕ) (small : AreBytes bytes) (t : Taken bytes room) where
+  abbrev n : ℕ
+  n = axesIn bytes
+
+  abbrev counts : List ℕ
+  counts = tabulate 3 (countIn bytes)
+
+  few : n ≤ length counts
+  few = omega (arith, axes-range (axesIn bytes) (t .axes-ok) .1, length-tabulate 3 (countIn bytes))
+
+  counts-get : (a : ℕ) → a < 3 → getD counts a 0 ≡ countIn bytes a
+  counts-get a l = getD-tabulate 3 (countIn bytes) a 0 l
+
+  -- its numbers are those of the sections
+  numbers-are : numbers n counts (samplesIn bytes) few ≡ tabulate (2 + n + nodesIn bytes) (λ k. numberAt bytes (4 * k))
+  numbers-are =
+      ext-getD 0 (numbers n counts (samplesIn bytes) few) (tabulate (2 + n + nodesIn bytes) (λ k. numberAt bytes (4 * k)))
+      (length-numbers n counts (samplesIn bytes) few ∙ ap (λ (p : ℕ). 2 + n + p) (samples-length bytes) ∙ sym (length-tabulate (2 + n + nodesIn bytes) (λ k. numberAt bytes (4 * k))))
+      (λ k h.
+      let l : k < 2 + n + nodesIn bytes = omega (arith, length-numbers n counts (samplesIn bytes) few, samples-length bytes) in
+      number-is-k k l ∙ sym (getD-tabulate (2 + n + nodesIn bytes) (λ k. numberAt bytes (4 * k)) k 0 l))
+    where
+      number-is-k : (k : ℕ) → k < 2 + n + nodesIn bytes → getD (numbers n counts (samplesIn bytes) few) k 0 ≡ numberAt bytes (4 * k)
+      number-is-k = by-place n (nodesIn bytes) (λ k. getD (numbers n counts (samplesIn bytes) few) k 0 ≡ numberAt bytes (4 * k))
+          (number-axes n counts (samplesIn bytes) few)
+          (λ a l. number-count n counts (samplesIn bytes) few a l ∙ counts-get a (omega (arith, axes-range n (t .axes-ok) .1)) ∙ count-read bytes a l)
+          (number-many n counts (samplesIn bytes) few ∙ samples-length bytes ∙ sym (t .counted))
+          (λ i l. number-sample n counts (samplesIn bytes) few i ∙ ap unsignedOf (samples-get bytes i l) ∙ unsigned-signed (numberAt bytes (4 * (2 + n + i))) (number-below bytes small (4 * (2 + n + i))))
+
+  pub written : fileOf (headerIn bytes) (samplesIn bytes) ≡ bytes
+  unfolding fileOf headerIn
+  written =
+      ap bytesOfAll numbers-are
+      ∙ all-numbers bytes small (2 + n + nodesIn bytes) (omega (arith, t .sized))
+      ∙ take-all (4 * (2 + n + nodesIn bytes)) bytes (omega (arith, t .sized))
+
+  -- writing takes it
+  pub writes : (space : ℕ) → length bytes ≤ space → writeOutcome (headerIn bytes) (samplesIn bytes) space ≡ done (length bytes)
+  unfolding headerIn countOf nodesIn nodesOf
+  writes space h =
+      fit-writes (headerIn bytes) (samplesIn bytes) space (record {
+        axes-ok = axes-same;
+        counts-ok = counts-same;
+        counted = samples-length bytes ∙ nodes-same;
+        roomy = subst (λ (l : List ℕ). length l ≤ space) (sym written) h;
+        limited = t .limited;
+      })
+      ∙ ap (λ (l : List ℕ). done (length l)) written
+    where
+      axes-same : axesOutcome (headerIn bytes .axes) ≡ done tt
+      axes-same = t .axes-ok
+
+      counts-same : countsOutcome (headerIn bytes .axes) (countOf (headerIn bytes)) ≡ done tt
+      counts-same = three-test (countOf (headerIn bytes)) (countIn bytes) counts-get n ∙ t .counts-ok
+
+      nodes-same : nodesIn bytes ≡ nodesOf (headerIn bytes)
+      nodes-same = sym (three-span (countOf (headerIn bytes)) (countIn bytes) counts-get)
+
+-- ---- a table that was written is read again
+
+module _ (h : Header) (xs : List ℤ) (ok : Permitted h xs) where
+  abbrev m : ℕ
+  m = h .axes
+
+  abbrev file : List ℕ
+  file = fileOf h xs
+
+  axes-few : m ≤ 3
+  axes-few = axes-range m (ok .axes-ok) .1
+
+  within : m ≤ length (h .counts)
+  within = omega (arith, axes-few, ok .three)
+
+  allowed : (a : ℕ) → a < 3 → countAllowed m (countOf h a) a ≡ true
+  allowed = counts-each m (countOf h) (ok .counts-ok)
+
+  fits : (i : ℕ) → SFits w32 (at xs i)
+  fits i = sfits-abs {w = w32} (at xs i) (omega (arith, limit-each sampleLimit xs (ok .limited) i))
+
+  few-samples : length xs ≤ 262144
+  few-samples = fit-size m (h .counts) xs (length file) (ok .three) (fit-of h xs (length file) ok (le-refl (length file))) .1
+
+  -- every number has 4 bytes
+  numbers-below : (k : ℕ) → getD (numbers m (h .counts) xs within) k 0 < 4294967296
+  unfolding countOf
+  numbers-below k =
+      split (ltb k (2 + m + length xs))
+      (λ t. by-place m (length xs) (λ k. getD (numbers m (h .counts) xs within) k 0 < 4294967296)
+      (omega (arith, number-axes m (h .counts) xs within, axes-few))
+      (λ a l. omega (arith, number-count m (h .counts) xs within a l, count-range m (countOf h a) a (allowed a (omega (arith, axes-few))) .1))
+      (omega (arith, number-many m (h .counts) xs within, few-samples))
+      (λ i l. omega (arith, number-sample m (h .counts) xs within i, unsigned-below (at xs i) (fits i)))
+      k (ltb-true k (2 + m + length xs) t))
+      (λ t. omega (arith, List·getD-eq-default (numbers m (h .counts) xs within) 0 {n = k} (omega (arith, ltb-false k (2 + m + length xs) t, length-numbers m (h .counts) xs within))))
+
+  file-number : (k : ℕ) → numberAt file (4 * k) ≡ getD (numbers m (h .counts) xs within) k 0
+  unfolding fileOf
+  file-number k = number-of-all (numbers m (h .counts) xs within) numbers-below k
+
+  axes-again : axesIn file ≡ m
+  axes-again = file-number 0 ∙ number-axes m (h .counts) xs within
+
+  count-again : (a : ℕ) → a < 3 → countIn file a ≡ countOf h a
+  unfolding countOf
+  count-again a l =
+      split (ltb a m)
+      (λ t.
+      let u = ltb-true a m t in
+      count-read file a (omega (arith, axes-again)) ∙ file-number (1 + a) ∙ number-count m (h .counts) xs within a u)
+      (λ t.
+      let u = ltb-false a m t in
+      count-absent file a (omega (arith, axes-again)) ∙ sym (count-unused m (countOf h a) a (allowed a l) u))
+
+  nodes-again : nodesIn file ≡ length xs
+  unfolding nodesIn nodesOf
+  nodes-again = three-span (countIn file) (countOf h) count-again ∙ sym (ok .counted)
+
+  pub samples-again : samplesIn file ≡ xs
+  samples-again =
+      ext-getD (pos 0) (samplesIn file) xs (samples-length file ∙ nodes-again) (λ i l.
+      samples-get file i (omega (arith, samples-length file))
+      ∙ ap signedOf (ap (λ (k : ℕ). numberAt file (4 * (2 + k + i))) axes-again ∙ file-number (2 + m + i) ∙ number-sample m (h .counts) xs within i)
+      ∙ signed-unsigned (at xs i) (fits i))
+
+  pub header-again : headerIn file ≡ h
+  unfolding headerIn countOf
+  header-again = ap₂ header axes-again (three-list (countIn file) (countOf h) count-again ∙ tabulate-getD (h .counts) 3 0 (ok .three))
+
+  pub taken-again : (room : ℕ) → length xs ≤ room → Taken file room
+  taken-again room r = record {
+    axes-ok = ap axesOutcome axes-again ∙ ok .axes-ok;
+    counts-ok = ap (λ (k : ℕ). countsOutcome k (countIn file)) axes-again ∙ three-test (countIn file) (countOf h) count-again m ∙ ok .counts-ok;
+    counted = ap (λ (k : ℕ). numberAt file (4 * (1 + k))) axes-again ∙ file-number (1 + m) ∙ number-many m (h .counts) xs within ∙ sym nodes-again;
+    sized = omega (arith, length-file m (h .counts) xs within, axes-again, nodes-again);
+    roomy = omega (arith, nodes-again);
+    limited = ap (limitOutcome sampleLimit) samples-again ∙ ok .limited;
+  }

@@ -1,0 +1,126 @@
+-- Numbers written one after the other are the file; what writing tests.
+use mathlib.Core.Path.{_≡_, sym, ap, _∙_}
+use mathlib.Core.List.{List, [], _∷_, _++_, map, append-assoc}
+use Prim.Native.Nat.{ℕ, _+_, _*_, _≤_, _<_}
+use native.Mathlib.Numerals.{add-one}
+use native.Mathlib.Omega.{arith}
+use borrow.Author.Tests.{eqb-true, leb-true, le-leb, eq-eqb}
+use lib.Dec.{leb, eqb}
+use lib.IntN.{ℤ, pos}
+use lib.ListN.{length, getD, take, length-append, length-map, List·getD-map}
+use lib.Seq.{sets, take-suc, length-take-le}
+use Rattle.lattice.specs.Outcome.{done, refuseUnless}
+use Rattle.lattice.specs.Buffer.{at, overwrite}
+use Rattle.lattice.specs.Shape.{count, nodes, axesOutcome, countsOutcome}
+use Rattle.lattice.specs.Records.{sampleLimit, limitOutcome}
+use Rattle.lattice.proofs.OutcomeLaws.{first-done, first-passed, refuse-done, passes}
+use Rattle.table_file.specs.Numbers.{bytesOf, bytesOfAll, unsignedOf}
+use Rattle.table_file.specs.File.{Header, header, sectionOne, sectionTwo, fileOf, countOf, nodesOf, writeCheck, writeOutcome, Permitted}
+use Rattle.table_file.proofs.General.{sets-append, sets-front}
+use Rattle.lattice.proofs.ShapeLaws.{nodes-high}
+use Rattle.table_file.proofs.TakenLaws.{shapeOf, shaped-of}
+use Rattle.table_file.proofs.NumberLaws.{length-all, all-append, all-one}
+
+-- ---- runs of numbers
+
+-- numbers vs from byte `at` on, then ws after them
+sets-all : (vs ws l : List ℕ) (at : ℕ) → sets (sets l at (bytesOfAll vs)) (at + 4 * length vs) (bytesOfAll ws) ≡ sets l at (bytesOfAll (vs ++ ws))
+sets-all vs ws l at =
+    ap (λ (k : ℕ). sets (sets l at (bytesOfAll vs)) (at + k) (bytesOfAll ws)) (sym (length-all vs))
+    ∙ sym (sets-append (bytesOfAll vs) (bytesOfAll ws) l at)
+    ∙ ap (λ (m : List ℕ). sets l at m) (sym (all-append vs ws))
+
+sets-one : (l : List ℕ) (at v : ℕ) → sets l at (bytesOf v) ≡ sets l at (bytesOfAll (v ∷ []))
+sets-one l at v = ap (λ (m : List ℕ). sets l at m) (sym (all-one v))
+
+-- one number more of a list
+pub put-next : (vs l : List ℕ) (at i k : ℕ) → i < length vs → k ≡ at + 4 * i
+    → sets (sets l at (bytesOfAll (take i vs))) k (bytesOf (getD vs i 0)) ≡ sets l at (bytesOfAll (take (i + 1) vs))
+put-next vs l at i k h e =
+    let f : k ≡ at + 4 * length (take i vs) = e ∙ ap (λ (j : ℕ). at + 4 * j) (sym (length-take-le i vs (omega arith))) in
+    sets-one (sets l at (bytesOfAll (take i vs))) k (getD vs i 0)
+    ∙ ap (λ (j : ℕ). sets (sets l at (bytesOfAll (take i vs))) j (bytesOfAll (getD vs i 0 ∷ []))) f
+    ∙ sets-all (take i vs) (getD vs i 0 ∷ []) l at
+    ∙ ap (λ (m : List ℕ). sets l at (bytesOfAll m)) (sym (take-suc vs i 0 h) ∙ ap (λ (j : ℕ). take j vs) (sym (add-one i)))
+
+-- sample i as a number
+pub sample-number : (xs : List ℤ) (i : ℕ) → getD (map unsignedOf xs) i 0 ≡ unsignedOf (at xs i)
+unfolding unsignedOf
+sample-number xs i = List·getD-map unsignedOf xs i (pos 0)
+
+-- ---- the file
+
+module _ (n : ℕ) (cs : List ℕ) (xs : List ℤ) (few : n ≤ length cs) where
+  pub length-file : length (fileOf (header n cs) xs) ≡ 4 * n + 8 + 4 * length xs
+  unfolding fileOf sectionOne sectionTwo
+  length-file =
+      length-all ((n ∷ take n cs) ++ (length xs ∷ map unsignedOf xs))
+      ∙ omega (arith, length-append (take n cs) (length xs ∷ map unsignedOf xs), length-take-le n cs few, length-map xs unsignedOf)
+
+  -- n, the node counts, the number of samples and the samples, each after what is before it
+  pub file-put : (l : List ℕ) → 4 * n + 8 + 4 * length xs ≤ length l
+      → sets (sets (sets (sets l 0 (bytesOf n)) 4 (bytesOfAll (take n cs))) (4 * n + 4) (bytesOf (length xs))) (4 * n + 8) (bytesOfAll (map unsignedOf xs))
+      ≡ overwrite (fileOf (header n cs) xs) l
+  unfolding fileOf sectionOne sectionTwo
+  file-put l h =
+      let us = map unsignedOf xs in
+      let one : List ℕ = n ∷ take n cs in
+      let e : 4 * n + 4 ≡ 0 + 4 * length one = omega (arith, length-take-le n cs few) in
+      let f : 4 * n + 8 ≡ 0 + 4 * length (one ++ (length xs ∷ [])) = omega (arith, length-append (take n cs) (length xs ∷ []), length-take-le n cs few) in
+      ap (λ (m : List ℕ). sets (sets (sets m 4 (bytesOfAll (take n cs))) (4 * n + 4) (bytesOf (length xs))) (4 * n + 8) (bytesOfAll us)) (sets-one l 0 n)
+      ∙ ap (λ (m : List ℕ). sets (sets m (4 * n + 4) (bytesOf (length xs))) (4 * n + 8) (bytesOfAll us)) (sets-all (n ∷ []) (take n cs) l 0)
+      ∙ ap (λ (m : List ℕ). sets m (4 * n + 8) (bytesOfAll us)) (sets-one (sets l 0 (bytesOfAll one)) (4 * n + 4) (length xs))
+      ∙ ap (λ (k : ℕ). sets (sets (sets l 0 (bytesOfAll one)) k (bytesOfAll (length xs ∷ []))) (4 * n + 8) (bytesOfAll us)) e
+      ∙ ap (λ (m : List ℕ). sets m (4 * n + 8) (bytesOfAll us)) (sets-all one (length xs ∷ []) l 0)
+      ∙ ap (λ (k : ℕ). sets (sets l 0 (bytesOfAll (one ++ (length xs ∷ [])))) k (bytesOfAll us)) f
+      ∙ sets-all (one ++ (length xs ∷ [])) us l 0
+      ∙ ap (λ (m : List ℕ). sets l 0 (bytesOfAll (n ∷ m))) (append-assoc (take n cs) (length xs ∷ []) us)
+      ∙ sets-front (fileOf (header n cs) xs) l (omega (arith, length-file))
+
+-- ---- the tests
+
+-- the facts of a table that writing takes into `room` bytes
+pub record Fit (h : Header) (xs : List ℤ) (room : ℕ) : Type 0 where
+  pub axes-ok : axesOutcome (h .axes) ≡ done tt
+  pub counts-ok : countsOutcome (h .axes) (countOf h) ≡ done tt
+  pub counted : length xs ≡ nodesOf h
+  pub roomy : length (fileOf h xs) ≤ room
+  pub limited : limitOutcome sampleLimit xs ≡ done tt
+
+module _ (h : Header) (xs : List ℤ) (room : ℕ) where
+  pub fit : writeCheck h xs room ≡ done tt → Fit h xs room
+  unfolding writeCheck
+  fit e =
+      let size = length (fileOf h xs) in
+      let f = first-done (axesOutcome (h .axes)) _ tt e in
+      let g = first-done (countsOutcome (h .axes) (countOf h)) _ tt (f .1) in
+      let k = first-done (refuseUnless (eqb (length xs) (nodesOf h)) 4 0) _ tt (g .1) in
+      let l = first-done (refuseUnless (leb size room) 9 0) (limitOutcome sampleLimit xs) tt (k .1) in
+      record {
+        axes-ok = f .0;
+        counts-ok = g .0;
+        counted = eqb-true (length xs) (nodesOf h) (refuse-done (eqb (length xs) (nodesOf h)) 4 0 (k .0));
+        roomy = leb-true size room (refuse-done (leb size room) 9 0 (l .0));
+        limited = l .1;
+      }
+
+  pub fit-writes : Fit h xs room → writeOutcome h xs room ≡ done (length (fileOf h xs))
+  unfolding writeOutcome writeCheck
+  fit-writes t =
+      first-passed (writeCheck h xs room) (done (length (fileOf h xs)))
+      (first-passed (axesOutcome (h .axes)) _ (t .axes-ok)
+      ∙ first-passed (countsOutcome (h .axes) (countOf h)) _ (t .counts-ok)
+      ∙ first-passed (refuseUnless (eqb (length xs) (nodesOf h)) 4 0) _ (passes (eqb (length xs) (nodesOf h)) 4 0 (eq-eqb (length xs) (nodesOf h) (t .counted)))
+      ∙ first-passed (refuseUnless (leb (length (fileOf h xs)) room) 9 0) _ (passes (leb (length (fileOf h xs)) room) 9 0 (le-leb (length (fileOf h xs)) room (t .roomy)))
+      ∙ t .limited)
+
+pub fit-of : (h : Header) (xs : List ℤ) (room : ℕ) → Permitted h xs → length (fileOf h xs) ≤ room → Fit h xs room
+fit-of h xs room p r = record { axes-ok = p .axes-ok; counts-ok = p .counts-ok; counted = p .counted; roomy = r; limited = p .limited }
+
+-- sizes that the machine holds
+pub fit-size : (n : ℕ) (cs : List ℕ) (xs : List ℤ) (room : ℕ) → length cs ≡ 3 → Fit (header n cs) xs room → (n ≤ 3) × (length xs ≤ 262144) × (4 * n + 8 + 4 * length xs ≤ room)
+unfolding nodesOf countOf nodes count
+fit-size n cs xs room three t =
+    let s = shaped-of n cs (t .axes-ok) (t .counts-ok) in
+    let few = s .axes-high in
+    (few, omega (arith, t .counted, nodes-high (shapeOf n cs) s), omega (arith, t .roomy, length-file n cs xs (omega (arith, few, three))))

@@ -1,0 +1,88 @@
+-- `put_counts` meets its contract. The invariant: the first a counts stand from byte 4 on.
+use Rattle.table_file.proofs.WriteLaws.{put-next}
+use mathlib.Core.List.{List}
+use lib.ListN.{take}
+use lib.Seq.{sets, length-sets}
+use Rattle.table_file.specs.Numbers.{bytesOf, bytesOfAll}
+use mathlib.Core.Path.{_≡_, refl, ap, _∙_}
+use Prim.Native.Nat.{ℕ, _≤_, _+_, _-_, _*_}
+use native.Mathlib.Omega.{arith}
+use lib.ListN.{length, getD}
+use denote.Ref.{now}
+use Rattle.table_file.proofs.put_counts.Statement.{statement}
+use Rattle.table_file.proofs.put_counts.Tie as tie
+
+abbrev Inv-loop : tie.InvT-loop
+Inv-loop bytes₀ n counts a₀ bytes a = (a ≤ n) × (bytes ≡ sets bytes₀ 4 (bytesOfAll (take a counts)))
+
+abbrev μ-loop : tie.MeasureT-loop
+μ-loop bytes₀ n counts a₀ bytes a = n - a
+
+loop-holds : tie.Need-loop-holds Inv-loop μ-loop
+unfolding bytesOfAll
+loop-holds c = (omega arith, refl)
+
+mul-put-number : tie.Need-mul-put-number Inv-loop μ-loop
+mul-put-number c = omega arith
+
+add-put-number : tie.Need-add-put-number Inv-loop μ-loop
+add-put-number c = omega arith
+
+mul-put-number-2 : tie.Need-mul-put-number-2 Inv-loop μ-loop
+mul-put-number-2 c = omega arith
+
+array-read-put-number : tie.Need-array-read-put-number Inv-loop μ-loop
+array-read-put-number c = omega arith
+
+put-number-requires : tie.Need-put-number-requires Inv-loop μ-loop
+put-number-requires c κs =
+    let a = c .before .before .before .before .args in
+    let l = c .before .before .loop in
+    omega (arith, ap length (l .inv .1), length-sets (a .bytes .now) 4 (bytesOfAll (take (l .a) (a .t3))))
+
+add-a : tie.Need-add-a Inv-loop μ-loop
+add-a c = omega arith
+
+loop-less : tie.Need-loop-less Inv-loop μ-loop
+loop-less c = omega arith
+
+loop-again : tie.Need-loop-again Inv-loop μ-loop
+loop-again c =
+    let b = c .before .before .before .before .before .before .before in
+    let a = b .args in
+    let l = c .before .before .before .before .before .loop in (
+      omega arith,
+      c .before .before .put-number .ensures
+          ∙ ap (λ (m : List ℕ). sets m (4 + 4 * l .a) (bytesOf (getD (a .t3) (l .a) 0))) (l .inv .1)
+          ∙ put-next (a .t3) (a .bytes .now) 4 (l .a) (4 + 4 * l .a) (omega (arith, b .good .1 .1 .0)) refl,
+    )
+
+same-length : tie.Need-same-length Inv-loop μ-loop
+same-length c =
+    let a = c .before .before .before .args in
+    let l = c .before .loop in
+    ap length (l .inv .1) ∙ length-sets (a .bytes .now) 4 (bytesOfAll (take (l .a) (a .t3)))
+
+returns : tie.Need-returns Inv-loop μ-loop
+returns c =
+    let a = c .before .before .before .args in
+    let e : c .before .loop .a ≡ a .n = omega arith in
+    c .before .loop .inv .1 ∙ ap (λ (k : ℕ). sets (a .bytes .now) 4 (bytesOfAll (take k (a .t3)))) e
+
+pub put-counts-spec : {M : Type 1} → statement M
+put-counts-spec =
+    tie.close
+    (tie.spec
+    Inv-loop
+    μ-loop
+    loop-holds
+    mul-put-number
+    add-put-number
+    mul-put-number-2
+    array-read-put-number
+    put-number-requires
+    add-a
+    loop-less
+    loop-again
+    same-length
+    returns)

@@ -1,0 +1,100 @@
+-- `put_samples` meets its contract. The invariant: the first i samples stand from byte `start` on.
+use lib.ListN.{length-map}
+use Rattle.lattice.specs.Buffer.{at}
+use lib.Seq.{take-all}
+use Rattle.arith.proofs.Machine.{element}
+use Rattle.table_file.proofs.WriteLaws.{put-next, sample-number}
+use mathlib.Core.List.{List, map}
+use lib.ListN.{take}
+use lib.Seq.{sets, length-sets}
+use Rattle.table_file.specs.Numbers.{bytesOf, bytesOfAll, unsignedOf}
+use mathlib.Core.Path.{_≡_, refl, sym, ap, _∙_}
+use Prim.Native.Nat.{ℕ, _≤_, _+_, _-_, _*_}
+use native.Mathlib.Omega.{arith}
+use lib.ListN.{length}
+use denote.Ref.{now}
+use borrow.Author.Needs.{needs}
+use Rattle.table_file.proofs.put_samples.Statement.{statement}
+use Rattle.table_file.proofs.put_samples.Tie as tie
+
+abbrev Inv-loop : tie.InvT-loop
+Inv-loop bytes₀ start samples at₀ i₀ bytes at i =
+    (i ≤ length samples) × (at ≡ start + 4 * i) × (bytes ≡ sets bytes₀ start (bytesOfAll (take i (map unsignedOf samples))))
+
+abbrev μ-loop : tie.MeasureT-loop
+μ-loop bytes₀ start samples at₀ i₀ bytes at i = length samples - i
+
+loop-holds : tie.Need-loop-holds Inv-loop μ-loop
+unfolding bytesOfAll
+loop-holds c = (omega arith, omega arith, refl)
+
+mul-x : tie.Need-mul-x Inv-loop μ-loop
+mul-x c = omega arith
+
+shared-slice-copy-out-x : tie.Need-shared-slice-copy-out-x Inv-loop μ-loop
+shared-slice-copy-out-x c = omega arith
+
+unsigned-requires : tie.Need-unsigned-requires Inv-loop μ-loop
+unsigned-requires c κs = search needs
+
+put-number-requires : tie.Need-put-number-requires Inv-loop μ-loop
+put-number-requires c κs =
+    let a = c .before .before .before .before .before .before .args in
+    let l = c .before .before .before .before .loop in
+    omega (arith, ap length (l .inv .2), length-sets (a .bytes .now) (a .start) (bytesOfAll (take (l .i) (map unsignedOf (a .samples .now)))))
+
+add-at : tie.Need-add-at Inv-loop μ-loop
+add-at c = omega arith
+
+add-i : tie.Need-add-i Inv-loop μ-loop
+add-i c = omega arith
+
+loop-less : tie.Need-loop-less Inv-loop μ-loop
+loop-less c = omega arith
+
+loop-again : tie.Need-loop-again Inv-loop μ-loop
+loop-again c =
+    let a = c .before .before .before .before .before .before .before .before .before .args in
+    let l = c .before .before .before .before .before .before .before .loop in
+    let us = map unsignedOf (a .samples .now) in (
+      omega arith,
+      omega arith,
+      c .before .before .put-number .ensures
+          ∙ ap (λ (m : List ℕ). sets m (l .at) (bytesOf (c .before .before .before .unsigned .result))) (l .inv .2)
+          ∙ ap (λ (v : ℕ). sets (sets (a .bytes .now) (a .start) (bytesOfAll (take (l .i) us))) (l .at) (bytesOf v))
+          (c .before .before .before .unsigned .ensures
+          ∙ ap unsignedOf (element (at (a .samples .now) (l .i)) (c .before .before .before .before .before .x .given))
+          ∙ sym (sample-number (a .samples .now) (l .i)))
+          ∙ put-next us (a .bytes .now) (a .start) (l .i) (l .at) (omega (arith, length-map (a .samples .now) unsignedOf)) (l .inv .1),
+    )
+
+same-length : tie.Need-same-length Inv-loop μ-loop
+same-length c =
+    let a = c .before .before .before .args in
+    let l = c .before .loop in
+    ap length (l .inv .2) ∙ length-sets (a .bytes .now) (a .start) (bytesOfAll (take (l .i) (map unsignedOf (a .samples .now))))
+
+returns : tie.Need-returns Inv-loop μ-loop
+returns c =
+    let a = c .before .before .before .args in
+    let us = map unsignedOf (a .samples .now) in
+    c .before .loop .inv .2
+    ∙ ap (λ (m : List ℕ). sets (a .bytes .now) (a .start) (bytesOfAll m)) (take-all (c .before .loop .i) us (omega (arith, length-map (a .samples .now) unsignedOf)))
+
+pub put-samples-spec : {M : Type 1} → statement M
+put-samples-spec =
+    tie.close
+    (tie.spec
+    Inv-loop
+    μ-loop
+    loop-holds
+    mul-x
+    shared-slice-copy-out-x
+    unsigned-requires
+    put-number-requires
+    add-at
+    add-i
+    loop-less
+    loop-again
+    same-length
+    returns)

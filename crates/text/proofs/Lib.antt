@@ -1,0 +1,5 @@
+pub mod General
+pub mod DecimalLaws
+pub mod LineLaws
+pub mod Theorems
+pub mod Examples

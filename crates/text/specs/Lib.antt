@@ -1,0 +1,3 @@
+-- Reading order: Decimal, Lines.
+pub mod Decimal
+pub mod Lines

@@ -1,0 +1,98 @@
+//! Refusals.
+
+use lukhtari::{Refusal, Shape};
+
+pub type Answer<T> = Result<T, Refusal>;
+
+pub fn refuse<T>(number: u32, place: usize) -> Answer<T> {
+    let place = place as u64;
+    Err(Refusal { number, place })
+}
+
+// 1, 2, 3
+pub fn check_shape(shape: Shape) -> Answer<()> {
+    if shape.axes < 1 || shape.axes > 3 {
+        return refuse(1, 0);
+    }
+    if shape.degree != 3 && shape.degree != 5 {
+        return refuse(2, 0);
+    }
+    for axis in 0..3 {
+        let count = shape.counts[axis];
+        let allowed = if axis < shape.axes as usize {
+            (2..=64).contains(&count)
+        } else {
+            count == 1
+        };
+        if !allowed {
+            return refuse(3, axis);
+        }
+    }
+    Ok(())
+}
+
+// Entries of a record of an accepted shape.
+pub fn record(shape: Shape) -> usize {
+    let m = shape.degree as usize / 2 + 1;
+    m.pow(shape.axes)
+}
+
+pub fn nodes(shape: Shape) -> usize {
+    let [x, y, z] = shape.counts.map(|count| count as usize);
+    x * y * z
+}
+
+// 1, 2, 3, 4, 12
+pub fn check_query(shape: Shape, records: &[i32], slope: Option<u32>) -> Answer<()> {
+    check_shape(shape)?;
+    if records.len() != nodes(shape) * record(shape) {
+        return refuse(4, 0);
+    }
+    match slope {
+        Some(axis) if axis >= shape.axes => refuse(12, 0),
+        _ => Ok(()),
+    }
+}
+
+// 14
+pub fn check_cell(shape: Shape, cell: [u32; 3]) -> Answer<()> {
+    for axis in 0..3 {
+        let used = axis < shape.axes as usize;
+        let last = if used { shape.counts[axis] - 2 } else { 0 };
+        if cell[axis] > last {
+            return refuse(14, axis);
+        }
+    }
+    Ok(())
+}
+
+// 11 for in-cell steps
+pub fn check_u(shape: Shape, u: [u32; 3]) -> Answer<()> {
+    for axis in 0..3 {
+        let last = if axis < shape.axes as usize { 256 } else { 0 };
+        if u[axis] > last {
+            return refuse(11, axis);
+        }
+    }
+    Ok(())
+}
+
+// 11 for one step, else its cell and in-cell step
+pub fn locate(shape: Shape, axis: usize, step: i64) -> Answer<(u32, u32)> {
+    let used = axis < shape.axes as usize;
+    let cells = if used { shape.counts[axis] - 1 } else { 0 };
+    if step < 0 || step > 256 * cells as i64 {
+        return refuse(11, axis);
+    }
+    let cell = (step as u32 / 256).min(cells.saturating_sub(1));
+    Ok((cell, step as u32 - 256 * cell))
+}
+
+// 5: the first entry of a record beyond its limit.
+#[cold]
+pub fn first_beyond(record: &[i32], limits: &[i32], start: usize) -> Refusal {
+    let pairs = record.iter().zip(limits);
+    let within = pairs.take_while(|(entry, limit)| entry.unsigned_abs() <= **limit as u32);
+    let place = (start + within.count()) as u64;
+    Refusal { number: 5, place }
+}

@@ -1,0 +1,8 @@
+//! Hand-written Rust of the same calls, with all their checks.
+
+pub mod checks;
+pub mod conversion;
+pub mod estimation;
+pub mod method;
+pub mod query;
+mod stages;

@@ -1,0 +1,24 @@
+//! The library's calls beside hand-written Rust of the same whole calls, the published method in
+//! f64, and LittleCMS where it is installed. All times are of one run, in nanoseconds a call; in
+//! brackets is the library's time divided by the other's.
+
+#![allow(dead_code)]
+
+mod clock;
+mod estimation;
+mod hand;
+mod inputs;
+mod report;
+
+use std::env;
+
+// All parts, or those named by the arguments.
+pub fn run() {
+    let parts: [(&str, fn()); 1] = [("estimation", estimation::run)];
+    let named: Vec<String> = env::args().skip(1).collect();
+    for (name, part) in parts {
+        if named.is_empty() || named.iter().any(|wanted| wanted == name) {
+            part();
+        }
+    }
+}

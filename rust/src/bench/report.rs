@@ -1,0 +1,30 @@
+//! Printing.
+
+// A heading and the names of the columns.
+pub fn heading(title: &str, columns: &[&str]) {
+    println!("\n{title}");
+    print!("{:<44}", "");
+    for column in columns {
+        print!("{column:>18}");
+    }
+    println!();
+}
+
+// One line: the library's time, then each other time with the library's time divided by it.
+//
+// A ratio below 1 means that the library is the faster one.
+pub fn line(name: &str, times: &[f64]) {
+    print!("{name:<44}{:>18}", nanoseconds(times[0]));
+    for time in &times[1..] {
+        let ratio = format!("{} ({:.2})", nanoseconds(*time), times[0] / time);
+        print!("{ratio:>18}");
+    }
+    println!();
+}
+
+fn nanoseconds(time: f64) -> String {
+    match time {
+        time if time < 10_000.0 => format!("{time:.1}"),
+        time => format!("{time:.0}"),
+    }
+}

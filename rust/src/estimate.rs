@@ -1,0 +1,33 @@
+//! Records from samples.
+
+use crate::answer::answer;
+use crate::{ffi, Refusal, Shape};
+
+/// Writes all records of a table, estimated from its samples, to the front of `records`.
+///
+/// Refusals in order: 1, 2, 3, 4, 9, 5.
+///
+/// ```
+/// use lukhtari::{estimate, Refusal, Shape};
+/// let shape = Shape { axes: 1, degree: 3, counts: [2, 1, 1] };
+/// let mut records = [0; 4];
+/// estimate(shape, &[0, 100], &mut records)?;
+/// assert_eq!(records, [0, 100, 100, 100]);
+///
+/// let refusal = estimate(shape, &[0, 32769], &mut records).unwrap_err();
+/// assert_eq!(refusal, Refusal { number: 5, place: 1 });
+/// # Ok::<(), Refusal>(())
+/// ```
+pub fn estimate(shape: Shape, samples: &[i32], records: &mut [i32]) -> Result<(), Refusal> {
+    // SAFETY: both slices are lent for the call, with their lengths.
+    let done = unsafe {
+        ffi::lukhtari_estimate(
+            shape,
+            samples.as_ptr(),
+            samples.len(),
+            records.as_mut_ptr(),
+            records.len(),
+        )
+    };
+    answer(done.number, done.place, ())
+}

@@ -1,0 +1,83 @@
+//! The table file.
+
+use crate::answer::answer;
+use crate::{ffi, Refusal};
+
+/// Number of axes and node counts of a file that was read.
+#[derive(Clone, Copy, Debug, PartialEq, Eq)]
+pub struct Table {
+    pub axes: u32,
+    /// 1 on unused axes
+    pub counts: [u32; 3],
+}
+
+impl Table {
+    /// Number of samples.
+    pub fn nodes(&self) -> usize {
+        self.counts.iter().map(|&count| count as usize).product()
+    }
+}
+
+/// Reads a table file and writes its samples to the front of `samples`.
+///
+/// Refusals in byte order: 6, 1, 3, 8, 6, 7, then 9, 5.
+///
+/// ```
+/// use lukhtari::{read, Refusal};
+/// let bytes = [1, 0, 0, 0, 2, 0, 0, 0, 2, 0, 0, 0, 0, 0, 0, 0, 100, 0, 0, 0];
+/// let mut samples = [0; 2];
+/// let table = read(&bytes, &mut samples)?;
+/// assert_eq!((table.axes, table.counts), (1, [2, 1, 1]));
+/// assert_eq!(samples, [0, 100]);
+///
+/// let refusal = read(&bytes[..19], &mut samples).unwrap_err();
+/// assert_eq!(refusal, Refusal { number: 6, place: 19 });
+/// # Ok::<(), Refusal>(())
+/// ```
+pub fn read(bytes: &[u8], samples: &mut [i32]) -> Result<Table, Refusal> {
+    // SAFETY: both slices are lent for the call, with their lengths.
+    let result = unsafe {
+        ffi::lukhtari_read(
+            bytes.as_ptr(),
+            bytes.len(),
+            samples.as_mut_ptr(),
+            samples.len(),
+        )
+    };
+    let (axes, counts) = (result.axes, result.counts);
+    answer(result.number, result.place, Table { axes, counts })
+}
+
+/// Writes a table file to the front of `bytes` and returns its length.
+///
+/// Refusals in order: 1, 3, 4, 9, 5.
+///
+/// ```
+/// use lukhtari::{write, Refusal};
+/// let mut bytes = [0; 24];
+/// assert_eq!(write(1, [2, 1, 1], &[0, 100], &mut bytes)?, 20);
+/// assert_eq!(bytes[16..20], [100, 0, 0, 0]);
+///
+/// let refusal = write(1, [2, 1, 2], &[0, 100], &mut bytes).unwrap_err();
+/// assert_eq!(refusal, Refusal { number: 3, place: 2 });
+/// # Ok::<(), Refusal>(())
+/// ```
+pub fn write(
+    axes: u32,
+    counts: [u32; 3],
+    samples: &[i32],
+    bytes: &mut [u8],
+) -> Result<usize, Refusal> {
+    // SAFETY: both slices are lent for the call, with their lengths.
+    let result = unsafe {
+        ffi::lukhtari_write(
+            axes,
+            ffi::Index { at: counts },
+            samples.as_ptr(),
+            samples.len(),
+            bytes.as_mut_ptr(),
+            bytes.len(),
+        )
+    };
+    answer(result.number, result.place, result.length as usize)
+}

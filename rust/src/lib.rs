@@ -1,0 +1,24 @@
+//! Hermite interpolation on lattices of one to three axes, cubic or quintic, in whole numbers.
+//!
+//! A table is a [`Shape`] with one sample for each node. Estimation makes each node's record from
+//! the samples; doses and slopes are then asked for by table position, by cell or by float. Every
+//! call either answers or gives a [`Refusal`] with its number and place, and a refused call
+//! leaves every lent buffer as it was. All calls are made by the static library `liblukhtari.a`.
+//!
+//! Samples, records and coefficients stand in slices with x fastest. A position counts 256 steps
+//! for each cell. Arrays of three hold one number for each axis, x first, and 0 on unused axes
+//! (node counts hold 1 there).
+
+mod answer;
+pub mod ffi;
+mod refusal;
+mod shape;
+
+pub use ffi::Shape;
+pub use refusal::Refusal;
+
+mod estimate;
+pub use estimate::estimate;
+
+mod file;
+pub use file::{read, write, Table};

@@ -1,0 +1,7 @@
+//! Benchmarks: run with `cargo run --release`.
+
+mod bench;
+
+fn main() {
+    bench::run();
+}

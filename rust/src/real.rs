@@ -1,0 +1,57 @@
+//! Doses and slopes by float.
+
+use crate::answer::answer;
+use crate::{ffi, Refusal, Shape};
+
+fn float_position([x, y, z]: [f32; 3]) -> ffi::FloatPosition {
+    ffi::FloatPosition { x, y, z }
+}
+
+/// Dose at a position in cells, taken to the nearest of 256 steps a cell.
+///
+/// Refusals in order: 1, 2, 3, 4, then 10 and 11 on each axis, 5.
+///
+/// ```
+/// use lukhtari::{dose_float, estimate, Refusal, Shape};
+/// let shape = Shape { axes: 1, degree: 3, counts: [2, 1, 1] };
+/// let mut records = [0; 4];
+/// estimate(shape, &[0, 100], &mut records)?;
+/// assert_eq!(dose_float(shape, &records, [0.25, 0.0, 0.0])?, 20.0);
+///
+/// let refusal = dose_float(shape, &records, [f32::NAN, 0.0, 0.0]).unwrap_err();
+/// assert_eq!(refusal, Refusal { number: 10, place: 0 });
+/// # Ok::<(), Refusal>(())
+/// ```
+pub fn dose_float(shape: Shape, records: &[i32], position: [f32; 3]) -> Result<f32, Refusal> {
+    let position = float_position(position);
+    // SAFETY: the slice is lent for the call, with its length.
+    let result =
+        unsafe { ffi::lukhtari_dose_float(shape, records.as_ptr(), records.len(), position) };
+    answer(result.number, result.place, result.value)
+}
+
+/// Slope along an axis at a position in cells, taken to the nearest of 256 steps a cell.
+///
+/// Refusals in order: 1, 2, 3, 4, 12, then 10 and 11 on each axis, 5.
+///
+/// ```
+/// use lukhtari::{estimate, slope_float, Refusal, Shape};
+/// let shape = Shape { axes: 1, degree: 3, counts: [2, 1, 1] };
+/// let mut records = [0; 4];
+/// estimate(shape, &[0, 100], &mut records)?;
+/// assert_eq!(slope_float(shape, &records, [0.5, 0.0, 0.0], 0)?, 125.0);
+/// # Ok::<(), Refusal>(())
+/// ```
+pub fn slope_float(
+    shape: Shape,
+    records: &[i32],
+    position: [f32; 3],
+    axis: u32,
+) -> Result<f32, Refusal> {
+    let position = float_position(position);
+    // SAFETY: the slice is lent for the call, with its length.
+    let result = unsafe {
+        ffi::lukhtari_slope_float(shape, records.as_ptr(), records.len(), position, axis)
+    };
+    answer(result.number, result.place, result.value)
+}

@@ -1,0 +1,101 @@
+//! Doses and slopes by position and by cell.
+
+use crate::answer::answer;
+use crate::{ffi, Refusal, Shape};
+
+/// Dose at a table position, in units.
+///
+/// Refusals in order: 1, 2, 3, 4, 11, 5.
+///
+/// ```
+/// use lukhtari::{dose, estimate, Refusal, Shape};
+/// let shape = Shape { axes: 1, degree: 3, counts: [2, 1, 1] };
+/// let mut records = [0; 4];
+/// estimate(shape, &[0, 100], &mut records)?;
+/// assert_eq!(dose(shape, &records, [64, 0, 0])?, 20);
+///
+/// let refusal = dose(shape, &records, [257, 0, 0]).unwrap_err();
+/// assert_eq!(refusal, Refusal { number: 11, place: 0 });
+/// # Ok::<(), Refusal>(())
+/// ```
+pub fn dose(shape: Shape, records: &[i32], position: [i32; 3]) -> Result<i32, Refusal> {
+    let position = ffi::Position { at: position };
+    // SAFETY: the slice is lent for the call, with its length.
+    let result = unsafe { ffi::lukhtari_dose(shape, records.as_ptr(), records.len(), position) };
+    answer(result.number, result.place, result.value)
+}
+
+/// Slope along an axis at a table position, in units per cell.
+///
+/// Refusals in order: 1, 2, 3, 4, 12, 11, 5.
+///
+/// ```
+/// use lukhtari::{estimate, slope, Refusal, Shape};
+/// let shape = Shape { axes: 1, degree: 3, counts: [2, 1, 1] };
+/// let mut records = [0; 4];
+/// estimate(shape, &[0, 100], &mut records)?;
+/// assert_eq!(slope(shape, &records, [128, 0, 0], 0)?, 125);
+///
+/// let refusal = slope(shape, &records, [128, 0, 0], 1).unwrap_err();
+/// assert_eq!(refusal, Refusal { number: 12, place: 0 });
+/// # Ok::<(), Refusal>(())
+/// ```
+pub fn slope(shape: Shape, records: &[i32], position: [i32; 3], axis: u32) -> Result<i32, Refusal> {
+    let position = ffi::Position { at: position };
+    // SAFETY: the slice is lent for the call, with its length.
+    let result =
+        unsafe { ffi::lukhtari_slope(shape, records.as_ptr(), records.len(), position, axis) };
+    answer(result.number, result.place, result.value)
+}
+
+/// Dose at the steps `u` within a cell, in units.
+///
+/// Refusals in order: 1, 2, 3, 4, 14, 11, 5.
+///
+/// ```
+/// use lukhtari::{dose_in_cell, estimate, Refusal, Shape};
+/// let shape = Shape { axes: 1, degree: 3, counts: [2, 1, 1] };
+/// let mut records = [0; 4];
+/// estimate(shape, &[0, 100], &mut records)?;
+/// assert_eq!(dose_in_cell(shape, &records, [0, 0, 0], [256, 0, 0])?, 100);
+/// # Ok::<(), Refusal>(())
+/// ```
+pub fn dose_in_cell(
+    shape: Shape,
+    records: &[i32],
+    cell: [u32; 3],
+    u: [u32; 3],
+) -> Result<i32, Refusal> {
+    let (cell, u) = (ffi::Index { at: cell }, ffi::Index { at: u });
+    // SAFETY: the slice is lent for the call, with its length.
+    let result =
+        unsafe { ffi::lukhtari_dose_in_cell(shape, records.as_ptr(), records.len(), cell, u) };
+    answer(result.number, result.place, result.value)
+}
+
+/// Slope along an axis at the steps `u` within a cell, in units per cell.
+///
+/// Refusals in order: 1, 2, 3, 4, 12, 14, 11, 5.
+///
+/// ```
+/// use lukhtari::{estimate, slope_in_cell, Refusal, Shape};
+/// let shape = Shape { axes: 1, degree: 3, counts: [2, 1, 1] };
+/// let mut records = [0; 4];
+/// estimate(shape, &[0, 100], &mut records)?;
+/// assert_eq!(slope_in_cell(shape, &records, [0, 0, 0], [0, 0, 0], 0)?, 50);
+/// # Ok::<(), Refusal>(())
+/// ```
+pub fn slope_in_cell(
+    shape: Shape,
+    records: &[i32],
+    cell: [u32; 3],
+    u: [u32; 3],
+    axis: u32,
+) -> Result<i32, Refusal> {
+    let (cell, u) = (ffi::Index { at: cell }, ffi::Index { at: u });
+    // SAFETY: the slice is lent for the call, with its length.
+    let result = unsafe {
+        ffi::lukhtari_slope_in_cell(shape, records.as_ptr(), records.len(), cell, u, axis)
+    };
+    answer(result.number, result.place, result.value)
+}

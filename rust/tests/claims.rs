@@ -1,0 +1,196 @@
+//! The third demand, about estimation and then a query: agreement, locality and no gap.
+//! (Distances: see `random.rs` and `adversarial.rs`.)
+
+mod common;
+mod model;
+
+use common::*;
+use lukhtari::*;
+use model::query::Where;
+
+// A table whose records the library estimated.
+#[derive(Clone)]
+struct Estimated {
+    shape: Shape,
+    records: Vec<i32>,
+}
+
+impl Estimated {
+    fn new(shape: Shape, samples: &[i32]) -> Estimated {
+        let mut records = vec![0; shape.entries()];
+        estimate(shape, samples, &mut records).expect("accepted table");
+        Estimated { shape, records }
+    }
+
+    // The dose, or the slope along an axis, by cell or by float.
+    fn ask(&self, at: Where, along: Option<u32>) -> Result<i32, Refusal> {
+        let (shape, records) = (self.shape, &self.records[..]);
+        match (at, along) {
+            (Where::Position(p), None) => dose(shape, records, p),
+            (Where::Position(p), Some(axis)) => slope(shape, records, p, axis),
+            (Where::Cell(cell, u), None) => dose_in_cell(shape, records, cell, u),
+            (Where::Cell(cell, u), Some(axis)) => slope_in_cell(shape, records, cell, u, axis),
+            (Where::Float(p), None) => dose_float(shape, records, p).map(|x| x as i32),
+            (Where::Float(p), Some(axis)) => slope_float(shape, records, p, axis).map(|x| x as i32),
+        }
+    }
+}
+
+// None for a dose, and each axis of a slope.
+fn kinds(axes: u32) -> impl Iterator<Item = Option<u32>> {
+    (0..axes).map(Some).chain([None])
+}
+
+// The cells that contain a point, with its steps in them.
+fn cells_at(shape: Shape, point: [u32; 3]) -> Vec<([u32; 3], [u32; 3])> {
+    let holds = |cell: &[u32; 3]| {
+        (0..shape.axes as usize).all(|axis| {
+            let low = 256 * cell[axis];
+            (low..=low + 256).contains(&point[axis])
+        })
+    };
+    let cells = cells(shape).into_iter().filter(holds);
+    let with_u = |cell: [u32; 3]| (cell, [0, 1, 2].map(|axis| point[axis] - 256 * cell[axis]));
+    cells.map(with_u).collect()
+}
+
+#[test]
+fn all_cells_that_contain_a_point_agree() {
+    let mut random = Random::new(1);
+    for (axes, degree) in KINDS {
+        for _ in 0..40 {
+            let shape = random.shape(axes, degree, 4);
+            let samples = random.samples(shape.nodes());
+            let table = Estimated::new(shape, &samples);
+            for _ in 0..20 {
+                let point = shared_point(&mut random, shape);
+                let steps = Where::Position(point.map(|step| step as i32));
+                let floats = Where::Float(point.map(|step| step as f32 / 256.0));
+                for along in kinds(axes) {
+                    let answer = table.ask(steps, along).expect("accepted query");
+                    assert_eq!(table.ask(floats, along), Ok(answer));
+                    for (cell, u) in cells_at(shape, point) {
+                        let here = table.ask(Where::Cell(cell, u), along);
+                        assert_eq!(here, Ok(answer), "{shape:?} {point:?} {cell:?}");
+                    }
+                }
+            }
+        }
+    }
+}
+
+// A point with about every second step at a node.
+fn shared_point(random: &mut Random, shape: Shape) -> [u32; 3] {
+    let mut step = |axis: usize| {
+        let cells = shape.counts[axis] as i64 - 1;
+        let node = 256 * random.range(0, cells);
+        let inside = random.range(0, 256 * cells);
+        random.pick(&[node, inside]) as u32
+    };
+    [0, 1, 2].map(&mut step)
+}
+
+// The node is within the block of the cell: one below it to two above it on every used axis.
+fn in_block(shape: Shape, cell: [u32; 3], node: usize) -> bool {
+    let [cx, cy, _] = shape.counts.map(|count| count as usize);
+    let at = [node % cx, node / cx % cy, node / cx / cy];
+    (0..shape.axes as usize).all(|axis| {
+        let low = cell[axis] as usize;
+        at[axis] + 1 >= low && at[axis] <= low + 2
+    })
+}
+
+#[test]
+fn samples_outside_the_block_do_not_count() {
+    let mut random = Random::new(2);
+    for (axes, degree) in KINDS {
+        for _ in 0..40 {
+            let shape = random.shape(axes, degree, 7);
+            let samples = random.samples(shape.nodes());
+            let cell = random.pick(&cells(shape));
+            let mut other = random.samples(shape.nodes());
+            for node in 0..other.len() {
+                if in_block(shape, cell, node) {
+                    other[node] = samples[node];
+                }
+            }
+            let tables = [samples, other].map(|samples| Estimated::new(shape, &samples));
+            for _ in 0..20 {
+                let mut u = [0; 3];
+                u[..axes as usize].fill_with(|| random.below(257) as u32);
+                for along in kinds(axes) {
+                    let [one, two] = tables
+                        .each_ref()
+                        .map(|t| t.ask(Where::Cell(cell, u), along));
+                    assert_eq!(one, two, "{shape:?} {cell:?} {u:?}");
+                }
+            }
+        }
+    }
+}
+
+#[test]
+fn every_sample_of_the_block_counts() {
+    // A change anywhere in the block shows in some dose or slope of a quintic cell.
+    let shape = cube(2, 5, 6);
+    let samples = vec![0; shape.nodes()];
+    let cell = [2, 2, 0];
+    for node in (0..shape.nodes()).filter(|&node| in_block(shape, cell, node)) {
+        let mut other = samples.clone();
+        other[node] = 32768;
+        let table = Estimated::new(shape, &other);
+        let shows = (0..=256).step_by(16).any(|x| {
+            let ask = |y| table.ask(Where::Cell(cell, [x, y, 0]), None);
+            (0..=256).step_by(16).any(|y| ask(y) != Ok(0))
+        });
+        assert!(shows, "node {node}");
+    }
+}
+
+#[test]
+fn every_step_has_an_answer() {
+    let mut random = Random::new(3);
+    for degree in [3, 5] {
+        let shape = shape(1, degree, [64, 1, 1]);
+        let table = Estimated::new(shape, &random.samples(64));
+        for p in 0..=16128 {
+            for along in kinds(1) {
+                assert!(table.ask(Where::Position([p, 0, 0]), along).is_ok());
+                let float = [p as f32 / 256.0, 0.0, 0.0];
+                assert!(table.ask(Where::Float(float), along).is_ok());
+            }
+        }
+        let shape = cube(2, degree, 2);
+        let table = Estimated::new(shape, &random.samples(4));
+        for x in 0..=256 {
+            for y in 0..=256 {
+                for along in kinds(2) {
+                    let at = Where::Cell([0; 3], [x, y, 0]);
+                    assert!(table.ask(at, along).is_ok());
+                }
+            }
+        }
+    }
+}
+
+#[test]
+fn every_coarse_step_of_a_cube_has_an_answer() {
+    let mut random = Random::new(4);
+    for degree in [3, 5] {
+        let shape = cube(3, degree, 3);
+        let samples = (0..27)
+            .map(|_| random.pick(&[32768, -32768]))
+            .collect::<Vec<i32>>();
+        let table = Estimated::new(shape, &samples);
+        let steps: Vec<i32> = (0..=512).filter(|p| p % 32 < 2 || p % 32 == 31).collect();
+        for &x in &steps {
+            for &y in &steps {
+                for z in [0, 1, 100, 255, 256, 257, 511, 512] {
+                    for along in kinds(3) {
+                        assert!(table.ask(Where::Position([x, y, z]), along).is_ok());
+                    }
+                }
+            }
+        }
+    }
+}

@@ -1,0 +1,291 @@
+//! What the tests share: random numbers, shapes, guarded buffers and pairs of faults.
+
+#![allow(dead_code)]
+
+use crate::model;
+use lukhtari::Shape;
+use model::query::Where;
+use std::fmt::Debug;
+
+// Splitmix64: seeded and reproducible.
+#[derive(Clone)]
+pub struct Random(u64);
+
+impl Random {
+    pub fn new(seed: u64) -> Random {
+        Random(seed)
+    }
+
+    pub fn next(&mut self) -> u64 {
+        self.0 = self.0.wrapping_add(0x9E37_79B9_7F4A_7C15);
+        let mut x = self.0;
+        x = (x ^ x >> 30).wrapping_mul(0xBF58_476D_1CE4_E5B9);
+        x = (x ^ x >> 27).wrapping_mul(0x94D0_49BB_1331_11EB);
+        x ^ x >> 31
+    }
+
+    // A number from 0 to n - 1.
+    pub fn below(&mut self, n: u64) -> u64 {
+        self.next() % n
+    }
+
+    // A number from low to high, both included.
+    pub fn range(&mut self, low: i64, high: i64) -> i64 {
+        low + self.below((high - low) as u64 + 1) as i64
+    }
+
+    pub fn chance(&mut self, one_in: u64) -> bool {
+        self.below(one_in) == 0
+    }
+
+    pub fn pick<T: Copy>(&mut self, from: &[T]) -> T {
+        from[self.below(from.len() as u64) as usize]
+    }
+
+    // A number within the limit, often at it or near 0.
+    pub fn within(&mut self, limit: i64) -> i32 {
+        let value = match self.below(8) {
+            0 => limit,
+            1 => -limit,
+            2 => self.range(-3, 3),
+            _ => self.range(-limit, limit),
+        };
+        value as i32
+    }
+
+    pub fn samples(&mut self, nodes: usize) -> Vec<i32> {
+        (0..nodes)
+            .map(|_| self.within(model::shape::LIMIT))
+            .collect()
+    }
+
+    // Records of a shape with every entry within its limit.
+    pub fn records(&mut self, shape: Shape) -> Vec<i32> {
+        let orders = plain_shape(shape).record_orders();
+        let limits = orders.into_iter().map(model::shape::entry_limit);
+        let limits: Vec<i64> = limits.collect();
+        let entry = |index: usize| self.within(limits[index % limits.len()]);
+        (0..shape.entries()).map(entry).collect()
+    }
+
+    // A shape with at most so many nodes on an axis.
+    pub fn shape(&mut self, axes: u32, degree: u32, most: i64) -> Shape {
+        let counts = [0, 1, 2].map(|axis| match axis < axes {
+            true => self.range(2, most) as u32,
+            false => 1,
+        });
+        shape(axes, degree, counts)
+    }
+}
+
+pub fn shape(axes: u32, degree: u32, counts: [u32; 3]) -> Shape {
+    Shape {
+        axes,
+        degree,
+        counts,
+    }
+}
+
+// A shape with the same number of nodes on each used axis.
+pub fn cube(axes: u32, degree: u32, count: u32) -> Shape {
+    let counts = [0, 1, 2].map(|axis| if axis < axes { count } else { 1 });
+    shape(axes, degree, counts)
+}
+
+// All six combinations of degree and number of axes.
+pub const KINDS: [(u32, u32); 6] = [(1, 3), (2, 3), (3, 3), (1, 5), (2, 5), (3, 5)];
+
+// All cells of a table, x fastest.
+pub fn cells(shape: Shape) -> Vec<[u32; 3]> {
+    let side = |count: u32| (count as usize - 1).max(1);
+    let all = model::shape::indices(shape.counts.map(side));
+    all.into_iter().map(|at| at.map(|i| i as u32)).collect()
+}
+
+// Index and limit of each entry of a cell's corners, in order.
+pub fn corner_entries(shape: Shape, cell: [u32; 3]) -> Vec<(usize, i32)> {
+    let shape = plain_shape(shape);
+    let mut entries = Vec::new();
+    for node in model::block::corner_nodes(&shape, cell) {
+        for orders in shape.record_orders() {
+            let limit = model::shape::entry_limit(orders) as i32;
+            entries.push((shape.entry_index(node, orders), limit));
+        }
+    }
+    entries
+}
+
+// A query for a dose, or for a slope along an axis.
+#[derive(Clone, Debug)]
+pub struct Query {
+    pub shape: Shape,
+    pub records: Vec<i32>,
+    pub at: Where,
+    pub slope: Option<u32>,
+}
+
+impl Query {
+    pub fn new(shape: Shape, records: Vec<i32>, at: Where, slope: Option<u32>) -> Query {
+        Query {
+            shape,
+            records,
+            at,
+            slope,
+        }
+    }
+}
+
+// The model's shape.
+pub fn plain_shape(shape: Shape) -> model::Shape {
+    model::Shape {
+        axes: shape.axes,
+        degree: shape.degree,
+        counts: shape.counts,
+    }
+}
+
+// The library's answer with the model's refusal.
+pub fn plain<T>(answer: Result<T, lukhtari::Refusal>) -> model::Answer<T> {
+    answer.map_err(|refusal| model::Refusal {
+        number: refusal.number,
+        place: refusal.place,
+    })
+}
+
+pub fn refused<T>(number: u32, place: u64) -> model::Answer<T> {
+    Err(model::Refusal { number, place })
+}
+
+pub fn outcome<T>(answer: &model::Answer<T>) -> model::Answer<()> {
+    answer.as_ref().map(|_| ()).map_err(|refusal| *refusal)
+}
+
+// Largest distance of a dose or slope from the exact interpolant.
+pub fn distance_bound(axes: u32, slope: bool) -> model::Rational {
+    let (dividend, divisor) = match (slope, axes) {
+        (false, 3) => (173, 256),
+        (false, 2) => (37, 64),
+        (true, 3) => (77, 64),
+        (true, 2) => (13, 16),
+        _ => (1, 2),
+    };
+    model::Rational::ratio(dividend, divisor)
+}
+
+pub trait Guard: Copy + PartialEq + Debug {
+    fn guard(index: usize) -> Self;
+}
+
+impl Guard for i32 {
+    fn guard(index: usize) -> i32 {
+        0x5A5A_0000 ^ (index as i32).wrapping_mul(0x9E37)
+    }
+}
+
+impl Guard for u8 {
+    fn guard(index: usize) -> u8 {
+        (index as u8).wrapping_mul(37) ^ 0xA5
+    }
+}
+
+const MARGIN: usize = 16;
+
+// A buffer of guard values to lend, with more of them before and after.
+pub struct Lent<T>(Vec<T>);
+
+impl<T: Guard> Lent<T> {
+    pub fn new(room: usize) -> Lent<T> {
+        Lent((0..room + 2 * MARGIN).map(T::guard).collect())
+    }
+
+    pub fn slice(&mut self) -> &mut [T] {
+        let end = self.0.len() - MARGIN;
+        &mut self.0[MARGIN..end]
+    }
+
+    // The buffer starts with what was to be written; all else is as it was.
+    #[track_caller]
+    pub fn check(&self, written: &[T]) {
+        let end = MARGIN + written.len();
+        assert!(self.0[MARGIN..end] == *written, "wrong contents");
+        let outside = (0..MARGIN).chain(end..self.0.len());
+        for index in outside {
+            assert_eq!(self.0[index], T::guard(index), "overwritten at {index}");
+        }
+    }
+}
+
+// A fault in a call, and the refusal it alone leads to.
+pub struct Fault<C> {
+    pub number: u32,
+    pub place: u64,
+    pub make: Box<dyn Fn(&mut C)>,
+}
+
+pub fn fault<C>(number: u32, place: u64, make: impl Fn(&mut C) + 'static) -> Fault<C> {
+    let make = Box::new(make);
+    Fault {
+        number,
+        place,
+        make,
+    }
+}
+
+// A call without fault, with each fault alone, and with any two: the earlier in the list decides.
+#[track_caller]
+pub fn check_faults<C: Clone>(
+    call: &C,
+    faults: &[Fault<C>],
+    run: impl Fn(&C) -> model::Answer<()>,
+) {
+    assert_eq!(run(call), Ok(()), "without fault");
+    for (first, earlier) in faults.iter().enumerate() {
+        for (second, later) in faults.iter().enumerate().skip(first) {
+            let mut faulty = call.clone();
+            (later.make)(&mut faulty);
+            (earlier.make)(&mut faulty);
+            let expected = refused(earlier.number, earlier.place);
+            assert_eq!(run(&faulty), expected, "faults {first} and {second}");
+        }
+    }
+}
+
+// The faults of a shape in order: 1, 2, 3 on each axis.
+pub fn shape_faults<C: 'static>(shape_of: fn(&mut C) -> &mut Shape, axes: u32) -> Vec<Fault<C>> {
+    let mut faults = vec![
+        fault(1, 0, move |call| shape_of(call).axes = 4),
+        fault(2, 0, move |call| shape_of(call).degree = 4),
+    ];
+    for axis in 0..3 {
+        let wrong = if axis < axes as usize { 65 } else { 2 };
+        let make = move |call: &mut C| shape_of(call).counts[axis] = wrong;
+        faults.push(fault(3, axis as u64, make));
+    }
+    faults
+}
+
+// Shapes with one wrong number, and the refusal of each.
+pub fn wrong_shapes(axes: u32, degree: u32) -> Vec<(Shape, u32, u64)> {
+    let right = cube(axes, degree, 2);
+    let mut wrong = Vec::new();
+    for axes in [0, 4, 5, 256 + 1, u32::MAX] {
+        wrong.push((Shape { axes, ..right }, 1, 0));
+    }
+    for degree in [0, 1, 2, 4, 6, 7, 256 + 3, u32::MAX] {
+        wrong.push((Shape { degree, ..right }, 2, 0));
+    }
+    for axis in 0..3 {
+        let used = axis < axes as usize;
+        let counts = if used {
+            [0, 1, 65, 258]
+        } else {
+            [0, 2, 64, 257]
+        };
+        for count in counts.into_iter().chain([u32::MAX]) {
+            let mut shape = right;
+            shape.counts[axis] = count;
+            wrong.push((shape, 3, axis as u64));
+        }
+    }
+    wrong
+}

@@ -1,0 +1,212 @@
+//! Estimation against the model.
+
+mod common;
+mod model;
+
+use common::*;
+use lukhtari::{estimate, ffi, Shape};
+use model::Answer;
+
+#[derive(Clone, Debug)]
+struct Call {
+    shape: Shape,
+    samples: Vec<i32>,
+    room: usize,
+}
+
+impl Call {
+    // A call with all buffers right.
+    fn new(shape: Shape, samples: Vec<i32>) -> Call {
+        let room = shape.entries();
+        Call {
+            shape,
+            samples,
+            room,
+        }
+    }
+}
+
+// Makes the call, compares answer and buffer with the model's, and returns the answer.
+fn run(call: &Call) -> Answer<()> {
+    let mut buffer = Lent::new(call.room);
+    let got = plain(estimate(call.shape, &call.samples, buffer.slice()));
+    let shape = plain_shape(call.shape);
+    let expected = model::estimate::estimate(&shape, &call.samples, call.room);
+    assert_eq!(got, outcome(&expected), "{:?}", call.shape);
+    buffer.check(&expected.unwrap_or_default());
+    got
+}
+
+#[test]
+fn worked_examples() {
+    let mut records = [0; 4];
+    let line = shape(1, 3, [2, 1, 1]);
+    assert_eq!(estimate(line, &[0, 100], &mut records), Ok(()));
+    assert_eq!(records, [0, 100, 100, 100]);
+    let mut records = [0; 6];
+    let line = shape(1, 5, [2, 1, 1]);
+    assert_eq!(estimate(line, &[0, 100], &mut records), Ok(()));
+    assert_eq!(records, [0, 100, 100, 100, 100, -100]);
+}
+
+#[test]
+fn mixed_entries() {
+    // One node of 1 in the middle: each entry is a product of the one-axis entries of 0, 1, 0.
+    let mut samples = [0; 27];
+    samples[13] = 1;
+    let cube = cube(3, 5, 3);
+    let mut records = vec![0; cube.entries()];
+    estimate(cube, &samples, &mut records).unwrap();
+    let line = [[0, 1, 1], [1, 0, -2], [0, -1, 1]];
+    for (index, &entry) in records.iter().enumerate() {
+        let node = [index / 27 % 3, index / 81 % 3, index / 243];
+        let order = [index % 3, index / 3 % 3, index / 9 % 3];
+        let product = |axis: usize| line[node[axis]][order[axis]];
+        assert_eq!(entry, product(0) * product(1) * product(2), "entry {index}");
+    }
+}
+
+#[test]
+fn border_shapes() {
+    let mut random = Random::new(1);
+    let shapes = [
+        (1, [2, 1, 1]),
+        (1, [3, 1, 1]),
+        (1, [63, 1, 1]),
+        (1, [64, 1, 1]),
+        (2, [2, 2, 1]),
+        (2, [64, 2, 1]),
+        (2, [2, 64, 1]),
+        (2, [64, 64, 1]),
+        (3, [2, 2, 2]),
+        (3, [64, 2, 2]),
+        (3, [2, 64, 2]),
+        (3, [2, 2, 64]),
+        (3, [64, 64, 2]),
+        (3, [2, 64, 64]),
+        (3, [64, 64, 64]),
+    ];
+    for (axes, counts) in shapes {
+        for degree in [3, 5] {
+            let shape = shape(axes, degree, counts);
+            let call = Call::new(shape, random.samples(shape.nodes()));
+            assert_eq!(run(&call), Ok(()));
+        }
+    }
+}
+
+#[test]
+fn random_tables() {
+    let mut random = Random::new(2);
+    for _ in 0..500 {
+        for (axes, degree) in KINDS {
+            let shape = random.shape(axes, degree, 6);
+            let call = Call::new(shape, random.samples(shape.nodes()));
+            assert_eq!(run(&call), Ok(()));
+        }
+    }
+}
+
+#[test]
+fn extreme_samples() {
+    // Signs that alternate along every axis give the largest entries.
+    for (axes, degree) in KINDS {
+        let shape = cube(axes, degree, 4);
+        for low in [32768, -32768] {
+            let sign = |node: usize| {
+                if (node ^ node >> 2 ^ node >> 4) & 1 == 0 {
+                    low
+                } else {
+                    -low
+                }
+            };
+            let samples = (0..shape.nodes()).map(sign).collect();
+            assert_eq!(run(&Call::new(shape, samples)), Ok(()));
+            let samples = vec![low; shape.nodes()];
+            assert_eq!(run(&Call::new(shape, samples)), Ok(()));
+        }
+    }
+}
+
+#[test]
+fn samples_beyond_the_limit() {
+    for (axes, degree) in KINDS {
+        let shape = cube(axes, degree, 3);
+        for index in 0..shape.nodes() {
+            for beyond in [32769, -32769, 65536, i32::MAX, i32::MIN] {
+                let mut call = Call::new(shape, vec![7; shape.nodes()]);
+                call.samples[index] = beyond;
+                assert_eq!(run(&call), refused(5, index as u64));
+                // A second one later does not matter.
+                *call.samples.last_mut().unwrap() = -beyond.max(-i32::MAX);
+                assert_eq!(run(&call), refused(5, index as u64));
+            }
+        }
+    }
+}
+
+#[test]
+fn wrong_lengths() {
+    for (axes, degree) in KINDS {
+        let shape = cube(axes, degree, 3);
+        let nodes = shape.nodes();
+        for length in [0, 1, nodes - 1, nodes + 1, 2 * nodes, 1000] {
+            let mut call = Call::new(shape, vec![7; nodes]);
+            call.samples.resize(length, 7);
+            assert_eq!(run(&call), refused(4, 0));
+        }
+    }
+}
+
+#[test]
+fn short_and_long_buffers() {
+    for (axes, degree) in KINDS {
+        let shape = cube(axes, degree, 3);
+        let mut call = Call::new(shape, Random::new(3).samples(shape.nodes()));
+        let needed = call.room;
+        for room in [0, 1, needed / 2, needed - 1] {
+            call.room = room;
+            assert_eq!(run(&call), refused(9, 0));
+        }
+        for room in [needed, needed + 1, needed + 1000] {
+            call.room = room;
+            assert_eq!(run(&call), Ok(()));
+        }
+    }
+}
+
+#[test]
+fn wrong_shapes_are_refused() {
+    for (axes, degree) in KINDS {
+        for (shape, number, place) in wrong_shapes(axes, degree) {
+            let right = cube(axes, degree, 2);
+            let mut call = Call::new(right, vec![7; right.nodes()]);
+            call.shape = shape;
+            assert_eq!(run(&call), refused(number, place), "{shape:?}");
+        }
+    }
+}
+
+#[test]
+fn faults_in_order() {
+    for (axes, degree) in KINDS {
+        let shape = cube(axes, degree, 3);
+        let mut faults = shape_faults(|call: &mut Call| &mut call.shape, axes);
+        faults.push(fault(4, 0, |call: &mut Call| call.samples.push(0)));
+        faults.push(fault(9, 0, |call: &mut Call| call.room = 1));
+        faults.push(fault(5, 1, |call: &mut Call| call.samples[1] = 32769));
+        faults.push(fault(5, 2, |call: &mut Call| call.samples[2] = -32769));
+        check_faults(&Call::new(shape, vec![7; shape.nodes()]), &faults, run);
+    }
+}
+
+#[test]
+fn place_is_0_when_done() {
+    let samples = [0, 100];
+    let mut records = [0; 4];
+    let line = shape(1, 3, [2, 1, 1]);
+    // SAFETY: pointers and lengths are those of the arrays.
+    let done =
+        unsafe { ffi::lukhtari_estimate(line, samples.as_ptr(), 2, records.as_mut_ptr(), 4) };
+    assert_eq!((done.number, done.place), (0, 0));
+}

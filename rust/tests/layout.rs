@@ -1,0 +1,165 @@
+//! The header, the Rust declarations and the Rattle source agree.
+
+mod declarations;
+
+use declarations::*;
+use lukhtari::ffi;
+use std::fs;
+use std::mem::{align_of, offset_of, size_of};
+use std::path::{Path, PathBuf};
+use std::process::Command;
+
+fn repository() -> PathBuf {
+    Path::new(env!("CARGO_MANIFEST_DIR")).join("..")
+}
+
+fn text(path: &str) -> String {
+    let path = repository().join(path);
+    fs::read_to_string(&path).unwrap_or_else(|error| panic!("{}: {error}", path.display()))
+}
+
+// Size, alignment and offsets of a struct: what to print in C, and the number in Rust.
+struct Layout(Vec<(String, usize)>);
+
+impl Layout {
+    fn add(&mut self, expression: String, value: usize) {
+        self.0.push((expression, value));
+    }
+}
+
+macro_rules! layout {
+    ($all:ident, $rust:ident, $c:literal, $($field:ident),+) => {
+        $all.add(format!("sizeof({})", $c), size_of::<ffi::$rust>());
+        $all.add(format!("_Alignof({})", $c), align_of::<ffi::$rust>());
+        $(
+            let field = stringify!($field);
+            $all.add(format!("offsetof({}, {field})", $c), offset_of!(ffi::$rust, $field));
+        )+
+    };
+}
+
+fn layouts() -> Layout {
+    let mut all = Layout(Vec::new());
+    layout!(all, Shape, "lukhtari_shape", axes, degree, counts);
+    layout!(all, Index, "lukhtari_index", at);
+    layout!(all, Position, "lukhtari_position", at);
+    layout!(all, FloatPosition, "lukhtari_float_position", x, y, z);
+    layout!(all, Done, "lukhtari_done", number, place);
+    layout!(all, Whole, "lukhtari_whole", number, place, value);
+    layout!(all, Real, "lukhtari_real", number, place, value);
+    layout!(all, Table, "lukhtari_table", number, place, axes, counts);
+    layout!(all, Written, "lukhtari_written", number, place, length);
+    all
+}
+
+// Runs a compiler with the header's folder and returns whether it takes the source.
+fn compile(compiler: &str, source: &Path, more: &[&str]) -> bool {
+    let include = repository().join("include");
+    let output = Command::new(compiler)
+        .args(["-Wall", "-Wextra", "-Werror", "-pedantic", "-I"])
+        .arg(include)
+        .arg(source)
+        .args(more)
+        .output()
+        .expect("the compiler runs");
+    print!("{}", String::from_utf8_lossy(&output.stderr));
+    output.status.success()
+}
+
+#[test]
+fn c_and_rust_have_the_same_layout() {
+    let layouts = layouts();
+    let mut source =
+        String::from("#include \"lukhtari.h\"\n#include <stdio.h>\nint main(void) {\n");
+    for (expression, _) in &layouts.0 {
+        source += &format!("    printf(\"%zu\\n\", {expression});\n");
+    }
+    source += "    return 0;\n}\n";
+    let folder = Path::new(env!("CARGO_TARGET_TMPDIR"));
+    let (file, program) = (folder.join("layout.c"), folder.join("layout"));
+    fs::write(&file, source).unwrap();
+    assert!(compile(
+        "gcc",
+        &file,
+        &["-std=c11", "-o", program.to_str().unwrap()]
+    ));
+    let output = Command::new(program).output().unwrap();
+    let printed = String::from_utf8(output.stdout).unwrap();
+    let numbers: Vec<usize> = printed.lines().map(|line| line.parse().unwrap()).collect();
+    assert_eq!(numbers.len(), layouts.0.len());
+    for ((expression, rust), c) in layouts.0.iter().zip(numbers) {
+        assert_eq!(*rust, c, "{expression}");
+    }
+}
+
+#[test]
+fn the_header_is_c99_and_cpp() {
+    let folder = Path::new(env!("CARGO_TARGET_TMPDIR"));
+    let source = "#include \"lukhtari.h\"\n#include \"lukhtari.h\"\nint used;\n";
+    let (c, cpp) = (folder.join("header.c"), folder.join("header.cpp"));
+    fs::write(&c, source).unwrap();
+    fs::write(&cpp, source).unwrap();
+    assert!(compile("gcc", &c, &["-std=c99", "-fsyntax-only"]));
+    match Command::new("g++").arg("--version").output() {
+        Ok(_) => assert!(compile("g++", &cpp, &["-std=c++11", "-fsyntax-only"])),
+        Err(_) => println!("g++ is absent: C++ not tried"),
+    }
+}
+
+// The Rust name of a C struct, as FloatPosition for lukhtari_float_position.
+fn rust_name(c: &str) -> String {
+    let part = |part: &str| part[..1].to_uppercase() + &part[1..];
+    c.split('_').skip(1).map(part).collect()
+}
+
+#[test]
+fn header_and_rust_declare_the_same() {
+    let (header, rust) = (text("include/lukhtari.h"), text("rust/src/ffi.rs"));
+    let (c_structs, rust_structs) = (c_structs(&header), rust_structs(&rust));
+    assert_eq!((c_structs.len(), rust_structs.len()), (9, 9));
+    for (name, fields) in &c_structs {
+        assert_eq!(rust_structs.get(&rust_name(name)), Some(fields), "{name}");
+    }
+    let c = c_calls(&header, &c_structs);
+    assert_eq!(c.len(), 11);
+    assert_eq!(c, rust_calls(&rust, &rust_structs));
+}
+
+#[test]
+fn rattle_declares_the_same_as_the_header() {
+    let folder = repository().join("crates/lukhtari/src");
+    let Ok(files) = fs::read_dir(folder) else {
+        println!("crates/lukhtari is absent: nothing to compare");
+        return;
+    };
+    let source = |file: fs::DirEntry| fs::read_to_string(file.path()).unwrap();
+    let sources: Vec<String> = files.map(|file| source(file.unwrap())).collect();
+    let source = sources.join("\n");
+    let calls = rust_calls(&source, &rust_structs(&source));
+    assert!(!calls.is_empty(), "no exported call");
+    let header = text("include/lukhtari.h");
+    let expected = c_calls(&header, &c_structs(&header));
+    for (name, signature) in calls {
+        assert_eq!(Some(&signature), expected.get(&name), "{name}");
+    }
+}
+
+#[test]
+fn reading_of_declarations() {
+    let rattle = "
+        // pub struct Old { pub at: u8 }
+        #[repr(C)]
+        pub struct Shape { pub axes: u32, pub counts: [u32; 3] }
+        pub struct Done { pub number: u32, pub place: usize }
+        #[no_mangle]
+        pub extern \"C\" fn lukhtari_fill(shape: Shape, from: &[i32], to: &mut [u8]) -> Done
+            ensures { true }
+        {
+            Done { number: 0, place: 0 }
+        }";
+    let calls = rust_calls(rattle, &rust_structs(rattle));
+    let fill = &calls["fill"];
+    let expected = ["{u32, [u32; 3]}", "*const i32", "u64", "*mut u8", "u64"];
+    assert_eq!(fill.parameters, expected);
+    assert_eq!(fill.result, "{u32, u64}");
+}

@@ -1,0 +1,21 @@
+//! Reference model of document 01 in rational numbers: plain and slow.
+//!
+//! Every call has its counterpart here, with the refusals in the document's order. A call that
+//! fills a lent buffer takes the buffer's length (`room`) and returns what is to be written.
+
+#![allow(dead_code, unused_imports)]
+
+pub mod block;
+pub mod coefficients;
+pub mod estimate;
+pub mod file;
+pub mod float;
+pub mod int;
+pub mod program;
+pub mod query;
+pub mod rational;
+pub mod shape;
+pub mod stages;
+
+pub use rational::Rational;
+pub use shape::{Answer, Refusal, Shape};

@@ -1,0 +1,111 @@
+//! Doses and slopes by position, by cell and by float.
+
+use super::coefficients::{check_cell, check_corners};
+use super::float::float_step;
+use super::int::Int;
+use super::shape::*;
+use super::stages::{staged, Point, STEPS};
+
+// How a query names its point.
+#[derive(Clone, Copy, Debug)]
+pub enum Where {
+    Position([i32; 3]),
+    Cell([u32; 3], [u32; 3]),
+    Float([f32; 3]),
+}
+
+// A dose, or the slope along an axis: 1, 2, 3, 4, 12, the point's refusals, 5.
+pub fn query(shape: &Shape, records: &[i32], at: Where, slope: Option<u32>) -> Answer<i32> {
+    let point = checked_point(shape, records, at, slope)?;
+    Ok(staged(shape, records, &point) as i32)
+}
+
+// The same as a float.
+pub fn query_float(
+    shape: &Shape,
+    records: &[i32],
+    at: [f32; 3],
+    slope: Option<u32>,
+) -> Answer<f32> {
+    let whole = query(shape, records, Where::Float(at), slope)?;
+    let float = whole as f32;
+    assert_eq!(float as i64, whole as i64, "the float is not exact");
+    Ok(float)
+}
+
+// The point of a query that is not refused.
+pub fn checked_point(
+    shape: &Shape,
+    records: &[i32],
+    at: Where,
+    slope: Option<u32>,
+) -> Answer<Point> {
+    check_shape(shape)?;
+    check_length(records.len(), shape.entries())?;
+    refuse_unless(slope.is_none_or(|axis| axis < shape.axes), 12, 0)?;
+    let slope = slope.map(|axis| axis as usize);
+    let (cell, u) = locate(shape, at)?;
+    check_corners(shape, records, cell)?;
+    Ok(Point { cell, u, slope })
+}
+
+// The cell and in-cell steps of a point: 14 on all axes before 11; 10 before 11 on each axis.
+pub fn locate(shape: &Shape, at: Where) -> Answer<([u32; 3], [u32; 3])> {
+    match at {
+        Where::Position(position) => {
+            let step = |axis: usize| Ok(Int::from(position[axis] as i64));
+            locate_steps(shape, step)
+        }
+        Where::Float(position) => {
+            let step = |axis: usize| float_step(position[axis]).ok_or(refusal(10, axis));
+            locate_steps(shape, step)
+        }
+        Where::Cell(cell, u) => {
+            check_cell(shape, cell)?;
+            (0..3).try_for_each(|axis| check_u(shape, axis, u[axis]))?;
+            Ok((cell, u))
+        }
+    }
+}
+
+fn refusal(number: u32, axis: usize) -> Refusal {
+    let place = axis as u64;
+    Refusal { number, place }
+}
+
+// The cell and in-cell steps of table steps.
+fn locate_steps(
+    shape: &Shape,
+    step: impl Fn(usize) -> Answer<Int>,
+) -> Answer<([u32; 3], [u32; 3])> {
+    let mut cell = [0; 3];
+    let mut u = [0; 3];
+    for axis in 0..3 {
+        let step = step(axis)?;
+        let last = Int::from(last_step(shape, axis));
+        refuse_unless(step >= Int::ZERO && step <= last, 11, axis)?;
+        if axis < shape.used() {
+            let step = step.to_i64().expect("within the table");
+            let index = (step / STEPS).min(shape.counts[axis] as i64 - 2);
+            cell[axis] = index as u32;
+            u[axis] = (step - STEPS * index) as u32;
+        }
+    }
+    Ok((cell, u))
+}
+
+// Table position of the last node, 0 on an unused axis.
+pub fn last_step(shape: &Shape, axis: usize) -> i64 {
+    if axis < shape.used() {
+        STEPS * (shape.counts[axis] as i64 - 1)
+    } else {
+        0
+    }
+}
+
+// 11 for an in-cell step
+fn check_u(shape: &Shape, axis: usize, u: u32) -> Answer<()> {
+    let used = axis < shape.used();
+    let last = if used { STEPS } else { 0 };
+    refuse_unless(u as i64 <= last, 11, axis)
+}

@@ -1,0 +1,129 @@
+//! Weights, the exact value and the rounded stages.
+
+use super::block::{cell_block, Block};
+use super::coefficients::{axis_coefficients, cell_coefficients};
+use super::int::Int;
+use super::rational::Rational;
+use super::shape::{indices, Shape};
+
+// Steps of a cell along an axis.
+pub const STEPS: i64 = 256;
+
+// A cell of a table, the in-cell steps, and the axis of a slope.
+#[derive(Clone, Copy, Debug, PartialEq, Eq)]
+pub struct Point {
+    pub cell: [u32; 3],
+    pub u: [u32; 3],
+    pub slope: Option<usize>,
+}
+
+// Weight i is (256-u)^(d-i) u^i.
+pub fn weights(degree: u32, u: u32) -> Vec<Int> {
+    let weight = |i| rest(u).power(degree - i) * step(u).power(i);
+    (0..=degree).map(weight).collect()
+}
+
+// Derivative i is i (256-u)^(d-i) u^(i-1) - (d-i) (256-u)^(d-i-1) u^i.
+pub fn slope_weights(degree: u32, u: u32) -> Vec<Int> {
+    let rising = |i: u32| match i {
+        0 => Int::ZERO,
+        _ => Int::from(i as i64) * rest(u).power(degree - i) * step(u).power(i - 1),
+    };
+    let falling = |i: u32| match degree - i {
+        0 => Int::ZERO,
+        left => Int::from(left as i64) * rest(u).power(left - 1) * step(u).power(i),
+    };
+    (0..=degree).map(|i| rising(i) - falling(i)).collect()
+}
+
+fn step(u: u32) -> Int {
+    Int::from(u as i64)
+}
+
+fn rest(u: u32) -> Int {
+    Int::from(STEPS - u as i64)
+}
+
+// Weights of an axis and their divisor: 2 256^d, and 2 256^(d-1) along a slope's axis.
+pub fn axis_weights(shape: &Shape, point: &Point, axis: usize) -> (Vec<Int>, Int) {
+    let (weights, power) = if point.slope == Some(axis) {
+        (slope_weights(shape.degree, point.u[axis]), shape.degree - 1)
+    } else {
+        (weights(shape.degree, point.u[axis]), shape.degree)
+    };
+    (weights, Int::from(2) * Int::from(STEPS).power(power))
+}
+
+// Sum of all coefficients times their weights, divided once, with no rounding.
+pub fn exact(shape: &Shape, records: &[i32], point: &Point) -> Rational {
+    let coefficients = cell_coefficients(shape, records, point.cell);
+    let mut weights = [vec![Int::ONE], vec![Int::ONE], vec![Int::ONE]];
+    let mut divisor = Int::ONE;
+    for axis in 0..shape.used() {
+        let (along, by) = axis_weights(shape, point, axis);
+        weights[axis] = along;
+        divisor = divisor * by;
+    }
+    let mut sum = Int::ZERO;
+    for at in indices(coefficients.sides()) {
+        let coefficient = Int::from(coefficients.at(at).to_i64().expect("whole"));
+        let weight = weights[0][at[0]] * weights[1][at[1]] * weights[2][at[2]];
+        sum = sum + coefficient * weight;
+    }
+    Rational::new(sum, divisor)
+}
+
+// Used axes in the order x, y, z, a slope's axis last.
+pub fn stage_order(axes: usize, slope: Option<usize>) -> Vec<usize> {
+    let mut order: Vec<usize> = (0..axes).filter(|&axis| Some(axis) != slope).collect();
+    order.extend(slope);
+    order
+}
+
+// The numbers after each stage in the document's order of axes.
+pub fn stages(shape: &Shape, records: &[i32], point: &Point) -> Vec<Block> {
+    let order = stage_order(shape.used(), point.slope);
+    stages_in_order(shape, records, point, &order)
+}
+
+// The numbers after each stage: all but the last in eighths, the last in units.
+pub fn stages_in_order(
+    shape: &Shape,
+    records: &[i32],
+    point: &Point,
+    order: &[usize],
+) -> Vec<Block> {
+    let mut block = cell_block(shape, records, point.cell);
+    let mut after = Vec::new();
+    for (number, &axis) in order.iter().enumerate() {
+        let parts = if number + 1 == order.len() { 1 } else { 8 };
+        let (weights, divisor) = axis_weights(shape, point, axis);
+        block = block.map_lines(axis, |ends| {
+            let value = stage_value(shape.degree, ends, &weights, divisor);
+            vec![round_to(value, parts)]
+        });
+        after.push(block.clone());
+    }
+    after
+}
+
+// Coefficients of the two ends times weights, summed and divided.
+fn stage_value(degree: u32, ends: &[Rational], weights: &[Int], divisor: Int) -> Rational {
+    let mut sum = Rational::ZERO;
+    for (coefficient, &weight) in axis_coefficients(degree, ends).into_iter().zip(weights) {
+        sum = sum + coefficient * Rational::from(weight);
+    }
+    sum / Rational::from(divisor)
+}
+
+// The nearest multiple of one part of a unit, halves towards plus infinity.
+pub fn round_to(value: Rational, parts: i64) -> Rational {
+    let parts = Rational::whole(parts);
+    Rational::from((value * parts).round()) / parts
+}
+
+// The dose or slope that the stages give.
+pub fn staged(shape: &Shape, records: &[i32], point: &Point) -> i64 {
+    let last = stages(shape, records, point).pop().expect("a used axis");
+    last.at([0, 0, 0]).to_i64().expect("whole")
+}

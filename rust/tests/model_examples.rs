@@ -1,0 +1,300 @@
+//! The reference model on all worked examples and traps of document 01.
+
+mod model;
+
+use model::coefficients::{coefficients, corners_of};
+use model::estimate::{estimate, records_by_axes};
+use model::file::{read, write};
+use model::float::float_step;
+use model::int::Int;
+use model::program::output;
+use model::query::{locate, query, query_float, Where};
+use model::stages::{axis_weights, exact, stages, stages_in_order, Point};
+use model::{Answer, Rational, Refusal, Shape};
+
+fn line(degree: u32) -> Shape {
+    Shape {
+        axes: 1,
+        degree,
+        counts: [2, 1, 1],
+    }
+}
+
+fn records(shape: &Shape, samples: &[i32]) -> Vec<i32> {
+    estimate(shape, samples, shape.entries()).expect("accepted table")
+}
+
+fn refused<T>(number: u32, place: u64) -> Answer<T> {
+    Err(Refusal { number, place })
+}
+
+// Dose on one axis of two nodes at a position.
+fn dose(degree: u32, samples: [i32; 2], p: i32) -> Answer<i32> {
+    let shape = line(degree);
+    query(
+        &shape,
+        &records(&shape, &samples),
+        Where::Position([p, 0, 0]),
+        None,
+    )
+}
+
+fn cubic_slope(p: i32) -> Answer<i32> {
+    let shape = line(3);
+    let records = records(&shape, &[0, 100]);
+    query(&shape, &records, Where::Position([p, 0, 0]), Some(0))
+}
+
+fn point(u: u32) -> Point {
+    Point {
+        cell: [0; 3],
+        u: [u, 0, 0],
+        slope: None,
+    }
+}
+
+#[test]
+fn records_of_0_100() {
+    assert_eq!(records(&line(3), &[0, 100]), [0, 100, 100, 100]);
+    assert_eq!(records(&line(5), &[0, 100]), [0, 100, 100, 100, 100, -100]);
+}
+
+#[test]
+fn coefficients_of_0_100() {
+    let cubic = coefficients(&line(3), &[0, 100, 100, 100], [0; 3], 4);
+    assert_eq!(cubic, Ok(vec![0, 100, 500, 200]));
+    let shape = line(5);
+    let quintic = coefficients(&shape, &records(&shape, &[0, 100]), [0; 3], 6);
+    assert_eq!(quintic, Ok(vec![0, 100, 500, 1500, 900, 200]));
+}
+
+#[test]
+fn doses_of_0_100() {
+    for degree in [3, 5] {
+        assert_eq!(dose(degree, [0, 100], 128), Ok(50));
+        assert_eq!(dose(degree, [0, 100], 256), Ok(100));
+        assert_eq!(dose(degree, [0, 100], 257), refused(11, 0));
+        assert_eq!(dose(degree, [0, 100], -1), refused(11, 0));
+    }
+    assert_eq!(dose(3, [0, 100], 64), Ok(20));
+    assert_eq!(dose(5, [0, 100], 64), Ok(19));
+    let records = records(&line(3), &[0, 100]);
+    let value = exact(&line(3), &records, &point(64));
+    assert_eq!(value, Rational::ratio(203125, 10000));
+}
+
+#[test]
+fn slopes_of_0_100() {
+    assert_eq!(cubic_slope(0), Ok(50));
+    assert_eq!(cubic_slope(128), Ok(125));
+}
+
+#[test]
+fn halves_go_up() {
+    assert_eq!(dose(3, [0, 1], 128), Ok(1));
+    assert_eq!(dose(3, [0, -1], 128), Ok(0));
+}
+
+#[test]
+fn back() {
+    assert_eq!(
+        corners_of(1, 3, &[0, 100, 500, 200], 4),
+        Ok(vec![0, 100, 100, 100])
+    );
+    assert_eq!(corners_of(1, 3, &[1, 0, 0, 0], 4), refused(13, 0));
+}
+
+#[test]
+fn two_axes() {
+    let shape = Shape {
+        axes: 2,
+        degree: 3,
+        counts: [2, 2, 1],
+    };
+    let records = records(&shape, &[0, 100, 0, 100]);
+    let after = stages(&shape, &records, &point(64));
+    assert_eq!(after[0].at([0, 0, 0]), Rational::ratio(163, 8));
+    let dose = query(&shape, &records, Where::Position([64, 0, 0]), None);
+    assert_eq!(dose, Ok(20));
+}
+
+#[test]
+fn sample_limit() {
+    let shape = line(3);
+    assert!(estimate(&shape, &[32768, -32768], 4).is_ok());
+    assert_eq!(estimate(&shape, &[0, 32769], 4), refused(5, 1));
+    assert_eq!(estimate(&shape, &[-32769, 32769], 4), refused(5, 0));
+}
+
+#[test]
+fn float_steps() {
+    let step = |float| float_step(float).expect("finite");
+    assert_eq!(step(0.25), Int::from(64));
+    assert_eq!(step(f32::from_bits(0x3B00_0000)), Int::from(1));
+    assert_eq!(step(f32::from_bits(0x3AFF_FFFF)), Int::ZERO);
+    assert_eq!(step(-0.0), Int::ZERO);
+    assert_eq!(step(-1.0 / 512.0), Int::ZERO);
+    assert_eq!(step(-1.5 / 512.0), Int::from(-1));
+    assert_eq!(float_step(f32::NAN), None);
+    assert_eq!(float_step(f32::NEG_INFINITY), None);
+}
+
+#[test]
+fn float_query() {
+    let shape = line(3);
+    let records = records(&shape, &[0, 100]);
+    let ask = |x, y| query_float(&shape, &records, [x, y, 0.0], None);
+    assert_eq!(ask(0.25, 0.0), Ok(20.0));
+    assert_eq!(ask(1.0, 0.0), Ok(100.0));
+    assert_eq!(ask(1.01, f32::NAN), refused(11, 0));
+    assert_eq!(ask(1.0, f32::NAN), refused(10, 1));
+    assert_eq!(ask(1.0, 0.002), refused(11, 1));
+    assert_eq!(ask(-0.001, 0.0).map(f32::to_bits), Ok(0));
+}
+
+const FILE: [u8; 20] = [1, 0, 0, 0, 2, 0, 0, 0, 2, 0, 0, 0, 0, 0, 0, 0, 100, 0, 0, 0];
+
+#[test]
+fn file_of_0_100() {
+    let table = read(&FILE, 2).expect("accepted file");
+    assert_eq!((table.axes, table.counts), (1, [2, 1, 1]));
+    assert_eq!(table.samples, [0, 100]);
+    let bytes = write(1, [2, 1, 1], &[0, 100], 20);
+    assert_eq!(bytes, Ok(FILE.to_vec()));
+    assert_eq!(output(&FILE), "0 0 0 50 50\n");
+}
+
+#[test]
+fn damaged_files() {
+    let mut longer = FILE.to_vec();
+    longer.push(0);
+    let mut other_count = FILE;
+    other_count[8] = 3;
+    let cases = [(&FILE[..19], 6, 19), (&longer, 7, 20), (&other_count, 8, 0)];
+    for (bytes, number, place) in cases {
+        assert_eq!(read(bytes, 2), refused(number, place));
+        assert_eq!(output(bytes), format!("refused {number}\n"));
+    }
+}
+
+#[test]
+fn trap_adding_half_to_the_float() {
+    let float = f32::from_bits(0x3AFF_FFFF);
+    assert_eq!((float * 256.0 + 0.5).floor(), 1.0);
+    assert_eq!(float_step(float), Some(Int::ZERO));
+}
+
+#[test]
+fn trap_plus_at_the_high_end() {
+    let plus = corners_of(1, 3, &[0, 100, 700, 200], 4);
+    assert_eq!(plus, Ok(vec![0, 100, 100, -100]));
+}
+
+#[test]
+fn trap_division_towards_zero() {
+    assert_eq!(Rational::ratio(-3, 4).round(), Int::from(-1));
+    assert_eq!(Rational::ratio(-1, 2).round(), Int::ZERO);
+    assert_eq!(Rational::ratio(1, 2).round(), Int::from(1));
+    assert_eq!(Rational::ratio(-3, 2).round(), Int::from(-1));
+    // Exact value -0.796875.
+    assert_eq!(dose(3, [0, -1], 192), Ok(-1));
+}
+
+#[test]
+fn trap_cell_beyond_the_last_node() {
+    for count in [2, 3, 64] {
+        let shape = Shape {
+            axes: 1,
+            degree: 3,
+            counts: [count, 1, 1],
+        };
+        let at = |p| locate(&shape, Where::Position([p, 0, 0]));
+        let last = 256 * (count as i32 - 1);
+        assert_eq!(at(last), Ok(([count - 2, 0, 0], [256, 0, 0])));
+        assert_eq!(at(last - 1), Ok(([count - 2, 0, 0], [255, 0, 0])));
+        assert_eq!(at(last + 1), refused(11, 0));
+    }
+}
+
+// Records of a cell at their limits, with the signs that make the numbers largest at u = 128.
+fn extreme_records(shape: &Shape, point: &Point) -> Vec<i32> {
+    let mut records = vec![0; shape.entries()];
+    for node in model::block::corner_nodes(shape, [0; 3]) {
+        for orders in shape.record_orders() {
+            let index = shape.entry_index(node, orders);
+            let limit = model::shape::entry_limit(orders) as i32;
+            records[index] = limit;
+            let value = exact(shape, &one_entry(&records, index), point);
+            records[index] = if value < Rational::ZERO {
+                -limit
+            } else {
+                limit
+            };
+        }
+    }
+    records
+}
+
+fn one_entry(records: &[i32], index: usize) -> Vec<i32> {
+    let mut alone = vec![0; records.len()];
+    alone[index] = records[index];
+    alone
+}
+
+// Largest sum in a stage: its results times its divisor; after the first stage in eighths.
+fn largest_sum(
+    shape: &Shape,
+    records: &[i32],
+    point: &Point,
+    order: &[usize],
+    stage: usize,
+) -> Int {
+    let after = &stages_in_order(shape, records, point, order)[stage];
+    let (_, divisor) = axis_weights(shape, point, order[stage]);
+    let results = after.numbers().iter().map(|number| number.abs());
+    let parts = if stage == 0 { 1 } else { 8 };
+    let scale = Rational::whole(parts) * Rational::from(divisor);
+    (results.max().expect("numbers") * scale).floor()
+}
+
+#[test]
+fn trap_slope_axis_first() {
+    let shape = Shape {
+        axes: 3,
+        degree: 5,
+        counts: [2; 3],
+    };
+    let point = Point {
+        cell: [0; 3],
+        u: [128; 3],
+        slope: Some(0),
+    };
+    // Entries of order 2 along z are four times as large, so they lead the second stage.
+    let mut records = extreme_records(&shape, &point);
+    for node in model::block::corner_nodes(&shape, [0; 3]) {
+        for orders in shape.record_orders() {
+            let value = records[shape.entry_index(node, [orders[0], orders[1], 0])];
+            let limit = model::shape::entry_limit(orders) as i32;
+            records[shape.entry_index(node, orders)] = value.signum() * limit;
+        }
+    }
+    let range = Int::from(2).power(63);
+    assert!(largest_sum(&shape, &records, &point, &[0, 1, 2], 1) > range);
+    for stage in 0..3 {
+        assert!(largest_sum(&shape, &records, &point, &[1, 2, 0], stage) < range);
+    }
+}
+
+#[test]
+fn axes_in_any_order_give_the_same_estimates() {
+    let shape = Shape {
+        axes: 3,
+        degree: 5,
+        counts: [3, 2, 4],
+    };
+    let samples: Vec<i32> = (0..24).map(|i| (i * i * 37 + 11 * i) % 101 - 50).collect();
+    let first = records_by_axes(&shape, &samples, &[0, 1, 2]);
+    for order in [[0, 2, 1], [1, 0, 2], [1, 2, 0], [2, 0, 1], [2, 1, 0]] {
+        assert_eq!(records_by_axes(&shape, &samples, &order), first);
+    }
+}

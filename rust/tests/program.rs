@@ -1,0 +1,195 @@
+//! The program over pipes, against the model's output.
+//!
+//! LUKHTARI_PROGRAM names the program; else it is target/bin/cell_doses of the repository.
+
+mod common;
+mod model;
+
+use common::Random;
+use model::program::{output, BYTES, NODES};
+use std::env;
+use std::io::{Read, Write};
+use std::path::PathBuf;
+use std::process::{Command, Stdio};
+use std::thread;
+use std::time::Duration;
+
+fn program() -> PathBuf {
+    let path = match env::var_os("LUKHTARI_PROGRAM") {
+        Some(path) => PathBuf::from(path),
+        None => PathBuf::from(env!("CARGO_MANIFEST_DIR")).join("../target/bin/cell_doses"),
+    };
+    assert!(
+        path.exists(),
+        "{} is missing: run `rt check`",
+        path.display()
+    );
+    path
+}
+
+// Runs the program on an input that is written in pieces, with a pause between them.
+fn run_in_pieces(input: &[u8], piece: usize, pause: Duration) -> String {
+    let mut child = Command::new(program())
+        .stdin(Stdio::piped())
+        .stdout(Stdio::piped())
+        .spawn()
+        .expect("the program runs");
+    let mut stdin = child.stdin.take().unwrap();
+    let pieces: Vec<Vec<u8>> = input.chunks(piece).map(<[u8]>::to_vec).collect();
+    // The program may refuse a long input before it is read to its end.
+    let writer = thread::spawn(move || {
+        for piece in pieces {
+            if stdin.write_all(&piece).is_err() {
+                return;
+            }
+            thread::sleep(pause);
+        }
+    });
+    let mut text = String::new();
+    let mut stdout = child.stdout.take().unwrap();
+    stdout.read_to_string(&mut text).expect("text");
+    writer.join().unwrap();
+    assert!(child.wait().unwrap().success());
+    text
+}
+
+#[track_caller]
+fn check(input: &[u8]) -> String {
+    let text = run_in_pieces(input, input.len().max(1), Duration::ZERO);
+    assert_eq!(text, output(input), "input of {} bytes", input.len());
+    text
+}
+
+fn words(numbers: &[u32]) -> Vec<u8> {
+    numbers.iter().flat_map(|n| n.to_le_bytes()).collect()
+}
+
+// A table file with random samples.
+fn file(random: &mut Random, counts: &[u32]) -> Vec<u8> {
+    let nodes = counts.iter().product();
+    let mut numbers = vec![counts.len() as u32];
+    numbers.extend(counts);
+    numbers.push(nodes);
+    let samples = random.samples(nodes as usize);
+    numbers.extend(samples.iter().map(|&sample| sample as u32));
+    words(&numbers)
+}
+
+#[test]
+fn worked_examples() {
+    let file = words(&[1, 2, 2, 0, 100]);
+    assert_eq!(check(&file), "0 0 0 50 50\n");
+    assert_eq!(check(&file[..19]), "refused 6\n");
+    let mut longer = file.clone();
+    longer.push(0);
+    assert_eq!(check(&longer), "refused 7\n");
+    assert_eq!(check(&words(&[1, 2, 3, 0, 100])), "refused 8\n");
+}
+
+#[test]
+fn negative_doses() {
+    let text = check(&words(&[1, 2, 2, 0, -100i32 as u32]));
+    assert_eq!(text, "0 0 0 -50 -50\n");
+    check(&words(&[2, 2, 2, 4, -32768i32 as u32, 0, 5, -7i32 as u32]));
+}
+
+#[test]
+fn lines_of_a_cube() {
+    let mut random = Random::new(1);
+    let text = check(&file(&mut random, &[3, 4, 2]));
+    let cells: Vec<String> = text.lines().map(|line| line[..5].to_string()).collect();
+    let expected = ["0 0 0", "1 0 0", "0 1 0", "1 1 0", "0 2 0", "1 2 0"];
+    assert_eq!(cells, expected);
+}
+
+#[test]
+fn random_tables() {
+    let mut random = Random::new(2);
+    for _ in 0..60 {
+        for axes in 1..=3 {
+            let most = if axes == 3 { 5 } else { 9 };
+            let counts = random.shape(axes, 3, most).counts;
+            check(&file(&mut random, &counts[..axes as usize]));
+        }
+    }
+}
+
+#[test]
+fn largest_tables_that_fit() {
+    let mut random = Random::new(3);
+    assert_eq!(8 * 8 * 8, NODES);
+    for counts in [&[8, 8, 8][..], &[2, 64, 4], &[64, 8], &[64]] {
+        let text = check(&file(&mut random, counts));
+        assert!(!text.starts_with("refused"));
+    }
+}
+
+#[test]
+fn tables_that_do_not_fit() {
+    let mut random = Random::new(4);
+    for counts in [&[9, 57][..], &[8, 8, 9], &[3, 3, 57], &[15, 64]] {
+        let file = file(&mut random, counts);
+        assert!(file.len() <= BYTES);
+        assert_eq!(check(&file), "refused 9\n");
+        // Bytes that end early or are left over come first.
+        assert_eq!(check(&file[..file.len() - 1]), "refused 6\n");
+        let longer = [&file[..], &[0]].concat();
+        assert_eq!(check(&longer), "refused 7\n");
+    }
+}
+
+#[test]
+fn inputs_of_all_lengths() {
+    let mut random = Random::new(5);
+    let file = file(&mut random, &[15, 64]);
+    assert_eq!(check(&[]), "refused 6\n");
+    for length in [4095, 4096, 4097, 100_000] {
+        let number = if length > BYTES { 9 } else { 7 };
+        let mut longer = file.clone();
+        longer.resize(length, 0);
+        assert_eq!(check(&longer), format!("refused {number}\n"));
+        // Too long an input is refused before its contents.
+        let number = if length > BYTES { 9 } else { 1 };
+        assert_eq!(check(&vec![0; length]), format!("refused {number}\n"));
+    }
+}
+
+#[test]
+fn refusals() {
+    let case = |numbers: &[u32]| check(&words(numbers));
+    assert_eq!(case(&[0]), "refused 1\n");
+    assert_eq!(case(&[4, 2, 2, 2, 2]), "refused 1\n");
+    assert_eq!(case(&[1, 1]), "refused 3\n");
+    assert_eq!(case(&[3, 2, 65, 0]), "refused 3\n");
+    assert_eq!(case(&[1, 2, 2, 0, 32769]), "refused 5\n");
+    assert_eq!(case(&[1, 2, 2, -32769i32 as u32, 0]), "refused 5\n");
+    assert_eq!(case(&[1, 2, 2, 32768, -32768i32 as u32]), "0 0 0 0 0\n");
+}
+
+#[test]
+fn short_reads() {
+    let mut random = Random::new(6);
+    let file = file(&mut random, &[4, 3, 2]);
+    let expected = output(&file);
+    let pause = Duration::from_millis(1);
+    for piece in [1, 3, 4, 7, 64] {
+        assert_eq!(run_in_pieces(&file, piece, pause), expected);
+    }
+    let long = vec![1; 100_000];
+    assert_eq!(run_in_pieces(&long, 4096, pause), "refused 9\n");
+}
+
+#[test]
+fn damaged_files() {
+    let mut random = Random::new(7);
+    let file = file(&mut random, &[2, 3]);
+    for _ in 0..200 {
+        let mut damaged = file.clone();
+        let index = random.below(file.len() as u64) as usize;
+        damaged[index] ^= 1 << random.below(8);
+        if random.chance(4) {
+            damaged.truncate(random.below(file.len() as u64) as usize);
+        }
+        check(&damaged);
+    }
+}

@@ -1,0 +1,249 @@
+//! Random calls against the model, in all combinations of degree, axes and kind.
+//!
+//! LUKHTARI_CALLS sets the number of calls in all, LUKHTARI_SEED another seed.
+
+mod common;
+mod model;
+
+use common::*;
+use lukhtari::*;
+use model::query::{checked_point, last_step, Where};
+use model::Rational;
+use std::env;
+
+// What is asked for.
+#[derive(Clone, Copy, PartialEq)]
+enum Kind {
+    Dose,
+    Slope,
+}
+
+fn setting(name: &str, default: u64) -> u64 {
+    match env::var(name) {
+        Ok(text) => text.parse().expect("a whole number"),
+        Err(_) => default,
+    }
+}
+
+// Makes this combination's share of the calls.
+fn run(degree: u32, axes: u32, kind: Kind) {
+    let share = setting("LUKHTARI_CALLS", 240_000).div_ceil(12);
+    let combination = (10 * degree + 2 * axes) as u64 + (kind == Kind::Slope) as u64;
+    let mut seed = setting("LUKHTARI_SEED", 1) << 40 | combination << 32;
+    let mut made = 0;
+    while made < share {
+        seed += 1;
+        made += run_table(&mut Random::new(seed), seed, (degree, axes, kind));
+    }
+}
+
+// Estimates one table, asks it, and returns the number of calls.
+fn run_table(random: &mut Random, seed: u64, (degree, axes, kind): (u32, u32, Kind)) -> u64 {
+    let most = match axes {
+        1 => random.pick(&[2, 3, 8, 64]),
+        2 => random.pick(&[2, 3, 5, 9]),
+        _ => random.pick(&[2, 3, 3, 4]),
+    };
+    let shape = random.shape(axes, degree, most);
+    let mut records = estimated(random, seed, shape);
+    let from_samples = !random.chance(3);
+    if !from_samples {
+        records = random.records(shape);
+    }
+    let mut query = Query::new(shape, records, Where::Position([0; 3]), None);
+    let queries = 24;
+    for _ in 0..queries {
+        query.at = random_point(random, shape);
+        query.slope = (kind == Kind::Slope).then(|| random.below(axes as u64) as u32);
+        if random.chance(8) {
+            let _ = ask(&faulty(random, &query), seed);
+        } else {
+            let answer = ask(&query, seed);
+            if from_samples && random.chance(4) {
+                check_distance(&query, answer.expect("accepted query"), seed);
+            }
+        }
+    }
+    convert(&query, seed);
+    queries + 3
+}
+
+// Records by the library, equal to the model's.
+fn estimated(random: &mut Random, seed: u64, shape: Shape) -> Vec<i32> {
+    let samples = random.samples(shape.nodes());
+    let mut records = vec![0; shape.entries()];
+    estimate(shape, &samples, &mut records).expect("accepted table");
+    let expected = model::estimate::estimate(&plain_shape(shape), &samples, records.len());
+    assert!(Ok(&records) == expected.as_ref(), "seed {seed}");
+    records
+}
+
+// A point in the table: by position, by cell or by float.
+fn random_point(random: &mut Random, shape: Shape) -> Where {
+    let plain = plain_shape(shape);
+    let mut step = |axis| {
+        let last = last_step(&plain, axis);
+        let node = 256 * random.range(0, last / 256);
+        let inside = random.range(0, last);
+        random.pick(&[node, last, inside, inside])
+    };
+    let steps = [0, 1, 2].map(&mut step);
+    match random.below(3) {
+        0 => Where::Position(steps.map(|step| step as i32)),
+        1 => {
+            let (mut cell, mut u) = ([0; 3], [0; 3]);
+            for axis in 0..shape.axes as usize {
+                let last = shape.counts[axis] as i64 - 2;
+                cell[axis] = random.range(0, last) as u32;
+                let inside = random.below(257) as u32;
+                u[axis] = random.pick(&[0, 256, inside, inside]);
+            }
+            Where::Cell(cell, u)
+        }
+        // A float within a half step of the step.
+        _ => Where::Float(steps.map(|step| {
+            let part = random.range(-2047, 2047) as f32 / 4096.0;
+            (step as f32 + part) / 256.0
+        })),
+    }
+}
+
+// The query with one to three faults of any kind.
+fn faulty(random: &mut Random, query: &Query) -> Query {
+    let mut query = query.clone();
+    for _ in 0..random.range(1, 3) {
+        let axis = random.below(3) as usize;
+        match random.below(8) {
+            0 => query.shape.axes = random.below(5) as u32,
+            1 => query.shape.degree = random.below(8) as u32,
+            2 => query.shape.counts[axis] = random.below(67) as u32,
+            3 => query.records.push(0),
+            4 if query.slope.is_some() => query.slope = Some(random.below(5) as u32),
+            5 => {
+                let index = random.below(query.records.len() as u64) as usize;
+                query.records[index] = random.next() as i32;
+            }
+            _ => misplace(random, &mut query.at, axis),
+        }
+    }
+    query
+}
+
+// Moves the point along an axis, mostly out of the table.
+fn misplace(random: &mut Random, at: &mut Where, axis: usize) {
+    match at {
+        Where::Position(position) => position[axis] = random.range(-300, 900) as i32,
+        Where::Cell(cell, _) if random.chance(2) => cell[axis] = random.below(5) as u32,
+        Where::Cell(_, u) => u[axis] = random.below(300) as u32,
+        Where::Float(position) => position[axis] = f32::from_bits(random.next() as u32),
+    }
+}
+
+// Makes the call, compares it with the model and returns the answer.
+fn ask(query: &Query, seed: u64) -> model::Answer<i32> {
+    let (shape, records) = (query.shape, &query.records[..]);
+    let whole = |answer: Result<f32, Refusal>| {
+        answer.map(|float| {
+            assert!(float != 0.0 || float.is_sign_positive(), "minus zero");
+            assert_eq!(float, float.trunc());
+            float as i32
+        })
+    };
+    let got = match (query.at, query.slope) {
+        (Where::Position(p), None) => dose(shape, records, p),
+        (Where::Position(p), Some(axis)) => slope(shape, records, p, axis),
+        (Where::Cell(cell, u), None) => dose_in_cell(shape, records, cell, u),
+        (Where::Cell(cell, u), Some(axis)) => slope_in_cell(shape, records, cell, u, axis),
+        (Where::Float(p), None) => whole(dose_float(shape, records, p)),
+        (Where::Float(p), Some(axis)) => whole(slope_float(shape, records, p, axis)),
+    };
+    let expected = model::query::query(&plain_shape(shape), records, query.at, query.slope);
+    let context = (shape, query.at, query.slope);
+    assert_eq!(plain(got), expected, "seed {seed}: {context:?}");
+    expected
+}
+
+// The answer is within the promised distance of the exact interpolant.
+fn check_distance(query: &Query, answer: i32, seed: u64) {
+    let shape = plain_shape(query.shape);
+    let point = checked_point(&shape, &query.records, query.at, query.slope);
+    let exact = model::stages::exact(&shape, &query.records, &point.expect("accepted query"));
+    let distance = (Rational::whole(answer as i64) - exact).abs();
+    let bound = distance_bound(query.shape.axes, query.slope.is_some());
+    assert!(distance <= bound, "seed {seed}: {distance:?}");
+}
+
+// Coefficients of the first cell, and back again.
+fn convert(query: &Query, seed: u64) {
+    let shape = query.shape;
+    let mut out = vec![0; shape.coefficients()];
+    coefficients(shape, &query.records, [0; 3], &mut out).expect("accepted cell");
+    let plain = plain_shape(shape);
+    let expected = model::coefficients::coefficients(&plain, &query.records, [0; 3], out.len());
+    assert!(Ok(&out) == expected.as_ref(), "seed {seed}");
+    let mut back = vec![0; cube(shape.axes, shape.degree, 2).entries()];
+    corners(shape.axes, shape.degree, &out, &mut back).expect("permitted records");
+    let entries = corner_entries(shape, [0; 3]);
+    let same = |(entry, (index, _)): (&i32, &(usize, i32))| *entry == query.records[*index];
+    assert!(back.iter().zip(&entries).all(same), "seed {seed}");
+}
+
+#[test]
+fn cubic_dose_on_1_axis() {
+    run(3, 1, Kind::Dose);
+}
+
+#[test]
+fn cubic_dose_on_2_axes() {
+    run(3, 2, Kind::Dose);
+}
+
+#[test]
+fn cubic_dose_on_3_axes() {
+    run(3, 3, Kind::Dose);
+}
+
+#[test]
+fn cubic_slope_on_1_axis() {
+    run(3, 1, Kind::Slope);
+}
+
+#[test]
+fn cubic_slope_on_2_axes() {
+    run(3, 2, Kind::Slope);
+}
+
+#[test]
+fn cubic_slope_on_3_axes() {
+    run(3, 3, Kind::Slope);
+}
+
+#[test]
+fn quintic_dose_on_1_axis() {
+    run(5, 1, Kind::Dose);
+}
+
+#[test]
+fn quintic_dose_on_2_axes() {
+    run(5, 2, Kind::Dose);
+}
+
+#[test]
+fn quintic_dose_on_3_axes() {
+    run(5, 3, Kind::Dose);
+}
+
+#[test]
+fn quintic_slope_on_1_axis() {
+    run(5, 1, Kind::Slope);
+}
+
+#[test]
+fn quintic_slope_on_2_axes() {
+    run(5, 2, Kind::Slope);
+}
+
+#[test]
+fn quintic_slope_on_3_axes() {
+    run(5, 3, Kind::Slope);
+}

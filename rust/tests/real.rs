@@ -1,0 +1,351 @@
+//! Doses and slopes by float against the model.
+
+mod common;
+mod model;
+
+use common::*;
+use lukhtari::{dose_float, ffi, slope_float, Shape};
+use model::query::{last_step, query_float, Where};
+use model::Answer;
+
+// Bit patterns at the edges of the format.
+const SPECIAL: [u32; 30] = [
+    0x0000_0000, // zero
+    0x8000_0000, // minus zero
+    0x0000_0001, // smallest subnormal
+    0x8000_0001,
+    0x007F_FFFF, // largest subnormal
+    0x807F_FFFF,
+    0x0080_0000, // smallest normal
+    0x8080_0000,
+    0x3AFF_FFFF, // next below half a step
+    0x3B00_0000, // half a step
+    0x3B00_0001,
+    0xBAFF_FFFF,
+    0xBB00_0000, // minus half a step
+    0xBB00_0001,
+    0x3B80_0000, // one step
+    0xBB80_0000,
+    0x3F80_0000, // one cell
+    0xBF80_0000,
+    0x4B7F_FFFF, // largest float with a half
+    0x4F00_0000, // 2^31
+    0xCF00_0000,
+    0x7A80_0000, // 2^118
+    0x7B80_0000, // 2^120: the product overflows
+    0x7F7F_FFFF, // largest
+    0xFF7F_FFFF,
+    0x7F80_0000, // infinities
+    0xFF80_0000,
+    0x7F80_0001, // signalling and quiet NaN
+    0x7FC0_0000,
+    0xFFFF_FFFF,
+];
+
+fn float_query(shape: Shape, records: Vec<i32>, at: [f32; 3], slope: Option<u32>) -> Query {
+    Query::new(shape, records, Where::Float(at), slope)
+}
+
+fn position(query: &Query) -> [f32; 3] {
+    match query.at {
+        Where::Float(at) => at,
+        _ => panic!("not a float query"),
+    }
+}
+
+fn set(query: &mut Query, axis: usize, to: f32) {
+    let mut at = position(query);
+    at[axis] = to;
+    query.at = Where::Float(at);
+}
+
+fn call(query: &Query) -> Result<f32, lukhtari::Refusal> {
+    let (shape, records, at) = (query.shape, &query.records[..], position(query));
+    match query.slope {
+        None => dose_float(shape, records, at),
+        Some(axis) => slope_float(shape, records, at, axis),
+    }
+}
+
+// The result as it crosses the C interface.
+fn raw(query: &Query) -> ffi::Real {
+    let (shape, records, len) = (query.shape, query.records.as_ptr(), query.records.len());
+    let [x, y, z] = position(query);
+    let at = ffi::FloatPosition { x, y, z };
+    // SAFETY: pointer and length are those of the records.
+    unsafe {
+        match query.slope {
+            None => ffi::lukhtari_dose_float(shape, records, len, at),
+            Some(axis) => ffi::lukhtari_slope_float(shape, records, len, at, axis),
+        }
+    }
+}
+
+// Makes the call, compares the answer's bits with the model's, and returns the outcome.
+#[track_caller]
+fn run(query: &Query) -> Answer<()> {
+    let got = plain(call(query)).map(f32::to_bits);
+    let shape = plain_shape(query.shape);
+    let expected = query_float(&shape, &query.records, position(query), query.slope);
+    assert_eq!(
+        got,
+        expected.map(f32::to_bits),
+        "{:?} {:?}",
+        query.shape,
+        query.at
+    );
+    let result = raw(query);
+    let value = result.value.to_bits();
+    match got {
+        Ok(bits) => assert_eq!((result.number, result.place, value), (0, 0, bits)),
+        Err(refusal) => {
+            assert_eq!(
+                (result.number, result.place),
+                (refusal.number, refusal.place)
+            );
+            assert_eq!(value, 0);
+        }
+    }
+    outcome(&got)
+}
+
+fn line(degree: u32, count: u32) -> Query {
+    let shape = shape(1, degree, [count, 1, 1]);
+    let mut random = Random::new(count as u64);
+    float_query(shape, random.records(shape), [0.0; 3], None)
+}
+
+// A float and its neighbours.
+fn around(float: f32) -> [f32; 3] {
+    [float.next_down(), float, float.next_up()]
+}
+
+#[test]
+fn worked_examples() {
+    let shape = shape(1, 3, [2, 1, 1]);
+    let ask = |bits: u32| {
+        let at = [f32::from_bits(bits), 0.0, 0.0];
+        let query = float_query(shape, vec![0, 100, 100, 100], at, None);
+        run(&query).map(|_| call(&query).unwrap())
+    };
+    assert_eq!(ask(0.25f32.to_bits()), Ok(20.0));
+    assert_eq!(ask(0.5f32.to_bits()), Ok(50.0));
+    assert_eq!(ask(1.0f32.to_bits()), Ok(100.0));
+    // Steps 1 and 0 of a steep line.
+    let steep = |bits: u32| {
+        let at = [f32::from_bits(bits), 0.0, 0.0];
+        call(&float_query(shape, vec![0, 32768, 32768, 32768], at, None))
+    };
+    assert_eq!(steep(0x3B00_0000), Ok(65.0));
+    assert_eq!(steep(0x3AFF_FFFF), Ok(0.0));
+}
+
+#[test]
+fn special_bits_on_each_axis() {
+    for (axes, degree) in KINDS {
+        let shape = cube(axes, degree, 3);
+        let records = Random::new(1).records(shape);
+        for axis in 0..3 {
+            for bits in SPECIAL {
+                for slope in [None, Some(axes - 1)] {
+                    let mut query = float_query(shape, records.clone(), [0.0; 3], slope);
+                    set(&mut query, axis, f32::from_bits(bits));
+                    let answer = run(&query);
+                    if !f32::from_bits(bits).is_finite() {
+                        assert_eq!(answer, refused(10, axis as u64));
+                    }
+                }
+            }
+        }
+    }
+}
+
+#[test]
+fn special_bits_on_two_axes() {
+    for (axes, degree) in KINDS {
+        let shape = cube(axes, degree, 2);
+        let records = vec![7; shape.entries()];
+        for (first, second) in [(0, 1), (0, 2), (1, 2)] {
+            for one in SPECIAL {
+                for two in SPECIAL {
+                    let mut query = float_query(shape, records.clone(), [0.0; 3], None);
+                    set(&mut query, first, f32::from_bits(one));
+                    set(&mut query, second, f32::from_bits(two));
+                    let _ = run(&query);
+                }
+            }
+        }
+    }
+}
+
+#[test]
+fn floats_near_every_half_step() {
+    for (degree, count) in [(3, 64), (5, 64), (3, 2), (5, 3)] {
+        let mut query = line(degree, count);
+        let last = last_step(&plain_shape(query.shape), 0);
+        for step in -2..=last + 1 {
+            let half = (step as f32 + 0.5) / 256.0;
+            for float in around(half) {
+                set(&mut query, 0, float);
+                let _ = run(&query);
+            }
+        }
+    }
+}
+
+#[test]
+fn floats_near_every_step() {
+    let mut query = line(3, 9);
+    let last = last_step(&plain_shape(query.shape), 0);
+    for step in -1..=last + 1 {
+        for float in around(step as f32 / 256.0) {
+            set(&mut query, 0, float);
+            let answer = run(&query);
+            if (0..=last).contains(&step) {
+                assert_eq!(answer, Ok(()));
+            }
+        }
+    }
+}
+
+#[test]
+fn ends_of_the_table() {
+    for (axes, degree) in KINDS {
+        let shape = cube(axes, degree, 4);
+        let mut query = float_query(shape, Random::new(2).records(shape), [0.0; 3], None);
+        for axis in 0..3 {
+            let used = axis < axes as usize;
+            let last = if used { 3.0f32 } else { 0.0 };
+            let half = 1.0 / 512.0;
+            // Minus half a step rounds up to 0; half a step beyond the end rounds up beyond it.
+            let beyond = last + half;
+            for (float, expected) in [
+                (-half, Ok(())),
+                ((-half).next_down(), refused(11, axis as u64)),
+                (beyond.next_down(), Ok(())),
+                (beyond, refused(11, axis as u64)),
+            ] {
+                set(&mut query, axis, float);
+                assert_eq!(run(&query), expected, "axis {axis}, {float}");
+            }
+            set(&mut query, axis, 0.0);
+        }
+    }
+}
+
+#[test]
+fn zero_is_plus_zero() {
+    for (axes, degree) in KINDS {
+        let shape = cube(axes, degree, 2);
+        let mut random = Random::new(3);
+        for slope in [None, Some(0)] {
+            for at in [[0.0; 3], [-0.0; 3]] {
+                let query = float_query(shape, vec![0; shape.entries()], at, slope);
+                assert_eq!(call(&query).map(f32::to_bits), Ok(0));
+            }
+            // Small negative exact values that round to 0.
+            let samples: Vec<i32> = (0..shape.entries())
+                .map(|_| -(random.below(2) as i32))
+                .collect();
+            let x = random.below(257) as f32 / 256.0;
+            let _ = run(&float_query(shape, samples, [x, 0.0, 0.0], slope));
+        }
+    }
+}
+
+#[test]
+fn random_floats() {
+    let mut random = Random::new(4);
+    for _ in 0..200 {
+        for (axes, degree) in KINDS {
+            let shape = random.shape(axes, degree, 5);
+            let records = random.records(shape);
+            let at = [0, 1, 2].map(|axis| random_float(&mut random, shape, axis));
+            let slope = random.pick(&[None, Some(0), Some(axes - 1)]);
+            let _ = run(&float_query(shape, records, at, slope));
+        }
+    }
+}
+
+// A float mostly in the table, sometimes of random bits.
+fn random_float(random: &mut Random, shape: Shape, axis: usize) -> f32 {
+    let last = last_step(&plain_shape(shape), axis) as f32 / 256.0;
+    match random.below(16) {
+        0 => f32::from_bits(random.next() as u32),
+        1 => last,
+        _ => last * (random.below(1 << 24) as f32 / (1 << 24) as f32),
+    }
+}
+
+#[test]
+fn large_answers() {
+    let mut random = Random::new(5);
+    for (axes, degree) in KINDS {
+        let shape = cube(axes, degree, 2);
+        for _ in 0..50 {
+            let mut records = vec![0; shape.entries()];
+            for (index, limit) in corner_entries(shape, [0; 3]) {
+                records[index] = random.pick(&[limit, -limit]);
+            }
+            let at = [0, 1, 2].map(|axis| if axis < axes { 0.5 } else { 0.0 });
+            for slope in (0..axes).map(Some).chain([None]) {
+                let query = float_query(shape, records.clone(), at, slope);
+                assert_eq!(run(&query), Ok(()));
+            }
+        }
+    }
+}
+
+#[test]
+fn wrong_shapes_are_refused() {
+    for (axes, degree) in KINDS {
+        let right = cube(axes, degree, 2);
+        for slope in [None, Some(0)] {
+            for (shape, number, place) in wrong_shapes(axes, degree) {
+                let records = vec![7; right.entries()];
+                let query = float_query(shape, records, [0.0; 3], slope);
+                assert_eq!(run(&query), refused(number, place), "{shape:?}");
+            }
+        }
+    }
+}
+
+#[test]
+fn faults_in_order() {
+    for (axes, degree) in KINDS {
+        let shape = cube(axes, degree, 3);
+        for slope in [None, Some(0)] {
+            let mut faults = shape_faults(|query: &mut Query| &mut query.shape, axes);
+            faults.push(fault(4, 0, |query: &mut Query| query.records.push(0)));
+            if slope.is_some() {
+                faults.push(fault(12, 0, |query: &mut Query| query.slope = Some(3)));
+            }
+            for axis in 0..3 {
+                for (number, float) in [(10, f32::NAN), (11, 2.5), (11, -1.0), (11, f32::MAX)] {
+                    let make = move |query: &mut Query| set(query, axis, float);
+                    faults.push(fault(number, axis as u64, make));
+                }
+            }
+            let last = corner_entries(shape, [0; 3]).last().unwrap().0;
+            faults.push(fault(5, 1, |query: &mut Query| query.records[1] = i32::MAX));
+            let make = move |query: &mut Query| query.records[last] = i32::MIN;
+            faults.push(fault(5, last as u64, make));
+            let query = float_query(shape, vec![7; shape.entries()], [0.0; 3], slope);
+            check_faults(&query, &faults, run);
+        }
+    }
+}
+
+#[test]
+fn entries_beyond_their_limit() {
+    for (axes, degree) in KINDS {
+        let shape = cube(axes, degree, 2);
+        for (index, limit) in corner_entries(shape, [0; 3]) {
+            for beyond in [limit + 1, -limit - 1] {
+                let mut query = float_query(shape, vec![7; shape.entries()], [0.0; 3], None);
+                query.records[index] = beyond;
+                assert_eq!(run(&query), refused(5, index as u64));
+            }
+        }
+    }
+}

@@ -1,0 +1,28 @@
+//! Texts of refusals.
+
+use lukhtari::Refusal;
+use std::collections::HashSet;
+
+fn text(number: u32, place: u64) -> String {
+    Refusal { number, place }.to_string()
+}
+
+#[test]
+fn every_number_has_its_own_text() {
+    let reason = |number| {
+        let text = text(number, 0);
+        let (head, reason) = text.split_once(": ").expect("number and reason");
+        assert_eq!(head, format!("refused {number}"));
+        reason.to_string()
+    };
+    let reasons: HashSet<String> = (1..=16).map(reason).collect();
+    assert_eq!(reasons.len(), 16);
+}
+
+#[test]
+fn places_are_told_where_named() {
+    for number in 1..=15 {
+        let named = [3, 5, 6, 7, 10, 11, 14].contains(&number);
+        assert_eq!(text(number, 70_001).contains("70001"), named, "{number}");
+    }
+}

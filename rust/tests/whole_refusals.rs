@@ -1,0 +1,270 @@
+//! Doses and slopes by position and by cell: refusals.
+
+mod common;
+mod model;
+mod queries;
+
+use common::*;
+use lukhtari::Shape;
+use model::query::{last_step, Where};
+use model::Answer;
+use queries::*;
+
+// The outcome; a refused result has value 0 and any other has place 0.
+#[track_caller]
+fn run_checked(query: &Query) -> Answer<()> {
+    let answer = run(query);
+    let result = raw(query);
+    match answer {
+        Ok(value) => assert_eq!((result.number, result.place, result.value), (0, 0, value)),
+        Err(refusal) => {
+            assert_eq!(
+                (result.number, result.place),
+                (refusal.number, refusal.place)
+            );
+            assert_eq!(result.value, 0);
+        }
+    }
+    outcome(&answer)
+}
+
+// Accepted queries of each kind: by position or cell, dose or slope.
+fn kinds(shape: Shape) -> Vec<Query> {
+    let records = vec![7; shape.entries()];
+    let mut all = Vec::new();
+    for at in [Where::Position([0; 3]), Where::Cell([0; 3], [0; 3])] {
+        for slope in [None, Some(0), Some(shape.axes - 1)] {
+            all.push(Query::new(shape, records.clone(), at, slope));
+        }
+    }
+    all
+}
+
+fn set_position(query: &mut Query, axis: usize, to: i32) {
+    if let Where::Position(position) = &mut query.at {
+        position[axis] = to;
+    }
+}
+
+fn set_cell(query: &mut Query, axis: usize, to: u32) {
+    if let Where::Cell(cell, _) = &mut query.at {
+        cell[axis] = to;
+    }
+}
+
+fn set_u(query: &mut Query, axis: usize, to: u32) {
+    if let Where::Cell(_, u) = &mut query.at {
+        u[axis] = to;
+    }
+}
+
+#[test]
+fn wrong_shapes_are_refused() {
+    for (axes, degree) in KINDS {
+        for query in kinds(cube(axes, degree, 2)) {
+            for (shape, number, place) in wrong_shapes(axes, degree) {
+                let mut query = query.clone();
+                query.shape = shape;
+                assert_eq!(run_checked(&query), refused(number, place), "{shape:?}");
+            }
+        }
+    }
+}
+
+#[test]
+fn wrong_lengths() {
+    for (axes, degree) in KINDS {
+        let shape = cube(axes, degree, 3);
+        let entries = shape.entries();
+        for query in kinds(shape) {
+            for length in [0, shape.nodes(), entries - 1, entries + 1, 2 * entries] {
+                let mut query = query.clone();
+                query.records.resize(length, 7);
+                assert_eq!(run_checked(&query), refused(4, 0));
+            }
+        }
+    }
+}
+
+#[test]
+fn slope_axes() {
+    for (axes, degree) in KINDS {
+        for mut query in kinds(cube(axes, degree, 3)) {
+            for axis in [0, 1, 2, 3, 4, 256, u32::MAX] {
+                query.slope = Some(axis);
+                let expected = if axis < axes { Ok(()) } else { refused(12, 0) };
+                assert_eq!(run_checked(&query), expected);
+            }
+        }
+    }
+}
+
+#[test]
+fn positions_outside() {
+    for (axes, degree) in KINDS {
+        for count in [2, 3, 5] {
+            let shape = cube(axes, degree, count);
+            for axis in 0..3 {
+                let last = last_step(&plain_shape(shape), axis) as i32;
+                let at = Where::Position([0; 3]);
+                let mut query = Query::new(shape, vec![7; shape.entries()], at, None);
+                for p in [0, last] {
+                    set_position(&mut query, axis, p);
+                    assert_eq!(run_checked(&query), Ok(()));
+                }
+                for p in [-1, -256, i32::MIN, last + 1, last + 256, i32::MAX] {
+                    set_position(&mut query, axis, p);
+                    assert_eq!(run_checked(&query), refused(11, axis as u64));
+                }
+            }
+        }
+    }
+}
+
+#[test]
+fn cells_outside() {
+    for (axes, degree) in KINDS {
+        let shape = cube(axes, degree, 4);
+        for axis in 0..3 {
+            let last = if axis < axes as usize { 2 } else { 0 };
+            let at = Where::Cell([0; 3], [0; 3]);
+            let mut query = Query::new(shape, vec![7; shape.entries()], at, None);
+            for cell in [0, last] {
+                set_cell(&mut query, axis, cell);
+                assert_eq!(run_checked(&query), Ok(()));
+            }
+            for cell in [last + 1, last + 2, 64, 256, u32::MAX] {
+                set_cell(&mut query, axis, cell);
+                assert_eq!(run_checked(&query), refused(14, axis as u64));
+            }
+        }
+    }
+}
+
+#[test]
+fn steps_outside_the_cell() {
+    for (axes, degree) in KINDS {
+        let shape = cube(axes, degree, 3);
+        for axis in 0..3 {
+            let last = if axis < axes as usize { 256 } else { 0 };
+            let at = Where::Cell([0; 3], [0; 3]);
+            let mut query = Query::new(shape, vec![7; shape.entries()], at, Some(0));
+            for u in [0, last] {
+                set_u(&mut query, axis, u);
+                assert_eq!(run_checked(&query), Ok(()));
+            }
+            for u in [last + 1, last + 2, 512, 65536, u32::MAX] {
+                set_u(&mut query, axis, u);
+                assert_eq!(run_checked(&query), refused(11, axis as u64));
+            }
+        }
+    }
+}
+
+#[test]
+fn entries_beyond_their_limit() {
+    for (axes, degree) in KINDS {
+        let shape = cube(axes, degree, 3);
+        let cell = [0, 1, 2].map(|axis| u32::from(axis < axes));
+        let position = cell.map(|index| 256 * index as i32 + 100 * index as i32);
+        let entries = corner_entries(shape, cell);
+        for at in [Where::Position(position), Where::Cell(cell, [0; 3])] {
+            for &(index, limit) in &entries {
+                let mut query = Query::new(shape, vec![7; shape.entries()], at, None);
+                for within in [limit, -limit] {
+                    query.records[index] = within;
+                    assert_eq!(run_checked(&query), Ok(()));
+                }
+                for beyond in [limit + 1, -limit - 1, i32::MAX, i32::MIN] {
+                    query.records[index] = beyond;
+                    assert_eq!(run_checked(&query), refused(5, index as u64));
+                }
+            }
+        }
+    }
+}
+
+#[test]
+fn entries_beyond_their_limit_in_corner_order() {
+    let mut random = Random::new(1);
+    for (axes, degree) in KINDS {
+        let shape = cube(axes, degree, 4);
+        for cell in cells(shape) {
+            let entries = corner_entries(shape, cell);
+            let at = Where::Cell(cell, [0; 3]);
+            let mut query = Query::new(shape, vec![7; shape.entries()], at, None);
+            let mut first = entries.len();
+            for _ in 0..3 {
+                let number = random.below(entries.len() as u64) as usize;
+                query.records[entries[number].0] = i32::MIN;
+                first = first.min(number);
+            }
+            assert_eq!(run_checked(&query), refused(5, entries[first].0 as u64));
+        }
+    }
+}
+
+// Faults that queries by position and by cell share, before those of the point.
+fn first_faults(axes: u32, slope: bool) -> Vec<Fault<Query>> {
+    let mut faults = shape_faults(|query: &mut Query| &mut query.shape, axes);
+    faults.push(fault(4, 0, |query: &mut Query| query.records.push(0)));
+    if slope {
+        let make = |query: &mut Query| query.slope = Some(3);
+        faults.push(fault(12, 0, make));
+    }
+    faults
+}
+
+// Two entries beyond their limits in the first cell, the earlier first.
+fn last_faults(shape: Shape) -> Vec<Fault<Query>> {
+    let last = corner_entries(shape, [0; 3]).last().unwrap().0;
+    vec![
+        fault(5, 1, |query: &mut Query| query.records[1] = i32::MAX),
+        fault(5, last as u64, move |query: &mut Query| {
+            query.records[last] = i32::MIN
+        }),
+    ]
+}
+
+#[test]
+fn faults_in_order_by_position() {
+    for (axes, degree) in KINDS {
+        let shape = cube(axes, degree, 3);
+        for slope in [None, Some(0)] {
+            let mut faults = first_faults(axes, slope.is_some());
+            for axis in 0..3 {
+                // Beyond the last node, and below 0.
+                for p in [513, -1] {
+                    let make = move |query: &mut Query| set_position(query, axis, p);
+                    faults.push(fault(11, axis as u64, make));
+                }
+            }
+            faults.extend(last_faults(shape));
+            let at = Where::Position([0; 3]);
+            let query = Query::new(shape, vec![7; shape.entries()], at, slope);
+            check_faults(&query, &faults, run_checked);
+        }
+    }
+}
+
+#[test]
+fn faults_in_order_by_cell() {
+    for (axes, degree) in KINDS {
+        let shape = cube(axes, degree, 3);
+        for slope in [None, Some(axes - 1)] {
+            let mut faults = first_faults(axes, slope.is_some());
+            for axis in 0..3 {
+                let make = move |query: &mut Query| set_cell(query, axis, 2);
+                faults.push(fault(14, axis as u64, make));
+            }
+            for axis in 0..3 {
+                let make = move |query: &mut Query| set_u(query, axis, 257);
+                faults.push(fault(11, axis as u64, make));
+            }
+            faults.extend(last_faults(shape));
+            let at = Where::Cell([0; 3], [0; 3]);
+            let query = Query::new(shape, vec![7; shape.entries()], at, slope);
+            check_faults(&query, &faults, run_checked);
+        }
+    }
+}
