@@ -77,9 +77,12 @@ check-samples-requires : tie.Need-check-samples-requires
 check-samples-requires c κs =
     let b = c .before .before .before .before .before .before .before .before in
     let given = c .before .before .before .before .number3 .given in
-    room-for (b .args .bytes .now) (b .args .start .at) (b .args .nodes) (b .args .room) (b .pre) (given .0 .0) (given .0 .1 .0)
-    (sym (c .before .before .before .before .before .before .number .ensures) ∙ given .1)
-    (sym (c .before .before .check-lengths .ensures) ∙ ap meaning (c .enum-told .given .1))
+    omega (
+      arith,
+      room-for (b .args .bytes .now) (b .args .start .at) (b .args .nodes) (b .args .room) (b .pre) (given .0 .0) (given .0 .1 .0)
+          (sym (c .before .before .before .before .before .before .number .ensures) ∙ given .1)
+          (sym (c .before .before .check-lengths .ensures) ∙ ap meaning (c .enum-told .given .1)),
+    )
 
 returns : tie.Need-returns
 returns c =
