@@ -1,12 +1,12 @@
 // Signed whole numbers: rounding to the nearest, and size.
 ghost use mathlib.Core.Path.{_≡_};
-ghost use Prim.Native.Nat.{_+_, _≤_, _^_};
+ghost use Prim.Native.Nat.{_+_, _≤_, _<_, _^_};
 ghost use lib.IntN.{natAbs};
 ghost use Rattle.arith.specs.Int.{roundHalfUp};
 
 // x / 2^(k+1) to the nearest, halves up.
 pub fn rounded(x: i64, k: u32) -> i64
-    requires { ⌜ (natAbs x ≤ 2 ^ 62) × (k ≤ 61) ⌝ }
+    requires { ⌜ (k ≤ 61) × (natAbs x + 2 ^ k < 2 ^ 63) ⌝ }
     ensures { λ r. ⌜ r ≡ roundHalfUp x (2 ^ (k + 1)) ⌝ }
 {
     let half: i64 = 1 << k;

@@ -1,2 +1,3 @@
+-- Reading order: Estimate, Passes.
 pub mod Estimate
 pub mod Passes

@@ -1,5 +1,6 @@
 -- What the inner functions write. A pass takes three rows of numbers, at the lower neighbours, at the nodes and at the upper neighbours, and gives the
 -- orders of each; the order is the fastest digit of the index. The axes are worked off in the order z, y, x.
+-- The promises of `estimate` mention none of this.
 use mathlib.Core.Path.{_≡_}
 use Prim.Native.Nat.{ℕ, zero, suc, _+_, _*_, _/_, _%_, _≤_, _<_}
 use mathlib.Core.List.{List}
@@ -83,6 +84,7 @@ pub record Read (xs : List ℤ) (low count : ℕ) : Type 0 where
   pub inside : low + count ≤ length xs
   pub small : (t : ℕ) → t < count → natAbs (since xs low t) ≤ passLimit
 
+-- the ranges of a grid
 pub record Grids (g : Grid) : Type 0 where
   pub y-low : 1 ≤ g .cy
   pub x-high : g .cx ≤ 64

@@ -6,24 +6,24 @@ ghost use lib.ListN.{length};
 ghost use Rattle.lattice.specs.Answer.{meaning};
 ghost use Rattle.lattice.specs.Buffer.{at, overwrite};
 ghost use Rattle.estimate.specs.Estimate.{left, right, byOrder, recordsOf, estimateOutcome, estimateWrites, Estimable};
-ghost use Rattle.estimate.specs.Passes.{passLimit, placed, since, passOf, ordersOn, gridOf, rowStart, rowZ, rowYZ, recordSize, rowSize, rowOf, rowsOf, Read, Grids, Samples};
+ghost use Rattle.estimate.specs.Passes.{passLimit, placed, since, passOf, ordersOn, gridOf, rowStart, rowZ, rowYZ, rowSize, rowOf, rowsOf, Read, Grids, Samples};
 use lattice::Answer;
 use lattice::Shape;
 
 // The node counts, and the numbers that a record holds along each axis: 1 along an unused one.
-pub struct Grid {
-    pub cx: usize,
-    pub cy: usize,
-    pub cz: usize,
-    pub mx: usize,
-    pub my: usize,
-    pub mz: usize,
+struct Grid {
+    cx: usize,
+    cy: usize,
+    cz: usize,
+    mx: usize,
+    my: usize,
+    mz: usize,
 }
 
 // The neighbours of a node along an axis.
-pub struct Neighbours {
-    pub low: usize,
-    pub high: usize,
+struct Neighbours {
+    low: usize,
+    high: usize,
 }
 
 // A neighbour missing at a border is the node itself.

@@ -7,7 +7,7 @@ use native.Mathlib.Nat.{le-trans, le-of-eq, mul-le-mul-right, mod-eq-of-lt, add-
 use native.Mathlib.Omega.{arith}
 use borrow.Author.Tests.{lt-ltb, le-ltb}
 use lib.Dec.{ltb, eqb, lit≤}
-use lib.IntN.{ℤ, pos, _*ℤ_, natAbs, negℤ-negℤ}
+use lib.IntN.{ℤ, pos, _*ℤ_, natAbs}
 use Rattle.arith.proofs.Choices.{pick-true, pick-false}
 use Rattle.arith.proofs.Quote.{quotes, ring! }
 use Rattle.arith.proofs.Sums.{sum-ext, abs-weighted}
@@ -84,7 +84,7 @@ table-solved = by-order (λ m k. (y : ℕ → ℤ) → sum m (λ o. multiplier m
 turned-twice : (o : ℕ) (z : ℤ) → turned o (turned o z) ≡ z
 unfolding turned
 turned-twice zero z = refl
-turned-twice (suc zero) z = negℤ-negℤ z
+turned-twice (suc zero) z = ring! (z ∷ []) (search quotes depth 40) (search quotes depth 40) tt
 turned-twice (suc (suc o)) z = refl
 
 module _ (m : ℕ) (m2 : 2 ≤ m) (m3 : m ≤ 3) where

@@ -4,7 +4,7 @@ use mathlib.Core.List.{[], _∷_}
 use Prim.Native.Nat.{ℕ, zero, suc, _+_, _*_, _-_, _≤_, _<_}
 use native.Mathlib.Omega.{arith}
 use borrow.Author.Tests.{lt-ltb, le-ltb}
-use lib.IntN.{ℤ, pos, negℤ, _+ℤ_, _-ℤ_, _*ℤ_, *ℤ-comm, zero-*ℤ, +ℤ-idl, +ℤ-idr, natAbs}
+use lib.IntN.{ℤ, pos, negsuc, negℤ, _+ℤ_, _-ℤ_, _*ℤ_, *ℤ-comm, zero-*ℤ, +ℤ-idl, +ℤ-idr, natAbs}
 use Rattle.arith.proofs.Abs.{abs-neg}
 use Rattle.arith.proofs.Choices.{pick-true, pick-false}
 use Rattle.arith.proofs.Laws.{negℤ-*ℤ, *ℤ-negℤ}
@@ -66,25 +66,29 @@ stage-multiple k m N c u z x j =
 pub turned-mul : (o : ℕ) (x z : ℤ) → turned o x *ℤ z ≡ turned o (x *ℤ z)
 unfolding turned
 turned-mul zero x z = refl
-turned-mul (suc zero) x z = negℤ-*ℤ x z
+turned-mul (suc zero) x z = ring! (x ∷ z ∷ []) (search quotes depth 40) (search quotes depth 40) tt
 turned-mul (suc (suc o)) x z = refl
 
 pub mul-turned : (o : ℕ) (x z : ℤ) → x *ℤ turned o z ≡ turned o (x *ℤ z)
 unfolding turned
 mul-turned zero x z = refl
-mul-turned (suc zero) x z = *ℤ-negℤ x z
+mul-turned (suc zero) x z = ring! (x ∷ z ∷ []) (search quotes depth 40) (search quotes depth 40) tt
 mul-turned (suc (suc o)) x z = refl
 
 pub sum-turned : (n o : ℕ) (f : ℕ → ℤ) → sum n (λ i. turned o (f i)) ≡ turned o (sum n f)
-unfolding turned
+unfolding sum turned
 sum-turned n zero f = refl
-sum-turned n (suc zero) f = sum-neg n f
+sum-turned zero (suc zero) f = refl
+sum-turned (suc n) (suc zero) f =
+    ap (λ z. z +ℤ turned 1 (f n)) (sum-turned n 1 f) ∙ ring! (sum n f ∷ f n ∷ []) (search quotes depth 40) (search quotes depth 40) tt
 sum-turned n (suc (suc o)) f = refl
 
 pub turned-size : (o : ℕ) (z : ℤ) → natAbs (turned o z) ≡ natAbs z
 unfolding turned
 turned-size zero z = refl
-turned-size (suc zero) z = abs-neg z
+turned-size (suc zero) (pos zero) = refl
+turned-size (suc zero) (pos (suc n)) = refl
+turned-size (suc zero) (negsuc n) = refl
 turned-size (suc (suc o)) z = refl
 
 -- ---- what a coefficient takes

@@ -1,11 +1,12 @@
 -- The code's stage: the sum by the folded basis is the document's, and no sum on the way leaves 64 bits where the numbers are within 2^21, doubled with each order.
+use mathlib.Core.Bool.{Bool, true, false}
 use mathlib.Core.Path.{_≡_, sym, ap, ap₂, _∙_}
 use Prim.Native.Nat.{ℕ, _+_, _*_, _-_, _%_, _^_, _≤_, _<_}
-use native.Mathlib.Nat.{le-refl, le-trans, le-of-eq, lt-of-le-of-lt, add-le-add, mul-le-mul, mod-eq-of-lt, add-mod-left, zero-mul}
+use native.Mathlib.Nat.{le-refl, le-trans, le-of-eq, lt-of-le-of-lt, add-le-add, mul-le-mul, mod-eq-of-lt, add-mod-left, zero-mul, mul-comm}
 use native.Mathlib.Omega.{arith}
 use borrow.Author.Tests.{lt-ltb, le-ltb}
 use lib.Dec.{ltb, lit≤, lit<}
-use lib.Pow.{pow-mono}
+use lib.Pow.{pow-mono, pow-pos}
 use lib.IntN.{ℤ, pos, _+ℤ_, _*ℤ_, natAbs, zero-*ℤ}
 use lib.Signed.{mag}
 use mir.Syntax.{w64}
@@ -13,6 +14,7 @@ use mir.Val.{SFits}
 use mir.Facts.{toZ-ofZ}
 use Rattle.arith.proofs.Abs.{abs-add, sfits-abs}
 use Rattle.arith.proofs.Choices.{pick-true, pick-false, by-m}
+use Rattle.arith.proofs.Round.{round-common}
 use Rattle.arith.proofs.Sums.{sum-ext, total-ext, dot-sum}
 use Rattle.arith.specs.Choice.{pick}
 use Rattle.arith.specs.Int.{roundHalfUp}
@@ -20,10 +22,11 @@ use Rattle.arith.specs.Sum.{sum, total}
 use Rattle.lattice.specs.Buffer.{at}
 use Rattle.hermite.specs.declared.Basis.{Basis}
 use Rattle.hermite.specs.Hermite.{Kind, value, slope, divisor, basis, stageSum}
-use Rattle.hermite.specs.Stage.{steps, Folds, bothEnds, load}
+use Rattle.hermite.specs.Stage.{steps, Folds, bothEnds, load, worth}
 use Rattle.hermite.proofs.General.{by-place, sum-three, total-three, total-ends}
 use Rattle.hermite.proofs.DotLaws.{held, read}
 use Rattle.hermite.proofs.Ends.{by-ends}
+use Rattle.hermite.proofs.HermiteLaws.{stage-multiple}
 use Rattle.hermite.proofs.Reach.{coarse, growth, coarse-growth}
 use Rattle.hermite.proofs.Sizes.{stage-total}
 
@@ -106,6 +109,20 @@ module _ (k : Kind) (m u : ℕ) (b : Basis) (f : Folds k m u b) (low high : ℕ 
         let c = mul-le-mul (le-trans (coarse-growth k m steps u (f .m-low) (f .m-high) (f .step)) (growth-small k m (f .m-low) (f .m-high))) h in
         let l = load-size in
         omega arith
+
+-- ---- in units or in eighths
+
+worth-some : (b : Bool) → 0 < worth b
+unfolding worth
+worth-some true = lit< tt
+worth-some false = lit< tt
+
+-- a stage of the code's numbers, by the shift that belongs to them, is the stage of the same numbers counted in eighths
+pub stage-eighths : (k : Kind) (m N c u r D : ℕ) (from to : Bool) → 2 ^ (r + 1) * worth from ≡ D * worth to → (x : ℕ → ℤ) (j : ℕ)
+    → roundHalfUp (stageSum k m N c u x j) (2 ^ (r + 1)) ≡ roundHalfUp (stageSum k m N c u (λ t. pos (worth from) *ℤ x t) j) (worth to * D)
+stage-eighths k m N c u r D from to e x j =
+    sym (round-common (worth from) (stageSum k m N c u x j) (2 ^ (r + 1)) (worth-some from) (pow-pos (r + 1)))
+    ∙ ap₂ (λ (z : ℤ) (i : ℕ). roundHalfUp z i) (sym (stage-multiple k m N c u (pos (worth from)) x j)) (mul-comm (worth from) (2 ^ (r + 1)) ∙ e ∙ mul-comm D (worth to))
 
 -- ---- as the machine works it out
 

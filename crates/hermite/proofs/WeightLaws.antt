@@ -1,5 +1,6 @@
--- The code's weights are the definition's: the products of powers, and their combinations for a slope; and how large they are.
+-- The code's weights are the definition's, case by case, and how large they are.
 use mathlib.Core.Path.{_≡_, sym, ap, ap₂, _∙_}
+use mathlib.Core.Bool.{Bool}
 use mathlib.Core.List.{[], _∷_}
 use Prim.Native.Nat.{ℕ, zero, suc, _+_, _*_, _-_, _^_, _≤_, _<_}
 use native.Mathlib.Nat.{le-trans, le-of-eq, mul-comm, pow-suc, pow-le-pow-right}
@@ -12,77 +13,59 @@ use mir.Val.{SFits}
 use mir.Facts.{toZ-ofZ}
 use Rattle.arith.specs.Int.{_^ℤ_}
 use Rattle.arith.proofs.Abs.{abs-mul-le, abs-minus}
-use Rattle.arith.proofs.Choices.{by-m}
 use Rattle.arith.proofs.Quote.{quotes, ring! }
-use Rattle.hermite.specs.Hermite.{Kind, value, slope, weight}
+use Rattle.lattice.specs.Buffer.{at}
+use Rattle.hermite.specs.Hermite.{Kind, value, slope, kindOf, weight}
 use Rattle.hermite.proofs.General.{by-3}
 use Rattle.hermite.proofs.DotLaws.{held}
+
+-- ---- as the code writes them
+
+module _ (a b : ℤ) where
+  pub cubic-slope : (pos 0 -ℤ pos 3 *ℤ (a *ℤ a) ≡ weight slope a b 3 0) × (a *ℤ a -ℤ pos 2 *ℤ (a *ℤ b) ≡ weight slope a b 3 1) × (pos 2 *ℤ (a *ℤ b) -ℤ b *ℤ b ≡ weight slope a b 3 2)
+  unfolding weight
+  cubic-slope = (
+    ring! (a ∷ b ∷ []) (search quotes depth 40) (search quotes depth 40) tt,
+    ring! (a ∷ b ∷ []) (search quotes depth 40) (search quotes depth 40) tt,
+    ring! (a ∷ b ∷ []) (search quotes depth 40) (search quotes depth 40) tt,
+  )
+
+  pub cubic-value : (a *ℤ a *ℤ a ≡ weight value a b 3 0) × (a *ℤ a *ℤ b ≡ weight value a b 3 1) × (a *ℤ b *ℤ b ≡ weight value a b 3 2)
+  unfolding weight
+  cubic-value = (
+    ring! (a ∷ b ∷ []) (search quotes depth 40) (search quotes depth 40) tt,
+    ring! (a ∷ b ∷ []) (search quotes depth 40) (search quotes depth 40) tt,
+    ring! (a ∷ b ∷ []) (search quotes depth 40) (search quotes depth 40) tt,
+  )
+
+  pub quintic-slope : (pos 0 -ℤ pos 5 *ℤ (a *ℤ a *ℤ (a *ℤ a)) ≡ weight slope a b 5 0) × (a *ℤ a *ℤ (a *ℤ a -ℤ pos 4 *ℤ (a *ℤ b)) ≡ weight slope a b 5 1)
+      × (a *ℤ b *ℤ (pos 2 *ℤ (a *ℤ a) -ℤ pos 3 *ℤ (a *ℤ b)) ≡ weight slope a b 5 2)
+  unfolding weight
+  quintic-slope = (
+    ring! (a ∷ b ∷ []) (search quotes depth 40) (search quotes depth 40) tt,
+    ring! (a ∷ b ∷ []) (search quotes depth 40) (search quotes depth 40) tt,
+    ring! (a ∷ b ∷ []) (search quotes depth 40) (search quotes depth 40) tt,
+  )
+
+  pub quintic-value : (a *ℤ a *ℤ a *ℤ (a *ℤ a) ≡ weight value a b 5 0) × (a *ℤ a *ℤ a *ℤ (a *ℤ b) ≡ weight value a b 5 1) × (a *ℤ b *ℤ (a *ℤ b) *ℤ a ≡ weight value a b 5 2)
+  unfolding weight
+  quintic-value = (
+    ring! (a ∷ b ∷ []) (search quotes depth 40) (search quotes depth 40) tt,
+    ring! (a ∷ b ∷ []) (search quotes depth 40) (search quotes depth 40) tt,
+    ring! (a ∷ b ∷ []) (search quotes depth 40) (search quotes depth 40) tt,
+  )
+
+-- three weights as an array, for the flag and the degree of a branch
+pub weights-row : (flag way : Bool) (m n : ℕ) → flag ≡ way → m ≡ n → (a b x y z : ℤ) → x ≡ weight (kindOf way) a b (2 * n - 1) 0 → y ≡ weight (kindOf way) a b (2 * n - 1) 1 → z ≡ weight (kindOf way) a b (2 * n - 1) 2
+    → (k : ℕ) → k < 3 → at (x ∷ y ∷ z ∷ []) k ≡ weight (kindOf flag) a b (2 * m - 1) k
+weights-row flag way m n e f a b x y z p q r k l =
+    by-3 (λ k. at (x ∷ y ∷ z ∷ []) k ≡ weight (kindOf way) a b (2 * n - 1) k) p q r k l ∙ ap₂ (λ (s : Bool) (i : ℕ). weight (kindOf s) a b (2 * i - 1) k) (sym e) (sym f)
 
 -- ---- sizes
 
 power-within : (a : ℤ) (e : ℕ) → natAbs a ≤ 256 → natAbs (a ^ℤ e) ≤ 256 ^ e
 power-within a zero h = lit≤ tt
 power-within a (suc e) h = le-trans (abs-mul-le a (a ^ℤ e) h (power-within a e h)) (le-of-eq (mul-comm 256 (256 ^ e) ∙ sym (pow-suc 256 e)))
-
-pub power-size : (a : ℤ) (e : ℕ) → natAbs a ≤ 256 → e ≤ 3 → natAbs (a ^ℤ e) ≤ 256 ^ 3
-power-size a e h l = le-trans (power-within a e h) (pow-le-pow-right {n = 256} (lit< tt) l)
-
-pub product-size : (p a b : ℤ) → natAbs p ≤ 256 ^ 3 → natAbs a ≤ 256 → natAbs b ≤ 256 → natAbs (p *ℤ (a *ℤ b)) ≤ 256 ^ 5
-product-size p a b hp ha hb = abs-mul-le p (a *ℤ b) hp (abs-mul-le a b ha hb)
-
--- ---- what they are
-
-abbrev pub Products : ℤ → ℤ → ℤ → (ℕ → ℤ) → Type 0
-Products p a b v = (v 0 ≡ p *ℤ (a *ℤ a)) × (v 1 ≡ p *ℤ (a *ℤ b)) × (v 2 ≡ p *ℤ (b *ℤ b))
-
-abbrev pub Derivatives : ℤ → (ℕ → ℤ) → (ℕ → ℤ) → Type 0
-Derivatives d v r = (r 0 ≡ pos 0 -ℤ d *ℤ v 0) × (r 1 ≡ v 0 -ℤ (d -ℤ pos 1) *ℤ v 1) × (r 2 ≡ pos 2 *ℤ v 1 -ℤ (d -ℤ pos 2) *ℤ v 2)
-
-pub products-within : (p a b : ℤ) (v : ℕ → ℤ) → natAbs p ≤ 256 ^ 3 → natAbs a ≤ 256 → natAbs b ≤ 256 → Products p a b v → (k : ℕ) → k < 3 → natAbs (v k) ≤ 256 ^ 5
-products-within p a b v hp ha hb h =
-    by-3 (λ k. natAbs (v k) ≤ 256 ^ 5)
-    (le-trans (le-of-eq (ap natAbs (h .0))) (product-size p a a hp ha ha))
-    (le-trans (le-of-eq (ap natAbs (h .1))) (product-size p a b hp ha hb))
-    (le-trans (le-of-eq (ap natAbs (h .2))) (product-size p b b hp hb hb))
-
-pub value-weights : (m : ℕ) → 2 ≤ m → m ≤ 3 → (a b p : ℤ) (v : ℕ → ℤ) → p ≡ a ^ℤ (2 * m - 3) → Products p a b v → (k : ℕ) → k < 3 → v k ≡ weight value a b (2 * m - 1) k
-unfolding weight
-value-weights =
-    by-m (λ m. (a b p : ℤ) (v : ℕ → ℤ) → p ≡ a ^ℤ (2 * m - 3) → Products p a b v → (k : ℕ) → k < 3 → v k ≡ weight value a b (2 * m - 1) k)
-    (λ a b p v e h. by-3 (λ k. v k ≡ weight value a b 3 k)
-    (h .0 ∙ rw e (ring! (a ∷ b ∷ []) (search quotes depth 40) (search quotes depth 40) tt))
-    (h .1 ∙ rw e (ring! (a ∷ b ∷ []) (search quotes depth 40) (search quotes depth 40) tt))
-    (h .2 ∙ rw e (ring! (a ∷ b ∷ []) (search quotes depth 40) (search quotes depth 40) tt)))
-    (λ a b p v e h. by-3 (λ k. v k ≡ weight value a b 5 k)
-    (h .0 ∙ rw e (ring! (a ∷ b ∷ []) (search quotes depth 40) (search quotes depth 40) tt))
-    (h .1 ∙ rw e (ring! (a ∷ b ∷ []) (search quotes depth 40) (search quotes depth 40) tt))
-    (h .2 ∙ rw e (ring! (a ∷ b ∷ []) (search quotes depth 40) (search quotes depth 40) tt)))
-
--- the combinations of the products
-module _ (d a b p q : ℤ) (v r : ℕ → ℤ) (e : p ≡ q) (h : Products p a b v) (g : Derivatives d v r) where
-  first : r 0 ≡ pos 0 -ℤ d *ℤ (q *ℤ (a *ℤ a))
-  first = g .0 ∙ ap (λ z. pos 0 -ℤ d *ℤ z) (h .0) ∙ ap (λ z. pos 0 -ℤ d *ℤ (z *ℤ (a *ℤ a))) e
-
-  second : r 1 ≡ q *ℤ (a *ℤ a) -ℤ (d -ℤ pos 1) *ℤ (q *ℤ (a *ℤ b))
-  second = g .1 ∙ ap₂ (λ y z. y -ℤ (d -ℤ pos 1) *ℤ z) (h .0) (h .1) ∙ ap (λ z. z *ℤ (a *ℤ a) -ℤ (d -ℤ pos 1) *ℤ (z *ℤ (a *ℤ b))) e
-
-  third : r 2 ≡ pos 2 *ℤ (q *ℤ (a *ℤ b)) -ℤ (d -ℤ pos 2) *ℤ (q *ℤ (b *ℤ b))
-  third = g .2 ∙ ap₂ (λ y z. pos 2 *ℤ y -ℤ (d -ℤ pos 2) *ℤ z) (h .1) (h .2) ∙ ap (λ z. pos 2 *ℤ (z *ℤ (a *ℤ b)) -ℤ (d -ℤ pos 2) *ℤ (z *ℤ (b *ℤ b))) e
-
-pub slope-weights : (m : ℕ) → 2 ≤ m → m ≤ 3 → (a b p : ℤ) (v r : ℕ → ℤ) → p ≡ a ^ℤ (2 * m - 4) → Products p a b v → Derivatives (pos (2 * m - 1)) v r → (k : ℕ) → k < 3 → r k ≡ weight slope a b (2 * m - 1) k
-unfolding weight
-slope-weights =
-    by-m (λ m. (a b p : ℤ) (v r : ℕ → ℤ) → p ≡ a ^ℤ (2 * m - 4) → Products p a b v → Derivatives (pos (2 * m - 1)) v r → (k : ℕ) → k < 3 → r k ≡ weight slope a b (2 * m - 1) k)
-    (λ a b p v r e h g. by-3 (λ k. r k ≡ weight slope a b 3 k)
-    (first (pos 3) a b p (a ^ℤ 0) v r e h g ∙ ring! (a ∷ b ∷ []) (search quotes depth 40) (search quotes depth 40) tt)
-    (second (pos 3) a b p (a ^ℤ 0) v r e h g ∙ ring! (a ∷ b ∷ []) (search quotes depth 40) (search quotes depth 40) tt)
-    (third (pos 3) a b p (a ^ℤ 0) v r e h g ∙ ring! (a ∷ b ∷ []) (search quotes depth 40) (search quotes depth 40) tt))
-    (λ a b p v r e h g. by-3 (λ k. r k ≡ weight slope a b 5 k)
-    (first (pos 5) a b p (a ^ℤ 2) v r e h g ∙ ring! (a ∷ b ∷ []) (search quotes depth 40) (search quotes depth 40) tt)
-    (second (pos 5) a b p (a ^ℤ 2) v r e h g ∙ ring! (a ∷ b ∷ []) (search quotes depth 40) (search quotes depth 40) tt)
-    (third (pos 5) a b p (a ^ℤ 2) v r e h g ∙ ring! (a ∷ b ∷ []) (search quotes depth 40) (search quotes depth 40) tt))
-
--- ---- sizes of the definition's
 
 pair-size : (a b : ℤ) (i j : ℕ) → natAbs a ≤ 256 → natAbs b ≤ 256 → i + j ≤ 5 → natAbs (a ^ℤ i *ℤ b ^ℤ j) ≤ 256 ^ 5
 pair-size a b i j ha hb h =

@@ -30,7 +30,7 @@ bothEnds m low high t = pick (ltb t m) (low t) (high (t - m))
 unfoldable pub load : Basis → (ℕ → ℤ) → (ℕ → ℤ) → ℕ
 load b low high = total 3 (λ o. natAbs (at (b .low) o) * natAbs (low o)) + total 3 (λ o. natAbs (at (b .high) o) * natAbs (high o))
 
--- how many of what numbers count make a unit: eighths or units
-unfoldable pub parts : Bool → ℕ
-parts true = 8
-parts false = 1
+-- how many eighths of a unit a number counts: 1 where numbers are in eighths, 8 where they are in units
+unfoldable pub worth : Bool → ℕ
+worth true = 1
+worth false = 8

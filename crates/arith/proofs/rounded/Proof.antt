@@ -1,7 +1,7 @@
 -- `arith::rounded` meets its contract: half the divisor is added, and the shift rounds down.
 use mathlib.Core.Path.{_≡_, sym, ap, _∙_}
-use Prim.Native.Nat.{ℕ, _+_, _*_, _%_, _^_, _≤_}
-use native.Mathlib.Nat.{one-mul, mod-eq-of-lt, lt-of-le-of-lt, le-trans, add-le-add, two-pow-succ}
+use Prim.Native.Nat.{ℕ, _+_, _*_, _%_, _^_, _≤_, _<_}
+use native.Mathlib.Nat.{one-mul, mod-eq-of-lt, lt-of-le-of-lt, two-pow-succ}
 use native.Mathlib.Numerals.{add-one}
 use native.Mathlib.Omega.{arith}
 use borrow.Author.Needs.{needs}
@@ -18,7 +18,7 @@ use Rattle.arith.proofs.Round.{round-half}
 use Rattle.arith.proofs.rounded.Statement.{statement}
 use Rattle.arith.proofs.rounded.Tie as tie
 
-module _ (x : ℤ) (k : ℕ) (f : SFits w64 x) (small : natAbs x ≤ 2 ^ 62) (hk : k ≤ 61) where
+module _ (x : ℤ) (k : ℕ) (f : SFits w64 x) (hk : k ≤ 61) (small : natAbs x + 2 ^ k < 2 ^ 63) where
   half-small : 2 ^ k ≤ 2 ^ 61
   half-small = pow-mono hk
 
@@ -26,7 +26,7 @@ module _ (x : ℤ) (k : ℕ) (f : SFits w64 x) (small : natAbs x ≤ 2 ^ 62) (hk
   half = rw (one-mul (2 ^ k), mod-eq-of-lt (lt-of-le-of-lt half-small (lit< tt)), toZ-pos w64 {n = 2 ^ k} (lt-of-le-of-lt half-small (lit< tt)))
 
   sum-fits : SFits w64 (x +ℤ pos (2 ^ k))
-  sum-fits = sfits-abs (x +ℤ pos (2 ^ k)) (lt-of-le-of-lt (le-trans (abs-add x (pos (2 ^ k))) (add-le-add small half-small)) (lit< tt))
+  sum-fits = sfits-abs (x +ℤ pos (2 ^ k)) (lt-of-le-of-lt (abs-add x (pos (2 ^ k))) small)
 
   double : 2 ^ (k + 1) ≡ 2 * 2 ^ k
   double = ap (λ (i : ℕ). 2 ^ i) (add-one k) ∙ two-pow-succ k ∙ twice (2 ^ k)

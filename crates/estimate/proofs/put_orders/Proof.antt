@@ -12,6 +12,7 @@ use mir.Facts.{toZ-ofZ}
 use denote.Ref.{now}
 use borrow.Author.Needs.{needs}
 use Rattle.arith.proofs.Abs.{abs-add, abs-minus, abs-mul, sfits-abs}
+use Rattle.arith.proofs.Machine.{Size, sizes, sized, s-bits, fits?}
 use Rattle.estimate.specs.Estimate.{byOrder}
 use Rattle.estimate.specs.Passes.{passLimit, placed}
 use Rattle.estimate.proofs.PassesLaws.{bits}
@@ -21,6 +22,9 @@ use Rattle.estimate.proofs.put_orders.Tie as tie
 -- a number as the machine holds it
 abbrev held : ℤ → ℤ
 held x = toZ w32 (ofZ w32 x)
+
+abbrev param : (x : ℤ) → natAbs x ≤ passLimit → Size (held x)
+param x h = s-bits w32 x (sized x passLimit h)
 
 module _ (l f r : ℤ) (small : (natAbs l ≤ passLimit) × (natAbs f ≤ passLimit) × (natAbs r ≤ passLimit)) where
   D-fits : SFits w32 (r -ℤ l)
@@ -36,9 +40,6 @@ module _ (l f r : ℤ) (small : (natAbs l ≤ passLimit) × (natAbs f ≤ passLi
   S-fits = sfits-abs (l -ℤ pos 2 *ℤ f +ℤ r) (omega (arith, abs-add (l -ℤ pos 2 *ℤ f) r, abs-minus l (pos 2 *ℤ f), abs-mul (pos 2) f))
 
   -- the machine's steps
-  step-D : SFits w32 (held r -ℤ held l)
-  step-D = rw (bits l (small .0), bits r (small .2)) D-fits
-
   step-double : SFits w32 (pos 2 *ℤ held f)
   step-double = rw (bits f (small .1)) double-fits
 
@@ -81,7 +82,7 @@ slice-set-from-f : tie.Need-slice-set-from-f
 slice-set-from-f c = search needs
 
 sub-out : tie.Need-sub-out
-sub-out c = let s = c .before in step-D (s .args .l) (s .args .f) (s .args .r) (s .pre .1)
+sub-out c = let s = c .before in fits? (search (param (s .args .l) (s .pre .1 .0), param (s .args .r) (s .pre .1 .2), sizes)) (omega arith)
 
 add-t11 : tie.Need-add-t11
 add-t11 c = search needs

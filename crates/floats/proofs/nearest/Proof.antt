@@ -1,10 +1,11 @@
 -- `floats::nearest` meets its contract: each branch by what `proofs/Bits.antt` says of the bits of y.
 use mathlib.Core.Path.{_≡_, sym, ap, subst, _∙_}
 use Prim.Native.Nat.{ℕ, _+_, _-_, _^_, _≤_}
-use native.Mathlib.Nat.{le-trans}
+use native.Mathlib.Nat.{lt-of-le-of-lt, add-le-add}
+use lib.Pow.{pow-mono}
 use native.Mathlib.Omega.{arith}
 use mathlib.Core.Bool.{Bool, not}
-use lib.Dec.{T, leb, lit≤}
+use lib.Dec.{T, leb, lit<}
 use lib.IntN.{ℤ}
 use lib.Ieee.{Float, inf, binary32, isNan, toBits, ofBits}
 use lib.Ieee.Bits.{ofBits-toBits}
@@ -48,7 +49,11 @@ significand : (c : tie.After-significand) → toZ w64 (ofZ w64 (c .significand .
 significand c = toZ-ofZ {w = w64} (sfits-of (c .significand .ok)) ∙ c .significand .ensures
 
 rounded-requires : tie.Need-rounded-requires
-rounded-requires c κs = (rw (significand c) (le-trans (digits-size (bits (c .before .before .before))) (lit≤ tt)), omega arith)
+rounded-requires c κs = (
+  omega arith,
+  rw (significand c)
+      (lt-of-le-of-lt (add-le-add (digits-size (bits (c .before .before .before))) (pow-mono {j = 32} (omega arith))) (lit< tt)),
+)
 
 -- what is rounded: in 32 signed bits, and nearest to y
 module _ (c : tie.After-rounded) where

@@ -51,7 +51,7 @@ array-copy-out-folded-3 c = search needs
 
 folded-requires : tie.Need-folded-requires
 unfolding multiplier
-folded-requires c κs o l = let r = multiplier-size 2 (lit≤ tt) (lit≤ tt) o l in (r .0, r .1, r .2, small (c .before .before .before .before) o l)
+folded-requires c κs = (multiplier-size 2 (lit≤ tt) (lit≤ tt), small (c .before .before .before .before))
 
 returns : tie.Need-returns
 unfolding multiplier
@@ -68,7 +68,7 @@ array-copy-out-folded-6 c = search needs
 
 folded-requires-2 : tie.Need-folded-requires-2
 unfolding multiplier
-folded-requires-2 c κs o l = let r = multiplier-size 3 (lit≤ tt) (lit≤ tt) o l in (r .0, r .1, r .2, small (c .before .before .before .before) o l)
+folded-requires-2 c κs = (multiplier-size 3 (lit≤ tt) (lit≤ tt), small (c .before .before .before .before))
 
 returns-2 : tie.Need-returns-2
 unfolding multiplier

@@ -1,169 +1,93 @@
--- `hermite::folded` meets its contract: multipliers and weights are small.
-use lib.Dec.{T, ltb, lit<}
-use Rattle.arith.proofs.Machine.{Size, sizes, fits?, value?}
+-- `hermite::folded` meets its contract: three calls of `combined`, one for each order.
+use native.Mathlib.Nat.{lt-of-le-of-lt}
+use lib.Dec.{lit<}
+use lib.Signed.{mag}
+use mir.Facts.{toZ-ofZ}
+use Rattle.arith.proofs.Abs.{sfits-abs}
 use Rattle.lattice.specs.Buffer.{at}
 use Rattle.hermite.proofs.General.{by-3}
-use Rattle.hermite.proofs.DotLaws.{element}
-use Prim.Native.Nat.{ℕ, _^_}
-use native.Mathlib.Omega.{arith}
-use mir.Syntax.{w64}
-use mir.Val.{toZ, ofZ}
+use Rattle.hermite.proofs.DotLaws.{held, read}
+use mathlib.Core.Path.{_≡_, _∙_}
+use Prim.Native.Nat.{ℕ, _≤_, _<_, _^_}
+use lib.IntN.{ℤ, natAbs, _+ℤ_, _*ℤ_}
 use borrow.Author.Needs.{needs}
 use Rattle.hermite.proofs.folded.Statement.{statement}
 use Rattle.hermite.proofs.folded.Tie as tie
 
-abbrev k-x : (c : tie.Start) (i : ℕ) → T (ltb i 3) → Size (toZ w64 (ofZ w64 (at (c .args .t1) i)))
-k-x c i t = element (c .args .t1) i 20 (c .pre i (lit< t) .0) (lit< tt)
+-- a multiplier as the calls take it
+plain : (z : ℤ) → natAbs z ≤ 20 → held z ≡ z
+plain z h = toZ-ofZ (sfits-abs z (lt-of-le-of-lt h (lit< tt)))
 
-abbrev k-y : (c : tie.Start) (i : ℕ) → T (ltb i 3) → Size (toZ w64 (ofZ w64 (at (c .args .t2) i)))
-k-y c i t = element (c .args .t2) i 20 (c .pre i (lit< t) .1) (lit< tt)
+-- one order: what the call asks for, and what it gives
+module _ (s : tie.Start) (o : ℕ) (l : o < 3) where
+  asks : ((natAbs (held (at (s .args .t1) o)) ≤ 20) × (natAbs (held (at (s .args .t2) o)) ≤ 20) × (natAbs (held (at (s .args .t3) o)) ≤ 20)) × ((k : ℕ) → k < 3 → natAbs (at (s .args .w) k) ≤ 2 ^ 43)
+  asks =
+      let h = s .pre .0 o l in
+      ((rw (plain (at (s .args .t1) o) (h .0)) (h .0), rw (plain (at (s .args .t2) o) (h .1)) (h .1), rw (plain (at (s .args .t3) o) (h .2)) (h .2)), s .pre .1)
 
-abbrev k-z : (c : tie.Start) (i : ℕ) → T (ltb i 3) → Size (toZ w64 (ofZ w64 (at (c .args .t3) i)))
-k-z c i t = element (c .args .t3) i 20 (c .pre i (lit< t) .2) (lit< tt)
+  gives : (r : ℤ) → mag r < 2 ^ 63 → r ≡ held (at (s .args .t1) o) *ℤ at (s .args .w) 0 +ℤ held (at (s .args .t2) o) *ℤ at (s .args .w) 1 +ℤ held (at (s .args .t3) o) *ℤ at (s .args .w) 2
+      → held r ≡ at (s .args .t1) o *ℤ at (s .args .w) 0 +ℤ at (s .args .t2) o *ℤ at (s .args .w) 1 +ℤ at (s .args .t3) o *ℤ at (s .args .w) 2
+  gives r ok e =
+      let h = s .pre .0 o l in
+      read r ok ∙ e ∙ rw (plain (at (s .args .t1) o) (h .0), plain (at (s .args .t2) o) (h .1), plain (at (s .args .t3) o) (h .2))
 
-abbrev k-w : (c : tie.Start) (i : ℕ) → T (ltb i 3) → Size (toZ w64 (ofZ w64 (at (c .args .t4) i)))
-k-w c i t = element (c .args .t4) i (2 ^ 43) (c .pre i (lit< t) .3) (lit< tt)
+array-copy-out-combined : tie.Need-array-copy-out-combined
+array-copy-out-combined c = search needs
 
-ruleset known = (k-x, k-y, k-z, k-w, sizes)
+array-copy-out-combined-2 : tie.Need-array-copy-out-combined-2
+array-copy-out-combined-2 c = search needs
 
-array-copy-out-t11 : tie.Need-array-copy-out-t11
-array-copy-out-t11 c = search needs
+array-copy-out-combined-3 : tie.Need-array-copy-out-combined-3
+array-copy-out-combined-3 c = search needs
 
-array-copy-out-t14 : tie.Need-array-copy-out-t14
-array-copy-out-t14 c = search needs
+combined-requires : tie.Need-combined-requires
+combined-requires c κs = asks (c .before .before .before) 0 (lit< tt)
 
-mul-t15 : tie.Need-mul-t15
-mul-t15 c = fits? (search known depth 40 fits 3000) (omega arith)
+array-copy-out-combined-4 : tie.Need-array-copy-out-combined-4
+array-copy-out-combined-4 c = search needs
 
-array-copy-out-t18 : tie.Need-array-copy-out-t18
-array-copy-out-t18 c = search needs
+array-copy-out-combined-5 : tie.Need-array-copy-out-combined-5
+array-copy-out-combined-5 c = search needs
 
-array-copy-out-t21 : tie.Need-array-copy-out-t21
-array-copy-out-t21 c = search needs
+array-copy-out-combined-6 : tie.Need-array-copy-out-combined-6
+array-copy-out-combined-6 c = search needs
 
-mul-t22 : tie.Need-mul-t22
-mul-t22 c = fits? (search known depth 40 fits 3000) (omega arith)
+combined-requires-2 : tie.Need-combined-requires-2
+combined-requires-2 c κs = asks (c .before .before .before .before .before .before .before) 1 (lit< tt)
 
-add-t23 : tie.Need-add-t23
-add-t23 c = fits? (search known depth 40 fits 3000) (omega arith)
+array-copy-out-combined-7 : tie.Need-array-copy-out-combined-7
+array-copy-out-combined-7 c = search needs
 
-array-copy-out-t26 : tie.Need-array-copy-out-t26
-array-copy-out-t26 c = search needs
+array-copy-out-combined-8 : tie.Need-array-copy-out-combined-8
+array-copy-out-combined-8 c = search needs
 
-array-copy-out-t29 : tie.Need-array-copy-out-t29
-array-copy-out-t29 c = search needs
+array-copy-out-combined-9 : tie.Need-array-copy-out-combined-9
+array-copy-out-combined-9 c = search needs
 
-mul-t30 : tie.Need-mul-t30
-mul-t30 c = fits? (search known depth 40 fits 3000) (omega arith)
-
-add-t31 : tie.Need-add-t31
-add-t31 c = fits? (search known depth 40 fits 3000) (omega arith)
-
-array-copy-out-t34 : tie.Need-array-copy-out-t34
-array-copy-out-t34 c = search needs
-
-array-copy-out-t37 : tie.Need-array-copy-out-t37
-array-copy-out-t37 c = search needs
-
-mul-t38 : tie.Need-mul-t38
-mul-t38 c = fits? (search known depth 40 fits 3000) (omega arith)
-
-array-copy-out-t41 : tie.Need-array-copy-out-t41
-array-copy-out-t41 c = search needs
-
-array-copy-out-t44 : tie.Need-array-copy-out-t44
-array-copy-out-t44 c = search needs
-
-mul-t45 : tie.Need-mul-t45
-mul-t45 c = fits? (search known depth 40 fits 3000) (omega arith)
-
-add-t46 : tie.Need-add-t46
-add-t46 c = fits? (search known depth 40 fits 3000) (omega arith)
-
-array-copy-out-t49 : tie.Need-array-copy-out-t49
-array-copy-out-t49 c = search needs
-
-array-copy-out-t52 : tie.Need-array-copy-out-t52
-array-copy-out-t52 c = search needs
-
-mul-t53 : tie.Need-mul-t53
-mul-t53 c = fits? (search known depth 40 fits 3000) (omega arith)
-
-add-t54 : tie.Need-add-t54
-add-t54 c = fits? (search known depth 40 fits 3000) (omega arith)
-
-array-copy-out-t57 : tie.Need-array-copy-out-t57
-array-copy-out-t57 c = search needs
-
-array-copy-out-t60 : tie.Need-array-copy-out-t60
-array-copy-out-t60 c = search needs
-
-mul-t61 : tie.Need-mul-t61
-mul-t61 c = fits? (search known depth 40 fits 3000) (omega arith)
-
-array-copy-out-t64 : tie.Need-array-copy-out-t64
-array-copy-out-t64 c = search needs
-
-array-copy-out-t67 : tie.Need-array-copy-out-t67
-array-copy-out-t67 c = search needs
-
-mul-t68 : tie.Need-mul-t68
-mul-t68 c = fits? (search known depth 40 fits 3000) (omega arith)
-
-add-t69 : tie.Need-add-t69
-add-t69 c = fits? (search known depth 40 fits 3000) (omega arith)
-
-array-copy-out-t72 : tie.Need-array-copy-out-t72
-array-copy-out-t72 c = search needs
-
-array-copy-out-t75 : tie.Need-array-copy-out-t75
-array-copy-out-t75 c = search needs
-
-mul-t76 : tie.Need-mul-t76
-mul-t76 c = fits? (search known depth 40 fits 3000) (omega arith)
-
-add-t77 : tie.Need-add-t77
-add-t77 c = fits? (search known depth 40 fits 3000) (omega arith)
+combined-requires-3 : tie.Need-combined-requires-3
+combined-requires-3 c κs = asks (c .before .before .before .before .before .before .before .before .before .before .before) 2 (lit< tt)
 
 returns : tie.Need-returns
 returns c =
-    by-3 _ (value? (search known depth 40 fits 3000) (omega arith)) (value? (search known depth 40 fits 3000) (omega arith)) (value? (search known depth 40 fits 3000) (omega arith))
+    let second = c .before .before .before .before in
+    let first = second .before .before .before .before in
+    let s = first .before .before .before .before in
+    by-3 _ (gives s 0 (lit< tt) (first .combined .result) (first .combined .ok) (first .combined .ensures)) (gives s 1 (lit< tt) (second .combined2 .result) (second .combined2 .ok) (second .combined2 .ensures)) (gives s 2 (lit< tt) (c .combined3 .result) (c .combined3 .ok) (c .combined3 .ensures))
 
 pub folded-spec : {M : Type 1} → statement M
 folded-spec =
     tie.close
     (tie.spec
-    array-copy-out-t11
-    array-copy-out-t14
-    mul-t15
-    array-copy-out-t18
-    array-copy-out-t21
-    mul-t22
-    add-t23
-    array-copy-out-t26
-    array-copy-out-t29
-    mul-t30
-    add-t31
-    array-copy-out-t34
-    array-copy-out-t37
-    mul-t38
-    array-copy-out-t41
-    array-copy-out-t44
-    mul-t45
-    add-t46
-    array-copy-out-t49
-    array-copy-out-t52
-    mul-t53
-    add-t54
-    array-copy-out-t57
-    array-copy-out-t60
-    mul-t61
-    array-copy-out-t64
-    array-copy-out-t67
-    mul-t68
-    add-t69
-    array-copy-out-t72
-    array-copy-out-t75
-    mul-t76
-    add-t77
+    array-copy-out-combined
+    array-copy-out-combined-2
+    array-copy-out-combined-3
+    combined-requires
+    array-copy-out-combined-4
+    array-copy-out-combined-5
+    array-copy-out-combined-6
+    combined-requires-2
+    array-copy-out-combined-7
+    array-copy-out-combined-8
+    array-copy-out-combined-9
+    combined-requires-3
     returns)

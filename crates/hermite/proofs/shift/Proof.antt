@@ -2,7 +2,7 @@
 use mathlib.Core.Path.{ap₂}
 use mathlib.Core.Bool.{Bool}
 use lib.Pow.{pow-add}
-use Rattle.hermite.specs.Stage.{parts}
+use Rattle.hermite.specs.Stage.{worth}
 use mathlib.Core.Path.{_≡_, sym, ap, _∙_}
 use Prim.Native.Nat.{ℕ, _+_, _^_, _-_, _*_}
 use native.Mathlib.Omega.{arith}
@@ -27,28 +27,28 @@ exponent-requires c κs = search needs
 returns : tie.Need-returns
 returns c =
     let s = c .before .before .before in
-    (omega arith, ap₂ (λ (x : ℕ) (b : Bool). x * parts b) (c .before .before .exponent .ensures .2) (c .if2 .taken ∙ sym (c .before .if1 .taken)))
+    (omega arith, ap₂ (λ (x : ℕ) (b : Bool). x * worth b) (c .before .before .exponent .ensures .2) (c .before .if1 .taken ∙ sym (c .if2 .taken)))
 
 add-result : tie.Need-add-result
 add-result c = search needs
 
 returns-2 : tie.Need-returns-2
-unfolding parts
+unfolding worth
 returns-2 c =
     let r = c .before .before .exponent in
-    (omega arith, up (r .result + 1) (r .result + 3 + 1) _ _ _ (omega arith) (r .ensures .2) (ap parts (c .if2 .left)) (ap parts (c .before .if1 .taken)))
+    (omega arith, up (r .result + 1) (r .result + 3 + 1) _ _ _ (omega arith) (r .ensures .2) (ap worth (c .before .if1 .taken)) (ap worth (c .if2 .left)))
 
 sub-result : tie.Need-sub-result
 sub-result c = search needs
 
 returns-3 : tie.Need-returns-3
-unfolding parts
+unfolding worth
 returns-3 c =
     let r = c .before .before .exponent in
-    (omega arith, down (r .result - 3 + 1) (r .result + 1) _ _ _ (omega arith) (r .ensures .2) (ap parts (c .if3 .taken)) (ap parts (c .before .if1 .left)))
+    (omega arith, down (r .result - 3 + 1) (r .result + 1) _ _ _ (omega arith) (r .ensures .2) (ap worth (c .before .if1 .left)) (ap worth (c .if3 .taken)))
 
 returns-4 : tie.Need-returns-4
-returns-4 c = (omega arith, ap₂ (λ (x : ℕ) (b : Bool). x * parts b) (c .before .before .exponent .ensures .2) (c .if3 .left ∙ sym (c .before .if1 .left)))
+returns-4 c = (omega arith, ap₂ (λ (x : ℕ) (b : Bool). x * worth b) (c .before .before .exponent .ensures .2) (c .before .if1 .left ∙ sym (c .if3 .left)))
 
 pub shift-spec : {M : Type 1} → statement M
 shift-spec =

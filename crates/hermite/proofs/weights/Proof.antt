@@ -1,119 +1,170 @@
--- `hermite::weights` meets its contract: powers, products and derivatives make the definition's weights.
-use mathlib.Core.Bool.{Bool, true, false}
-use Rattle.lattice.specs.Buffer.{at}
-use Rattle.arith.specs.Int.{_^ℤ_}
-use Rattle.arith.proofs.Machine.{is-nat}
-use lib.Dec.{lit<}
-use lib.Signed.{mag}
-use native.Mathlib.Nat.{le-trans, le-of-eq}
-use Rattle.hermite.specs.Hermite.{kindOf, weight, value, slope}
-use Rattle.hermite.proofs.DotLaws.{held, read}
-use Rattle.hermite.proofs.WeightLaws.{power-size, products-within, value-weights, slope-weights, Derivatives, weight-held, held-size}
-use mathlib.Core.Path.{_≡_, sym, ap, subst, _∙_}
-use Prim.Native.Nat.{ℕ, _≤_, _<_, _^_, _-_, _*_}
+-- `hermite::weights` meets its contract: every product is small, and each case is the definition's.
+use mathlib.Core.Bool.{true, false}
+use Rattle.arith.proofs.Machine.{Size, held, sizes, fits?, value?}
+use Rattle.hermite.specs.Hermite.{kindOf}
+use Rattle.hermite.proofs.WeightLaws.{cubic-slope, cubic-value, quintic-slope, quintic-value, weights-row}
+use mathlib.Core.Path.{_≡_, _∙_}
 use native.Mathlib.Omega.{arith}
-use lib.IntN.{ℤ, pos, natAbs}
 use mir.Syntax.{w64}
-use mir.Val.{SFits, toZ}
-use borrow.Author.Needs.{needs}
+use mir.Val.{toZ, ofZ}
 use Rattle.hermite.proofs.weights.Statement.{statement}
 use Rattle.hermite.proofs.weights.Tie as tie
 
--- what a power of an argument is at most
-module _ (a : ℤ) (f : SFits w64 a) (h : natAbs a ≤ 256) where
-  power-taken : (e : ℕ) (p : ℤ) → mag p < 2 ^ 63 → e ≤ 3 → p ≡ held a ^ℤ e → natAbs (held p) ≤ 256 ^ 3
-  power-taken e p ok l is = le-trans (le-of-eq (ap natAbs (read p ok ∙ is))) (power-size (held a) e (held-size a f h) l)
+abbrev k-a : (c : tie.Start) → Size (toZ w64 (ofZ w64 (c .args .a)))
+k-a c = held w64 (c .args .a) 256 (c .fits .a) (c .pre .2)
 
--- the flag and the arguments as they were handed over
-module _ (a b : ℤ) (fa : SFits w64 a) (fb : SFits w64 b) (d k : ℕ) where
-  for-slope : (flag : Bool) → flag ≡ true → weight slope (held a) (held b) d k ≡ weight (kindOf flag) a b d k
-  unfolding kindOf
-  for-slope flag e = weight-held a b fa fb slope d k ∙ ap (λ (s : Bool). weight (kindOf s) a b d k) (sym e)
+abbrev k-b : (c : tie.Start) → Size (toZ w64 (ofZ w64 (c .args .b)))
+k-b c = held w64 (c .args .b) 256 (c .fits .b) (c .pre .3)
 
-  for-dose : (flag : Bool) → flag ≡ false → weight value (held a) (held b) d k ≡ weight (kindOf flag) a b d k
-  unfolding kindOf
-  for-dose flag e = weight-held a b fa fb value d k ∙ ap (λ (s : Bool). weight (kindOf s) a b d k) (sym e)
+ruleset known = (k-a, k-b, sizes)
 
-degree-taken : (m : ℕ) → 2 ≤ m → m ≤ 3 → toZ w64 (2 * m - 1) ≡ pos (2 * m - 1)
-degree-taken m g h = is-nat w64 (2 * m - 1) 5 (omega arith) (lit< tt)
+mul-c : tie.Need-mul-c
+mul-c c = fits? (search known depth 40 fits 3000) (omega arith)
 
-mul-derivatives : tie.Need-mul-derivatives
-mul-derivatives c = search needs
+mul-d : tie.Need-mul-d
+mul-d c = fits? (search known depth 40 fits 3000) (omega arith)
 
-sub-derivatives : tie.Need-sub-derivatives
-sub-derivatives c = search needs
+mul-t10 : tie.Need-mul-t10
+mul-t10 c = fits? (search known depth 40 fits 3000) (omega arith)
 
-cast-derivatives : tie.Need-cast-derivatives
-cast-derivatives c = search needs
+sub-t11 : tie.Need-sub-t11
+sub-t11 c = fits? (search known depth 40 fits 3000) (omega arith)
 
-mul-power : tie.Need-mul-power
-mul-power c = search needs
+mul-t12 : tie.Need-mul-t12
+mul-t12 c = fits? (search known depth 40 fits 3000) (omega arith)
 
-sub-power : tie.Need-sub-power
-sub-power c = search needs
+sub-t13 : tie.Need-sub-t13
+sub-t13 c = fits? (search known depth 40 fits 3000) (omega arith)
 
-power-requires : tie.Need-power-requires
-power-requires c κs = search needs
+mul-t14 : tie.Need-mul-t14
+mul-t14 c = fits? (search known depth 40 fits 3000) (omega arith)
 
-products-requires : tie.Need-products-requires
-products-requires c κs =
-    let s = c .before .before in
-    (power-taken (s .args .a) (s .fits .a) (s .pre .2) (2 * s .args .m - 4) (c .power .result) (c .power .ok) (omega arith) (c .power .ensures), held-size (s .args .a) (s .fits .a) (s .pre .2), held-size (s .args .b) (s .fits .b) (s .pre .3))
+mul-t15 : tie.Need-mul-t15
+mul-t15 c = fits? (search known depth 40 fits 3000) (omega arith)
 
-derivatives-requires : tie.Need-derivatives-requires
-derivatives-requires c κs =
-    let s = c .before .before .before in
-    let p = c .before .power in (
-      le-trans (le-of-eq (ap natAbs (degree-taken (s .args .m) (s .pre .0) (s .pre .1)))) (omega arith),
-      products-within (held (p .result)) (held (s .args .a)) (held (s .args .b)) (at (c .products .result))
-          (power-taken (s .args .a) (s .fits .a) (s .pre .2) (2 * s .args .m - 4) (p .result) (p .ok) (omega arith) (p .ensures)) (held-size (s .args .a) (s .fits .a) (s .pre .2)) (held-size (s .args .b) (s .fits .b) (s .pre .3)) (c .products .ensures),
-    )
+sub-t16 : tie.Need-sub-t16
+sub-t16 c = fits? (search known depth 40 fits 3000) (omega arith)
 
 returns : tie.Need-returns
-returns c k l =
-    let s = c .before .before .before .before in
-    let p = c .before .before .power in
-    slope-weights (s .args .m) (s .pre .0) (s .pre .1) (held (s .args .a)) (held (s .args .b)) (held (p .result)) (at (c .before .products .result)) (at (c .derivatives .result))
-    (read (p .result) (p .ok) ∙ p .ensures) (c .before .products .ensures)
-    (subst (λ z. Derivatives z (at (c .before .products .result)) (at (c .derivatives .result))) (degree-taken (s .args .m) (s .pre .0) (s .pre .1)) (c .derivatives .ensures)) k l
-    ∙ for-slope (s .args .a) (s .args .b) (s .fits .a) (s .fits .b) (2 * s .args .m - 1) k (s .args .slope) (c .before .before .before .if1 .taken)
-
-mul-power-2 : tie.Need-mul-power-2
-mul-power-2 c = search needs
-
-sub-power-2 : tie.Need-sub-power-2
-sub-power-2 c = search needs
-
-power-requires-2 : tie.Need-power-requires-2
-power-requires-2 c κs = search needs
-
-products-requires-2 : tie.Need-products-requires-2
-products-requires-2 c κs =
+unfolding kindOf
+returns c =
     let s = c .before .before in
-    (power-taken (s .args .a) (s .fits .a) (s .pre .2) (2 * s .args .m - 3) (c .power2 .result) (c .power2 .ok) (omega arith) (c .power2 .ensures), held-size (s .args .a) (s .fits .a) (s .pre .2), held-size (s .args .b) (s .fits .b) (s .pre .3))
+    let w = cubic-slope (s .args .a) (s .args .b) in
+    weights-row (s .args .slope) true (s .args .m) 2 (c .if2 .taken) (c .before .if1 .taken) (s .args .a) (s .args .b) _ _ _
+    (value? (search known depth 40 fits 3000) (omega arith) ∙ w .0) (value? (search known depth 40 fits 3000) (omega arith) ∙ w .1) (value? (search known depth 40 fits 3000) (omega arith) ∙ w .2)
+
+mul-t17 : tie.Need-mul-t17
+mul-t17 c = fits? (search known depth 40 fits 3000) (omega arith)
+
+mul-t18 : tie.Need-mul-t18
+mul-t18 c = fits? (search known depth 40 fits 3000) (omega arith)
+
+mul-t19 : tie.Need-mul-t19
+mul-t19 c = fits? (search known depth 40 fits 3000) (omega arith)
 
 returns-2 : tie.Need-returns-2
-returns-2 c k l =
-    let s = c .before .before .before in
-    let p = c .before .power2 in
-    value-weights (s .args .m) (s .pre .0) (s .pre .1) (held (s .args .a)) (held (s .args .b)) (held (p .result)) (at (c .products2 .result)) (read (p .result) (p .ok) ∙ p .ensures) (c .products2 .ensures) k l
-    ∙ for-dose (s .args .a) (s .args .b) (s .fits .a) (s .fits .b) (2 * s .args .m - 1) k (s .args .slope) (c .before .before .if1 .left)
+unfolding kindOf
+returns-2 c =
+    let s = c .before .before in
+    let w = cubic-value (s .args .a) (s .args .b) in
+    weights-row (s .args .slope) false (s .args .m) 2 (c .if2 .left) (c .before .if1 .taken) (s .args .a) (s .args .b) _ _ _
+    (value? (search known depth 40 fits 3000) (omega arith) ∙ w .0) (value? (search known depth 40 fits 3000) (omega arith) ∙ w .1) (value? (search known depth 40 fits 3000) (omega arith) ∙ w .2)
+
+mul-t20 : tie.Need-mul-t20
+mul-t20 c = fits? (search known depth 40 fits 3000) (omega arith)
+
+mul-t21 : tie.Need-mul-t21
+mul-t21 c = fits? (search known depth 40 fits 3000) (omega arith)
+
+sub-t22 : tie.Need-sub-t22
+sub-t22 c = fits? (search known depth 40 fits 3000) (omega arith)
+
+mul-t23 : tie.Need-mul-t23
+mul-t23 c = fits? (search known depth 40 fits 3000) (omega arith)
+
+sub-t24 : tie.Need-sub-t24
+sub-t24 c = fits? (search known depth 40 fits 3000) (omega arith)
+
+mul-t25 : tie.Need-mul-t25
+mul-t25 c = fits? (search known depth 40 fits 3000) (omega arith)
+
+mul-t26 : tie.Need-mul-t26
+mul-t26 c = fits? (search known depth 40 fits 3000) (omega arith)
+
+mul-t27 : tie.Need-mul-t27
+mul-t27 c = fits? (search known depth 40 fits 3000) (omega arith)
+
+sub-t28 : tie.Need-sub-t28
+sub-t28 c = fits? (search known depth 40 fits 3000) (omega arith)
+
+mul-t29 : tie.Need-mul-t29
+mul-t29 c = fits? (search known depth 40 fits 3000) (omega arith)
+
+returns-3 : tie.Need-returns-3
+unfolding kindOf
+returns-3 c =
+    let s = c .before .before in
+    let w = quintic-slope (s .args .a) (s .args .b) in
+    let e : s .args .m ≡ 3 = omega arith in
+    weights-row (s .args .slope) true (s .args .m) 3 (c .if3 .taken) e (s .args .a) (s .args .b) _ _ _
+    (value? (search known depth 40 fits 3000) (omega arith) ∙ w .0) (value? (search known depth 40 fits 3000) (omega arith) ∙ w .1) (value? (search known depth 40 fits 3000) (omega arith) ∙ w .2)
+
+mul-e : tie.Need-mul-e
+mul-e c = fits? (search known depth 40 fits 3000) (omega arith)
+
+mul-t30 : tie.Need-mul-t30
+mul-t30 c = fits? (search known depth 40 fits 3000) (omega arith)
+
+mul-t31 : tie.Need-mul-t31
+mul-t31 c = fits? (search known depth 40 fits 3000) (omega arith)
+
+mul-t32 : tie.Need-mul-t32
+mul-t32 c = fits? (search known depth 40 fits 3000) (omega arith)
+
+mul-t33 : tie.Need-mul-t33
+mul-t33 c = fits? (search known depth 40 fits 3000) (omega arith)
+
+returns-4 : tie.Need-returns-4
+unfolding kindOf
+returns-4 c =
+    let s = c .before .before in
+    let w = quintic-value (s .args .a) (s .args .b) in
+    let e : s .args .m ≡ 3 = omega arith in
+    weights-row (s .args .slope) false (s .args .m) 3 (c .if3 .left) e (s .args .a) (s .args .b) _ _ _
+    (value? (search known depth 40 fits 3000) (omega arith) ∙ w .0) (value? (search known depth 40 fits 3000) (omega arith) ∙ w .1) (value? (search known depth 40 fits 3000) (omega arith) ∙ w .2)
 
 pub weights-spec : {M : Type 1} → statement M
 weights-spec =
     tie.close
     (tie.spec
-    mul-derivatives
-    sub-derivatives
-    cast-derivatives
-    mul-power
-    sub-power
-    power-requires
-    products-requires
-    derivatives-requires
+    mul-c
+    mul-d
+    mul-t10
+    sub-t11
+    mul-t12
+    sub-t13
+    mul-t14
+    mul-t15
+    sub-t16
     returns
-    mul-power-2
-    sub-power-2
-    power-requires-2
-    products-requires-2
-    returns-2)
+    mul-t17
+    mul-t18
+    mul-t19
+    returns-2
+    mul-t20
+    mul-t21
+    sub-t22
+    mul-t23
+    sub-t24
+    mul-t25
+    mul-t26
+    mul-t27
+    sub-t28
+    mul-t29
+    returns-3
+    mul-e
+    mul-t30
+    mul-t31
+    mul-t32
+    mul-t33
+    returns-4)
