@@ -20,5 +20,11 @@ pub use refusal::Refusal;
 mod estimate;
 pub use estimate::estimate;
 
+mod coefficients;
+pub use coefficients::{coefficients, corners};
+
+mod whole;
+pub use whole::{dose, dose_in_cell, slope, slope_in_cell};
+
 mod file;
 pub use file::{read, write, Table};

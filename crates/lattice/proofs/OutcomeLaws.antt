@@ -25,6 +25,16 @@ module _ {A : Type 0} where
   pub refused-first : {a : Check} {n p : ℕ} (b : Outcome A) → a ≡ refused n p → first a b ≡ refused n p
   refused-first b e = ap (λ (x : Check). first x b) e
 
+  -- tests one after the other, grouped in either way
+  pub first-assoc : (a b : Check) (o : Outcome A) → first (first a b) o ≡ first a (first b o)
+  first-assoc (done tt) b o = refl
+  first-assoc (refused n p) b o = refl
+
+  -- a refusal is the test's where what comes after is done
+  pub first-refused : {B : Type 0} (a : Check) (v : A) (o : Outcome B) (k p : ℕ) → first a (done v) ≡ refused k p → first a o ≡ refused k p
+  first-refused (done tt) v o k p e = cc
+  first-refused (refused m q) v o k p e = cc
+
   -- what a slice holds where the call was done, and where it was refused
   pub when-done : {B : Type 0} {a : Outcome A} {v : A} (new old : B) → a ≡ done v → new ≡ whenDone a new old
   when-done new old e = sym (ap (λ (x : Outcome A). whenDone x new old) e)
@@ -38,10 +48,6 @@ module _ {A : Type 0} where
 last-first : (a : Check) → first a (done tt) ≡ a
 last-first (done tt) = refl
 last-first (refused n p) = refl
-
-first-assoc : (a b c : Check) → first (first a b) c ≡ first a (first b c)
-first-assoc (done tt) b c = refl
-first-assoc (refused n p) b c = refl
 
 pub refuse-done : (t : Bool) (n p : ℕ) → refuseUnless t n p ≡ done tt → t ≡ true
 refuse-done true n p h = refl

@@ -5,11 +5,20 @@ ghost use lib.ListN.{length};
 ghost use Rattle.lattice.specs.Outcome.{whenDone};
 ghost use Rattle.lattice.specs.Answer.{meaning};
 ghost use Rattle.lattice.specs.Buffer.{overwrite};
+ghost use Rattle.cell.specs.Cell.{placeAt};
 ghost use Rattle.estimate.specs.Estimate.{estimateOutcome, estimateWrites};
+ghost use Rattle.coefficients.specs.Corners.{coefficientsOutcome, coefficientsWrites, backOutcome, backWrites};
+ghost use Rattle.evaluate.specs.Evaluate.{dose, slopeAlong};
+ghost use Rattle.query.specs.Queries.{byCell, positionAt, byPosition};
+ghost use Rattle.query.specs.Answers.{told};
 ghost use Rattle.table_file.specs.File.{header, readOutcome, samplesIn, writeOutcome, fileOf};
 ghost use Rattle.table_file.specs.Answers.{tableMeaning, writeMeaning};
-ghost use Rattle.lukhtari.specs.Host.{shapeOf, doneOf, tableFrom, writtenFrom};
+ghost use Rattle.lukhtari.specs.Host.{shapeOf, doneOf, wholeFrom, tableFrom, writtenFrom};
+use evaluate::SlopeAxis;
 use lattice::Answer;
+use query::CellQuery;
+use query::Query;
+use query::Reading;
 use table_file::TableAnswer;
 use table_file::WriteAnswer;
 
@@ -105,6 +114,124 @@ pub extern "C" fn lukhtari_estimate(shape: Shape, samples: &[i32], records: &mut
     ensures { λ _. ⌜ now (records .exit) ≡ estimateWrites (shapeOf shape) (now (samples .entry)) (now (records .entry)) ⌝ }
 {
     done_of(estimate::estimate(shape_of(shape), samples, records))
+}
+
+// The coefficients of a cell.
+#[no_mangle]
+pub extern "C" fn lukhtari_coefficients(
+    shape: Shape,
+    records: &[i32],
+    cell: Index,
+    out: &mut [i32],
+) -> Done
+    ensures { λ r. ⌜ r ≡ doneOf (coefficientsOutcome (shapeOf shape) (now (records .entry)) (placeAt (cell .at)) (length (now (out .entry)))) ⌝ }
+    ensures { λ _. ⌜ now (out .exit) ≡ coefficientsWrites (shapeOf shape) (now (records .entry)) (placeAt (cell .at)) (now (out .entry)) ⌝ }
+{
+    let at = cell.at;
+    done_of(coefficients::coefficients(shape_of(shape), records, at, out))
+}
+
+// The corner records that have these coefficients.
+#[no_mangle]
+pub extern "C" fn lukhtari_corners(
+    axes: u32,
+    degree: u32,
+    coefficients: &[i32],
+    out: &mut [i32],
+) -> Done
+    ensures { λ r. ⌜ r ≡ doneOf (backOutcome axes degree (now (coefficients .entry)) (length (now (out .entry)))) ⌝ }
+    ensures { λ _. ⌜ now (out .exit) ≡ backWrites axes degree (now (coefficients .entry)) (now (out .entry)) ⌝ }
+{
+    done_of(corners::corners(axes, degree, coefficients, out))
+}
+
+fn whole_of(a: Reading) -> Whole
+    ensures { λ r. ⌜ r ≡ wholeFrom (told a) ⌝ }
+{
+    match a {
+        Reading::Value(v) => Whole {
+            number: 0,
+            place: 0,
+            value: v,
+        },
+        Reading::Refused(r) => Whole {
+            number: r.number,
+            place: r.place,
+            value: 0,
+        },
+    }
+}
+
+// Dose at a table position.
+#[no_mangle]
+pub extern "C" fn lukhtari_dose(shape: Shape, records: &[i32], position: Position) -> Whole
+    ensures { λ r. ⌜ r ≡ wholeFrom (byPosition (shapeOf shape) (now (records .entry)) dose (positionAt (position .at))) ⌝ }
+{
+    let at = position.at;
+    let q = Query {
+        position: at,
+        slope_axis: SlopeAxis::NoSlope,
+    };
+    whole_of(query::at_position(shape_of(shape), records, q))
+}
+
+// Slope along an axis at a table position.
+#[no_mangle]
+pub extern "C" fn lukhtari_slope(
+    shape: Shape,
+    records: &[i32],
+    position: Position,
+    axis: u32,
+) -> Whole
+    ensures { λ r. ⌜ r ≡ wholeFrom (byPosition (shapeOf shape) (now (records .entry)) (slopeAlong axis) (positionAt (position .at))) ⌝ }
+{
+    let at = position.at;
+    let q = Query {
+        position: at,
+        slope_axis: SlopeAxis::Along(axis),
+    };
+    whole_of(query::at_position(shape_of(shape), records, q))
+}
+
+// Dose at the steps u within a cell.
+#[no_mangle]
+pub extern "C" fn lukhtari_dose_in_cell(
+    shape: Shape,
+    records: &[i32],
+    cell: Index,
+    u: Index,
+) -> Whole
+    ensures { λ r. ⌜ r ≡ wholeFrom (byCell (shapeOf shape) (now (records .entry)) dose (placeAt (cell .at)) (placeAt (u .at))) ⌝ }
+{
+    let at = cell.at;
+    let step = u.at;
+    let q = CellQuery {
+        cell: at,
+        step: step,
+        slope_axis: SlopeAxis::NoSlope,
+    };
+    whole_of(query::in_cell(shape_of(shape), records, q))
+}
+
+// Slope along an axis at the steps u within a cell.
+#[no_mangle]
+pub extern "C" fn lukhtari_slope_in_cell(
+    shape: Shape,
+    records: &[i32],
+    cell: Index,
+    u: Index,
+    axis: u32,
+) -> Whole
+    ensures { λ r. ⌜ r ≡ wholeFrom (byCell (shapeOf shape) (now (records .entry)) (slopeAlong axis) (placeAt (cell .at)) (placeAt (u .at))) ⌝ }
+{
+    let at = cell.at;
+    let step = u.at;
+    let q = CellQuery {
+        cell: at,
+        step: step,
+        slope_axis: SlopeAxis::Along(axis),
+    };
+    whole_of(query::in_cell(shape_of(shape), records, q))
 }
 
 fn table_of(a: TableAnswer) -> Table

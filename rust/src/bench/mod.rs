@@ -5,16 +5,23 @@
 #![allow(dead_code)]
 
 mod clock;
+mod conversion;
+mod double;
 mod estimation;
 mod hand;
 mod inputs;
+mod queries;
 mod report;
 
 use std::env;
 
 // All parts, or those named by the arguments.
 pub fn run() {
-    let parts: [(&str, fn()); 1] = [("estimation", estimation::run)];
+    let parts: [(&str, fn()); 3] = [
+        ("estimation", estimation::run),
+        ("conversion", conversion::run),
+        ("queries", queries::run),
+    ];
     let named: Vec<String> = env::args().skip(1).collect();
     for (name, part) in parts {
         if named.is_empty() || named.iter().any(|wanted| wanted == name) {

@@ -1,0 +1,96 @@
+-- What follows from a call that is not refused before 5 or 13; and that the array of a cell's coefficients is the list of them.
+use mathlib.Core.Path.{_≡_, sym, ap, _∙_}
+use mathlib.Core.List.{List}
+use Prim.Native.Nat.{ℕ, _*_, _^_, _≤_, _<_}
+use native.Mathlib.Omega.{arith}
+use lib.Dec.{leb, eqb}
+use lib.IntN.{ℤ}
+use lib.ListN.{length}
+use borrow.Author.Tests.{leb-true, eqb-true}
+use Rattle.lattice.specs.declared.Shape.{Shape}
+use Rattle.lattice.specs.Outcome.{done, refuseUnless, first}
+use Rattle.lattice.specs.Buffer.{at, tabulate}
+use Rattle.lattice.specs.Digits.{digit}
+use Rattle.lattice.specs.Shape.{orders, ordersOf, entries, size, axesOutcome, degreeOutcome, shapeOutcome, Shaped}
+use Rattle.lattice.specs.Axes.{Place, origin}
+use Rattle.lattice.specs.Records.{recordsField}
+use Rattle.lattice.proofs.OutcomeLaws.{first-done, refuse-done}
+use Rattle.lattice.proofs.ShapeLaws.{shaped, orders-range}
+use Rattle.cell.specs.declared.Layout.{Layout}
+use Rattle.cell.specs.Cell.{placeAt, cellOutcome, Accepted, Laid}
+use Rattle.cell.specs.Coefficients.{coefficients}
+use Rattle.cell.proofs.CellLaws.{accepted}
+use Rattle.coefficients.specs.declared.Block.{Block}
+use Rattle.coefficients.specs.Corners.{coefficientCount, coefficientList, askedOutcome, cornerEntry, numbersOutcome}
+use Rattle.coefficients.specs.Blocks.{Sized, gathered}
+use Rattle.coefficients.proofs.General.{tabulate-same}
+use Rattle.coefficients.proofs.NumberLaws.{digits-in}
+use Rattle.coefficients.proofs.TableCell.{cell-same, gathered-is}
+
+pub record Asked (s : Shape) (given : ℕ) (cell : Place) (room : ℕ) : Type 0 where
+  pub shape : Shaped s
+  pub many : given ≡ size s
+  pub roomy : coefficientCount (orders s) (s .axes) ≤ room
+  pub here : Accepted s cell
+
+pub asked : (s : Shape) (given : ℕ) (xs : List ℕ) (room : ℕ) → askedOutcome s given (placeAt xs) room ≡ done tt → Asked s given (placeAt xs) room
+unfolding askedOutcome
+asked s given xs room h =
+    let n = coefficientCount (orders s) (s .axes) in
+    let a = first-done (shapeOutcome s) (first (refuseUnless (eqb given (size s)) 4 0) (first (refuseUnless (leb n room) 9 0) (cellOutcome s (placeAt xs)))) tt h in
+    let b = first-done (refuseUnless (eqb given (size s)) 4 0) (first (refuseUnless (leb n room) 9 0) (cellOutcome s (placeAt xs))) tt (a .1) in
+    let c = first-done (refuseUnless (leb n room) 9 0) (cellOutcome s (placeAt xs)) tt (b .1) in
+    let ok = shaped s (a .0) in
+    record {
+      shape = ok;
+      many = eqb-true given (size s) (refuse-done (eqb given (size s)) 4 0 (b .0));
+      roomy = leb-true n room (refuse-done (leb n room) 9 0 (c .0));
+      here = accepted s xs (ok .axes-high) (c .1);
+    }
+
+-- back that is not refused before 13
+pub record Numbered (n degree given room : ℕ) : Type 0 where
+  pub axes-done : axesOutcome n ≡ done tt
+  pub degree-done : degreeOutcome degree ≡ done tt
+  pub many : given ≡ coefficientCount (ordersOf degree) n
+  pub roomy : coefficientCount (ordersOf degree) n ≤ room
+
+pub numbered : (n degree given room : ℕ) → numbersOutcome n degree given room ≡ done tt → Numbered n degree given room
+unfolding numbersOutcome
+numbered n degree given room h =
+    let k = coefficientCount (ordersOf degree) n in
+    let lengths = first (refuseUnless (eqb given k) 15 0) (refuseUnless (leb k room) 9 0) in
+    let a = first-done (axesOutcome n) (first (degreeOutcome degree) lengths) tt h in
+    let b = first-done (degreeOutcome degree) lengths tt (a .1) in
+    let c = first-done (refuseUnless (eqb given k) 15 0) (refuseUnless (leb k room) 9 0) tt (b .1) in
+    record {
+      axes-done = a .0;
+      degree-done = b .0;
+      many = eqb-true given k (refuse-done (eqb given k) 15 0 (c .0));
+      roomy = leb-true k room (refuse-done (leb k room) 9 0 (c .1));
+    }
+
+-- the coefficients by the sizes of a block
+abbrev of-block : ℕ → ℕ → ℕ → Layout → List ℤ → ℕ → ℤ
+of-block m n e l rs K = coefficients m n origin (λ t. gathered e l rs (cornerEntry m n t)) (digit (λ a. 2 * m) K)
+
+module _ (s : Shape) (ok : Shaped s) (cell : Place) (here : Accepted s cell) (rs : List ℤ) (many : length rs ≡ size s) (l : Layout) (laid : Laid s cell l) (b : Block) (sized : Sized b) (axes-are : b .axes ≡ s .axes) (orders-are : b .orders ≡ orders s) where
+  entries-same : b .entries ≡ entries s
+  unfolding entries
+  entries-same = sized .entries-are ∙ ap (λ (k : ℕ). k ^ b .axes) orders-are ∙ ap (λ (k : ℕ). orders s ^ k) axes-are
+
+  pub count-same : coefficientCount (b .orders) (b .axes) ≡ coefficientCount (orders s) (s .axes)
+  count-same = ap (λ (k : ℕ). (2 * k) ^ b .axes) orders-are ∙ ap (λ (k : ℕ). (2 * orders s) ^ k) axes-are
+
+  pub list-is : (xs : List ℤ) → ((K : ℕ) → K < coefficientCount (b .orders) (b .axes) → at xs K ≡ of-block (b .orders) (b .axes) (b .entries) l rs K)
+      → tabulate (coefficientCount (b .orders) (b .axes)) (at xs) ≡ coefficientList (orders s) (s .axes) cell (recordsField s rs)
+  unfolding coefficientList
+  list-is xs h =
+      ap (λ (k : ℕ). tabulate k (at xs)) count-same
+      ∙ tabulate-same (coefficientCount (orders s) (s .axes)) (at xs) (λ K. coefficients (orders s) (s .axes) cell (recordsField s rs) (digit (λ a. 2 * orders s) K))
+      (λ K q. h K (rw count-same q)
+      ∙ ap (λ (m : ℕ). of-block m (b .axes) (b .entries) l rs K) orders-are ∙ ap (λ (n : ℕ). of-block (orders s) n (b .entries) l rs K) axes-are ∙ ap (λ (e : ℕ). of-block (orders s) (s .axes) e l rs K) entries-same
+      ∙ sym (cell-same s ok cell here (recordsField s rs) (gathered (entries s) l rs) (gathered-is s ok cell here rs many l laid) (digit (λ a. 2 * orders s) K) (digits-in (s .axes) (2 * orders s) K (two (orders s) (orders-range (s .degree) .0)) q)))
+    where
+      two : (m : ℕ) → 2 ≤ m → 0 < 2 * m
+      two m h = omega arith

@@ -1,0 +1,17 @@
+pub mod General
+pub mod NumberLaws
+pub mod Inverse
+pub mod Sizes
+pub mod Whole
+pub mod PassesLaws
+pub mod BlockLaws
+pub mod TableLaws
+pub mod SpotLaws
+pub mod ConvertLaws
+pub mod FillLaws
+pub mod TableCell
+pub mod CallLaws
+pub mod OneCell
+pub mod Possible
+pub mod Calls
+pub mod Demand

@@ -1,0 +1,63 @@
+-- `coefficients::check_asked` meets its contract: the shape first, then 4, 9 and 14.
+use lib.Dec.{leb, eqb}
+use Rattle.lattice.specs.Shape.{orders, size, shapeOutcome}
+use Rattle.cell.specs.Cell.{placeAt, cellOutcome}
+use Rattle.coefficients.specs.Corners.{coefficientCount}
+use Rattle.coefficients.proofs.General.{first-assoc}
+use Rattle.lattice.specs.Answer.{meaning}
+use Rattle.lattice.specs.Outcome.{refuseUnless, first}
+use Rattle.lattice.proofs.OutcomeLaws.{refused-first, first-passed}
+use Rattle.lattice.proofs.ShapeLaws.{shaped}
+use Rattle.coefficients.specs.Corners.{askedOutcome}
+use mathlib.Core.Path.{sym, ap, ap₂, _∙_}
+use borrow.Author.Needs.{needs}
+use Rattle.coefficients.proofs.check_asked.Statement.{statement}
+use Rattle.coefficients.proofs.check_asked.Tie as tie
+
+check-shape-requires : tie.Need-check-shape-requires
+check-shape-requires c κs = search needs
+
+enum-told : tie.Need-enum-told
+enum-told c = search needs
+
+returns : tie.Need-returns
+unfolding askedOutcome
+returns c =
+    let b = c .before .before in
+    let e = ap meaning (c .enum-told .given .1) in
+    e ∙ sym (refused-first _ (sym (b .check-shape .ensures) ∙ e))
+
+enum-told-2 : tie.Need-enum-told-2
+enum-told-2 c = search needs
+
+check-sizes-requires : tie.Need-check-sizes-requires
+check-sizes-requires c κs = let b = c .before .before in shaped (b .before .args .s) (sym (b .check-shape .ensures) ∙ ap meaning (c .enum-told2 .given .1))
+
+check-cell-requires : tie.Need-check-cell-requires
+check-cell-requires c κs = search needs
+
+earlier-requires : tie.Need-earlier-requires
+earlier-requires c κs = search needs
+
+returns-2 : tie.Need-returns-2
+unfolding askedOutcome
+returns-2 c =
+    let b = c .before .before .before .before .before in
+    let a = b .before .args in
+    let e = ap meaning (c .before .before .before .enum-told2 .given .1) in
+    c .earlier .ensures ∙ ap₂ first (c .before .before .check-sizes .ensures) (c .before .check-cell .ensures)
+    ∙ first-assoc (refuseUnless (eqb (a .given) (size (a .s))) 4 0) (refuseUnless (leb (coefficientCount (orders (a .s)) (a .s .axes)) (a .room)) 9 0) (cellOutcome (a .s) (placeAt (a .cell)))
+    ∙ sym (first-passed (shapeOutcome (a .s)) _ (sym (b .check-shape .ensures) ∙ e))
+
+pub check-asked-spec : {M : Type 1} → statement M
+check-asked-spec =
+    tie.close
+    (tie.spec
+    check-shape-requires
+    enum-told
+    returns
+    enum-told-2
+    check-sizes-requires
+    check-cell-requires
+    earlier-requires
+    returns-2)

@@ -1,0 +1,49 @@
+-- `coefficients::check_sizes` meets its contract: 4, then 9.
+use lib.Dec.{leb, eqb}
+use Rattle.lattice.specs.Outcome.{refuseUnless, first}
+use Rattle.lattice.specs.Shape.{orders}
+use Rattle.coefficients.specs.Corners.{coefficientCount}
+use mathlib.Core.Path.{ap, ap₂, _∙_}
+use Prim.Native.Nat.{ℕ}
+use borrow.Author.Needs.{needs}
+use Rattle.coefficients.proofs.check_sizes.Statement.{statement}
+use Rattle.coefficients.proofs.check_sizes.Tie as tie
+
+table-entries-requires : tie.Need-table-entries-requires
+table-entries-requires c κs = search needs
+
+block-of-requires : tie.Need-block-of-requires
+block-of-requires c κs = search needs
+
+coefficient-count-requires : tie.Need-coefficient-count-requires
+coefficient-count-requires c κs = search needs
+
+refuse-unless-requires : tie.Need-refuse-unless-requires
+refuse-unless-requires c κs = search needs
+
+refuse-unless-requires-2 : tie.Need-refuse-unless-requires-2
+refuse-unless-requires-2 c κs = search needs
+
+earlier-requires : tie.Need-earlier-requires
+earlier-requires c κs = search needs
+
+returns : tie.Need-returns
+returns c =
+    let s = c .before .before .before .before .before .before in
+    let count = c .before .before .before .coefficient-count .ensures .0 in
+    let b = c .before .before .before .before .block-of in
+    c .earlier .ensures
+    ∙ ap₂ first (c .before .before .refuse-unless .ensures ∙ ap (λ (n : ℕ). refuseUnless (eqb (s .args .given) n) 4 0) (c .before .before .before .before .before .table-entries .ensures))
+    (c .before .refuse-unless2 .ensures ∙ ap (λ (n : ℕ). refuseUnless (leb n (s .args .room)) 9 0) (count ∙ ap (λ (m : ℕ). coefficientCount m (b .result .axes)) (b .ensures .2) ∙ ap (coefficientCount (orders (s .args .s))) (b .ensures .1)))
+
+pub check-sizes-spec : {M : Type 1} → statement M
+check-sizes-spec =
+    tie.close
+    (tie.spec
+    table-entries-requires
+    block-of-requires
+    coefficient-count-requires
+    refuse-unless-requires
+    refuse-unless-requires-2
+    earlier-requires
+    returns)

@@ -1,0 +1,3 @@
+-- Reading order: Corners, then Blocks.
+pub mod Corners
+pub mod Blocks

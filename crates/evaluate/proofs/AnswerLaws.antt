@@ -1,0 +1,133 @@
+-- What an answer reads, for every rounding: the corners' records only, and no place on the axes worked off; and what it is on one axis.
+use mathlib.Core.Path.{_≡_, refl, sym, ap, subst, _∙_, fun-ext}
+use mathlib.Core.List.{List, [], _∷_}
+use Prim.Native.Nat.{ℕ, zero, suc, _+_, _*_, _≤_, _<_}
+use native.Mathlib.Omega.{arith}
+use native.Mathlib.Decide.{ℕ-discrete}
+use lib.Dec.{eqb, lit≤}
+use lib.IntN.{ℤ, pos, _*ℤ_}
+use borrow.Author.Tests.{ne-eqb, eq-eqb}
+use Rattle.arith.specs.Choice.{pick}
+use Rattle.arith.specs.Int.{Rounding, roundHalfUp}
+use Rattle.arith.proofs.Choices.{pick-true, pick-false}
+use Rattle.arith.proofs.Round.{round-common}
+use Rattle.lattice.specs.Axes.{Place, Field, origin, put, along, sweep, axes, without}
+use Rattle.lattice.proofs.Along.{put-at, put-off, each-axes, each-without, Fresh, distinct-axes, distinct-without, fresh-back}
+use Rattle.lattice.proofs.Local.{Depends, linear-depends, sweep-local, used, OnAxis, on-used}
+use Rattle.hermite.specs.Hermite.{Kind, value, slope, divisor, stageSum}
+use Rattle.hermite.proofs.HermiteLaws.{stage-linear, stage-multiple}
+use Rattle.cell.specs.Cell.{AtEnds, InCorners}
+use Rattle.evaluate.specs.Evaluate.{Want, dose, slopeAlong, Ask, kindOn, lastAxis, divisorOn, stageOn, toEighth, toUnit, inEighths, before, answerBy, answer}
+
+-- an axis before the last has the weights of a value
+pub kind-before : (w : Want) (a n : ℕ) → (a ≡ lastAxis n w → ⊥) → kindOn w a ≡ value
+unfolding kindOn lastAxis
+kind-before dose a n h = refl
+kind-before (slopeAlong l) a n h = pick-false (eqb a l) slope value (ne-eqb a l h)
+
+-- a slope's axis has those of a slope
+pub kind-slope : (l n : ℕ) → kindOn (slopeAlong l) (lastAxis n (slopeAlong l)) ≡ slope
+unfolding kindOn lastAxis
+kind-slope l n = pick-true (eqb l l) slope value (eq-eqb l l refl)
+
+module _ (round : Rounding) (q : Ask) where
+  -- ---- the corners only
+
+  Any : ℕ → ℕ → Type 0
+  Any a j = Unit {0}
+
+  Ends : ℕ → ℕ → Type 0
+  Ends = OnAxis (q .n) (λ a. AtEnds (q .m) (q .cell a))
+
+  -- a stage reads the two ends of its cell
+  stage-depends : (a : ℕ) → a < q .n → Depends (stageOn q a) (Any a) (Ends a)
+  unfolding stageOn stage-linear Ends
+  stage-depends a l =
+      linear-depends (stage-linear (kindOn (q .want) a) (q .m) (q .N) (q .cell a) (q .step a))
+      (λ j t e k. (λ h. record { low = omega arith; high = omega arith }, λ h. absurd (not-both l h)))
+    where
+      not-both : {a n : ℕ} → a < n → n ≤ a → ⊥
+      not-both l k = omega arith
+
+  eighth-depends : (a : ℕ) → a < q .n → Depends (toEighth round q a) (Any a) (Ends a)
+  unfolding toEighth
+  eighth-depends a l x y j s h = ap (λ z. round z (divisorOn q a)) (stage-depends a l x y j s h)
+
+  unit-depends : (a : ℕ) → a < q .n → Depends (toUnit round q a) (Any a) (Ends a)
+  unfolding toUnit
+  unit-depends a l x y j s h = ap (λ z. round z (8 * divisorOn q a)) (stage-depends a l x y j s h)
+
+  pub answer-local : lastAxis (q .n) (q .want) < q .n → (g h : Field) → ((p : Place) → InCorners (q .m) (q .n) (q .cell) p → g p ≡ h p)
+      → answerBy round q g ≡ answerBy round q h
+  unfolding answerBy before Any Ends inEighths
+  answer-local last g h eq =
+      unit-depends l last (λ t. sweep ls (toEighth round q) (inEighths g) (put l t origin)) (λ t. sweep ls (toEighth round q) (inEighths h) (put l t origin)) 0 tt
+      (λ t e. sweep-local Any Ends (toEighth round q) ls (distinct-without l (axes (q .n)) (distinct-axes (q .n)))
+      (each-without (λ a. Depends (toEighth round q a) (Any a) (Ends a)) l (axes (q .n))
+      (each-axes (q .n) (λ a. (a ≡ l → ⊥) → Depends (toEighth round q a) (Any a) (Ends a)) (λ a k n. eighth-depends a k)))
+      (inEighths g) (inEighths h) (λ p x. ap (λ z. pos 8 *ℤ z) (eq p (on-used x))) (put l t origin)
+      (record { done = λ b f. tt; left = λ b f. other t e b f (ℕ-discrete b l) }))
+    where
+      l : ℕ
+      l = lastAxis (q .n) (q .want)
+
+      ls : List ℕ
+      ls = without l (axes (q .n))
+
+      other : (t : ℕ) → Ends l t → (b : ℕ) → Fresh b ls → Dec (b ≡ l) → Ends b (put l t origin b)
+      other t e b f (yes p) = subst (λ (i : ℕ). Ends i (put l t origin i)) (sym p) (subst (Ends l) (sym (put-at l t origin)) e)
+      other t e b f (no n) = (λ k. absurd (used (q .n) b k (fresh-back b l (axes (q .n)) n f)), λ k. put-off l t b origin n)
+
+  -- ---- no place on the axes worked off
+
+  -- two places that are equal but on the axes of a list
+  Beside : List ℕ → Place → Place → Type 0
+  Beside ls p r = (b : ℕ) → Fresh b ls → p b ≡ r b
+
+  beside-put : (a : ℕ) (ls : List ℕ) (p r : Place) → Beside (a ∷ ls) p r → (t : ℕ) → Beside ls (put a t p) (put a t r)
+  unfolding Beside
+  beside-put a ls p r h t b f = go (ℕ-discrete b a)
+    where
+      go : Dec (b ≡ a) → put a t p b ≡ put a t r b
+      go (yes e) = subst (λ (i : ℕ). put a t p i ≡ put a t r i) (sym e) (put-at a t p ∙ sym (put-at a t r))
+      go (no n) = put-off a t b p n ∙ h b (n, f) ∙ sym (put-off a t b r n)
+
+  stages-anywhere : (g : Field) (ls : List ℕ) (p r : Place) → Beside ls p r → sweep ls (toEighth round q) g p ≡ sweep ls (toEighth round q) g r
+  unfolding sweep Beside toEighth stageOn stageSum
+  stages-anywhere g [] p r h = ap g (fun-ext (λ b. h b tt))
+  stages-anywhere g (a ∷ ls) p r h =
+      ap (λ (x : ℕ → ℤ). round (stageOn q a x 0) (divisorOn q a)) (fun-ext (λ t. stages-anywhere g ls (put a t p) (put a t r) (beside-put a ls p r h t)))
+
+  -- the answer, at any place that is 0 on the unused axes
+  pub answer-anywhere : (g : Field) (p : Place) → ((a : ℕ) → q .n ≤ a → p a ≡ 0)
+      → answerBy round q g ≡ along (lastAxis (q .n) (q .want)) (toUnit round q (lastAxis (q .n) (q .want))) (sweep (before q) (toEighth round q) (inEighths g)) p
+  unfolding answerBy before toUnit stageOn stageSum Beside
+  answer-anywhere g p none =
+      ap (λ (x : ℕ → ℤ). round (stageOn q l x 0) (8 * divisorOn q l))
+      (fun-ext (λ t. stages-anywhere (inEighths g) ls (put l t origin) (put l t p) (λ b f. go t b f (ℕ-discrete b l))))
+    where
+      l : ℕ
+      l = lastAxis (q .n) (q .want)
+
+      ls : List ℕ
+      ls = without l (axes (q .n))
+
+      unused : (b : ℕ) → Fresh b ls → (b ≡ l → ⊥) → q .n ≤ b
+      unused b f n = let z = used (q .n) b in let y = fresh-back b l (axes (q .n)) n f in omega-not (λ k. z k y)
+        where
+          omega-not : (b < q .n → ⊥) → q .n ≤ b
+          omega-not h = omega (arith, h)
+
+      go : (t b : ℕ) → Fresh b ls → Dec (b ≡ l) → put l t origin b ≡ put l t p b
+      go t b f (yes e) = subst (λ (i : ℕ). put l t origin i ≡ put l t p i) (sym e) (put-at l t origin ∙ sym (put-at l t p))
+      go t b f (no n) = put-off l t b origin n ∙ sym (put-off l t b p n ∙ none b (unused b f n))
+
+-- ---- one axis: the stage's sum by its divisor, rounded once
+
+pub one-axis : (m N : ℕ) (cell step : Place) (g : Field) → 0 < divisor value m N
+    → answer (record { m = m; n = 1; N = N; want = dose; cell = cell; step = step }) g
+    ≡ roundHalfUp (stageSum value m N (cell 0) (step 0) (λ t. g (put 0 t origin)) 0) (divisor value m N)
+unfolding answer answerBy before inEighths toUnit stageOn divisorOn kindOn lastAxis axes without pick sweep
+one-axis m N cell step g some =
+    ap (λ z. roundHalfUp z (8 * divisor value m N)) (stage-multiple value m N (cell 0) (step 0) (pos 8) (λ t. g (put 0 t origin)) 0)
+    ∙ round-common 8 (stageSum value m N (cell 0) (step 0) (λ t. g (put 0 t origin)) 0) (divisor value m N) (lit≤ tt) some

@@ -1,0 +1,345 @@
+-- The stages of a cell that a query has tested, worked off axis by axis, a slope's axis last: they read the records only, no sum of theirs leaves 64 bits, and they give
+-- the answer of the definition.
+use mathlib.Core.Path.{_≡_, refl, sym, ap, ap₂, subst, _∙_, fun-ext}
+use mathlib.Core.List.{List, [], _∷_}
+use Prim.Native.Nat.{ℕ, suc, _+_, _*_, _-_, _%_, _^_, _≤_, _<_}
+use native.Mathlib.Nat.{le-trans, le-of-eq, mul-le-mul-left, mod-eq-of-lt, add-mod-left, le-of-mul-le-mul-left, pow-zero}
+use native.Mathlib.Omega.{arith}
+use native.Mathlib.Decide.{decLt}
+use lib.Dec.{lit≤}
+use lib.ListN.{length, getD}
+use lib.Pow.{pow-mono}
+use lib.IntN.{ℤ, pos, _*ℤ_, natAbs}
+use Rattle.arith.specs.Choice.{pick}
+use Rattle.arith.specs.Int.{roundHalfUp}
+use Rattle.arith.proofs.Abs.{abs-mul}
+use Rattle.arith.proofs.Choices.{by-m}
+use Rattle.arith.proofs.Round.{half-up-nearly}
+use Rattle.lattice.specs.declared.Shape.{Shape}
+use Rattle.lattice.specs.Buffer.{at}
+use Rattle.lattice.specs.Shape.{orders, Shaped}
+use Rattle.lattice.specs.Axes.{Place, put, axes, without}
+use Rattle.lattice.specs.Records.{totalOrder, entryLimit, entryIndex, recordsField}
+use Rattle.lattice.proofs.Along.{Each, Fresh, Distinct}
+use Rattle.lattice.proofs.ShapeLaws.{orders-range, pow-one, pow-two}
+use Rattle.hermite.specs.Hermite.{kindOf, Kind, value, divisor}
+use Rattle.hermite.specs.Stage.{steps, worth}
+use Rattle.hermite.proofs.StageLaws.{stage-fits}
+use Rattle.cell.specs.Cell.{Accepted, InCorners, offset, placeAt, Laid, base, far, near}
+use Rattle.cell.proofs.CellLaws.{Numbers, placed, entry-at, entry-below}
+use Rattle.cell.proofs.CornerLaws.{corners-within}
+use Rattle.evaluate.specs.declared.Axis.{Axis}
+use Rattle.evaluate.specs.Evaluate.{Want, Ask, askAt, kindOn, lastAxis, before, answer}
+use Rattle.evaluate.specs.Stages.{after, numbersAt, Prepared, AllPrepared, Safe, Made, later, AllMade, AllSteps, Workable, WorkedOff, Ready}
+use Rattle.evaluate.proofs.EndLaws.{offset-low, offset-high, number-at}
+use Rattle.evaluate.proofs.Sizes.{noughts, orders-left, cap, Plain, reads-size, plain-before, answer-small}
+use Rattle.evaluate.proofs.ByIndex.{Holds, offset-is, counts, AllHeld, Left, index, index-put, placed-put, left-put, got, after-is, index-base, nought, fresh-before, distinct-before, answer-is}
+use mathlib.Core.Bool.{Bool, true, false}
+use Rattle.cell.specs.declared.Layout.{Layout}
+use Rattle.evaluate.specs.declared.Strides.{Strides}
+
+-- ---- the bounds
+
+-- of a number after the stages of a list, as it counts
+capOf : List ℕ → ℕ
+capOf [] = 32768
+capOf (a ∷ ls) = cap (suc (length ls))
+
+cap-is : (ls : List ℕ) → cap (length ls) ≡ counts ls * capOf ls
+unfolding cap capOf
+cap-is [] = refl
+cap-is (a ∷ ls) = omega arith
+
+-- what is left of the orders of three axes after k + 1 stages
+few-orders : (m n k o : ℕ) → 2 ≤ m → m ≤ 3 → n ≤ 3 → o + (m - 1) * suc k ≤ (m - 1) * n → (k ≤ 2) × (o + 2 * k ≤ 4)
+few-orders m n k o m2 m3 n3 h = by-m (λ m. o + (m - 1) * suc k ≤ (m - 1) * n → (k ≤ 2) × (o + 2 * k ≤ 4)) (λ h. (omega arith, omega arith)) (λ h. (omega arith, omega arith)) m m2 m3 h
+
+small-cap : (ls : List ℕ) (o : ℕ) → length ls ≤ 2 → o + 2 * length ls ≤ 4 → capOf ls * 2 ^ o ≤ 2 ^ 21
+unfolding capOf cap
+small-cap [] o h k = le-trans (mul-le-mul-left 32768 (pow-mono {i = o} {j = 4} (omega arith))) (lit≤ tt)
+small-cap (a ∷ []) o h k = le-trans (mul-le-mul-left 524288 (pow-mono {i = o} {j = 2} (omega arith))) (lit≤ tt)
+small-cap (a ∷ b ∷ []) o h k = le-trans (mul-le-mul-left 1048576 (pow-mono {i = o} {j = 0} (omega arith))) (lit≤ tt)
+small-cap (a ∷ b ∷ c ∷ ls) o h k = absurd (none (length ls) h)
+  where
+    none : (k : ℕ) → suc (suc (suc k)) ≤ 2 → ⊥
+    none k h = omega arith
+
+-- a number that counts w eighths, from a bound in eighths
+counted : (w x b c e y : ℕ) → 0 < w → w * x ≤ b * e * y → b ≡ w * c → x ≤ c * e * y
+counted w x b c e y some h k = le-of-mul-le-mul-left (le-trans h (le-of-eq (ap (λ (i : ℕ). i * e * y) k ∙ regroup w c e y))) some
+  where
+    regroup : (w c e y : ℕ) → w * c * e * y ≡ w * (c * e * y)
+    regroup w c e y = omega arith
+
+-- ---- the stages
+
+-- an entry of the corners is a number of the cell
+number-of : (s : Shape) (cell p : Place) → Accepted s cell → InCorners (orders s) (s .axes) cell p → Numbers s (λ a. p a - orders s * cell a) × (p ≡ placed s cell (λ a. p a - orders s * cell a))
+number-of s cell p here h = (record { used = low; unused = none }, fun-ext (λ a. whole a (decLt a (s .axes))))
+  where
+    low : (a : ℕ) → a < s .axes → p a - orders s * cell a < 2 * orders s
+    low a l = let e = h .used a l .low in let f = h .used a l .high in omega arith
+
+    none : (a : ℕ) → s .axes ≤ a → p a - orders s * cell a ≡ 0
+    none a l = rw (h .unused a l) (omega arith)
+
+    whole : (a : ℕ) → Dec (a < s .axes) → p a ≡ orders s * cell a + (p a - orders s * cell a)
+    whole a (yes l) = let e = h .used a l .low in omega arith
+    whole a (no n) = let e = h .unused a (omega arith) in let f = ap (λ (i : ℕ). orders s * i) (here .unused a (omega arith)) in omega arith
+
+placed-corners : (s : Shape) (cell t : Place) → Accepted s cell → Numbers s t → InCorners (orders s) (s .axes) cell (placed s cell t)
+placed-corners s cell t here h =
+    record { used = λ a l. record { low = omega arith; high = (let k = h .used a l in omega arith) }; unused = λ a l. rw (here .unused a l, h .unused a l) (omega arith) }
+
+-- ---- the strides of an axis
+
+-- the strides of axis a
+pub record IsAxis (s : Shape) (step : Place) (a : ℕ) (v : Strides) : Type 0 where
+  pub step-is : v .step ≡ step a
+  pub far-is : v .far ≡ far s a
+  pub near-is : v .near ≡ near s a
+
+-- those of a list of axes
+abbrev pub AreAxes : Shape → Place → List ℕ → List Strides → Type 0
+AreAxes s step [] [] = Unit {0}
+AreAxes s step [] (v ∷ vs) = ⊥
+AreAxes s step (a ∷ ls) [] = ⊥
+AreAxes s step (a ∷ ls) (v ∷ vs) = IsAxis s step a v × AreAxes s step ls vs
+
+-- numbers count 8 eighths before the first stage and 1 after it
+later-counts : (s : Shape) (step : Place) (ls : List ℕ) (vs : List Strides) → AreAxes s step ls vs → worth (later vs) ≡ counts ls
+unfolding worth
+later-counts s step [] [] h = refl
+later-counts s step [] (v ∷ vs) h = absurd h
+later-counts s step (a ∷ ls) [] h = absurd h
+later-counts s step (a ∷ ls) (v ∷ vs) h = refl
+
+worth-some : (b : Bool) → 0 < worth b
+unfolding worth
+worth-some true = lit≤ tt
+worth-some false = lit≤ tt
+
+held : {s : Shape} {want : Want} {step : Place} {a : ℕ} (slope from to : Bool) {v : Strides} {x : Axis} → kindOf slope ≡ kindOn want a → IsAxis s step a v
+    → Made (orders s) slope from to v x → Holds s want step (worth from) (worth to) a x
+held {s} slope from to k i h =
+    record {
+      kind-is = ap kindOf (h .slope-is) ∙ k;
+      step-is = h .step-is ∙ i .step-is;
+      far-is = h .far-is ∙ i .far-is;
+      near-is = h .near-is ∙ i .near-is;
+      some = worth-some from;
+      shift-is = h .shift-is ∙ ap (λ (k : Kind). divisor k (orders s) steps * worth to) k;
+    }
+
+all-held : (s : Shape) (want : Want) (step : Place) (ls : List ℕ) (vs : List Strides) (xs : List Axis) → AreAxes s step ls vs → Each (λ a. kindOn want a ≡ value) ls
+    → AllMade (orders s) vs xs → AllHeld s want step ls xs
+unfolding worth kindOf
+all-held s want step [] [] [] i k h = tt
+all-held s want step [] [] (x ∷ xs) i k h = absurd h
+all-held s want step [] (v ∷ vs) xs i k h = absurd i
+all-held s want step (a ∷ ls) [] xs i k h = absurd i
+all-held s want step (a ∷ ls) (v ∷ vs) [] i k h = absurd h
+all-held s want step (a ∷ ls) (v ∷ vs) (x ∷ xs) i k h =
+    (subst (λ (c : ℕ). Holds s want step c 1 a x) (later-counts s step ls vs (i .1)) (held false (later vs) true (sym (k .0)) (i .0) (h .0)), all-held s want step ls vs xs (i .1) (k .1) (h .1))
+
+module _ (s : Shape) (rs : List ℤ) (cell step : Place) (want : Want) (l : Layout) (ready : Ready s rs cell step want l) where
+  abbrev m : ℕ
+  m = orders s
+
+  abbrev ok : Shaped s
+  ok = ready .shape
+
+  abbrev here : Accepted s cell
+  here = ready .here
+
+  -- the index of number t
+  abbrev place : Place → ℕ
+  place = index s ok cell here
+
+  pub m2 : 2 ≤ m
+  m2 = orders-range (s .degree) .0
+
+  pub m3 : m ≤ 3
+  m3 = orders-range (s .degree) .1
+
+  abbrev q : Ask
+  q = record { m = m; n = s .axes; N = steps; want = want; cell = cell; step = step }
+
+  pub limited : (p : Place) → InCorners m (s .axes) cell p → natAbs (recordsField s rs p) ≤ entryLimit m (s .axes) p
+  limited p h =
+      let n = number-of s cell p here h in
+      subst (λ (p : Place). natAbs (recordsField s rs p) ≤ entryLimit m (s .axes) p) (sym (n .1)) (corners-within s rs cell (ready .corners) ok here (λ a. p a - m * cell a) (n .0))
+
+  abbrev pub PlainHere : ℕ → Type 0
+  PlainHere = Plain roundHalfUp half-up-nearly q m2 m3 (lit≤ tt) (recordsField s rs) limited
+
+  -- one more stage, of axis a
+  module _ (a to : ℕ) (ls : List ℕ) (x : Axis) (xs : List Axis) (hx : Holds s want step (counts ls) to a x) (fx : Prepared m x) (hs : AllHeld s want step ls xs)
+      (fresh : Fresh a ls) (used : a < s .axes) (d : Distinct ls) (plains : Each PlainHere ls) (t : Place) (left : Left s (a ∷ ls) t) where
+    below-all : (ms : List ℕ) → Each PlainHere ms → Each (λ a. a < s .axes) ms
+    below-all [] h = tt
+    below-all (b ∷ ms) h = (h .0 .used, below-all ms (h .1))
+
+    axis-low : s .axes ≤ 3 → a < 3
+    axis-low k = omega (arith, used)
+
+    abbrev order : ℕ
+    order = totalOrder m (s .axes) (noughts ls (put a 0 (placed s cell t)))
+
+    number-size : (u : ℕ) → u < 2 * m → natAbs (after m xs (at rs) (place t + offset s a u)) ≤ capOf ls * 2 ^ order * 2 ^ (u % m)
+    unfolding askAt
+    number-size u l =
+        counted (counts ls) (natAbs (after m xs (at rs) (place t + offset s a u))) (cap (length ls)) (capOf ls) (2 ^ order) (2 ^ (u % m)) (hx .some)
+        (le-trans (le-of-eq (sym (ap natAbs value ∙ abs-mul (pos (counts ls)) (after m xs (at rs) (place t + offset s a u)))))
+        (reads-size roundHalfUp half-up-nearly q m2 m3 (lit≤ tt) (recordsField s rs) limited ls d plains a fresh used (placed s cell t) (placed-corners s cell t here (left .numbers)) u l))
+        (cap-is ls)
+      where
+        value : got s ok cell here rs want step ls (put a (m * cell a + u) (placed s cell t)) ≡ pos (counts ls) *ℤ after m xs (at rs) (place t + offset s a u)
+        value =
+            ap (got s ok cell here rs want step ls) (placed-put s ok cell here a u t)
+            ∙ after-is s ok cell here rs want step ls xs hs d (below-all ls plains) (put a u t) (left-put s ok cell here a ls u t fresh used l left)
+            ∙ ap (λ (i : ℕ). pos (counts ls) *ℤ after m xs (at rs) i) (index-put s ok cell here a u t (axis-low (ok .axes-high)) (left .worked-off .0))
+
+    small : capOf ls * 2 ^ order ≤ 2 ^ 21
+    unfolding noughts
+    small =
+        let h = few-orders m (s .axes) (length ls) order m2 m3 (ok .axes-high) (orders-left m (s .axes) m2 (a ∷ ls) (fresh, d) (used, below-all ls plains) (placed s cell t)) in
+        small-cap ls order (h .0) (h .1)
+
+    -- a number of the low and of the high end
+    low-size : (o : ℕ) → o < m → natAbs (numbersAt m (after m xs (at rs)) (place t) (x .near) o) ≤ capOf ls * 2 ^ order * 2 ^ o
+    low-size o l =
+        subst (λ (i : ℕ). natAbs (numbersAt m (after m xs (at rs)) (place t) (x .near) o) ≤ capOf ls * 2 ^ order * 2 ^ i) (mod-eq-of-lt l)
+        (le-trans (le-of-eq (ap natAbs (number-at m (after m xs (at rs)) (place t) (x .near) o l
+        ∙ ap (λ (i : ℕ). after m xs (at rs) (place t + i)) (sym (offset-low m x o l) ∙ offset-is hx o))))
+        (number-size o (omega arith)))
+
+    high-size : (o : ℕ) → o < m → natAbs (numbersAt m (after m xs (at rs)) (place t + x .far) (x .near) o) ≤ capOf ls * 2 ^ order * 2 ^ o
+    high-size o l =
+        subst (λ (i : ℕ). natAbs (numbersAt m (after m xs (at rs)) (place t + x .far) (x .near) o) ≤ capOf ls * 2 ^ order * 2 ^ i) (add-mod-left m o ∙ mod-eq-of-lt l)
+        (le-trans (le-of-eq (ap natAbs (number-at m (after m xs (at rs)) (place t + x .far) (x .near) o l
+        ∙ ap (after m xs (at rs)) (assoc (place t) (x .far) (o * x .near))
+        ∙ ap (λ (i : ℕ). after m xs (at rs) (place t + i)) (sym (offset-high m x o l) ∙ offset-is hx (m + o)))))
+        (number-size (m + o) (omega arith)))
+      where
+        assoc : (i f n : ℕ) → i + f + n ≡ i + (f + n)
+        assoc i f n = omega arith
+
+    pub safe-more : ((t : Place) → Left s ls t → Safe m (length rs) xs (at rs) (place t)) → Safe m (length rs) (x ∷ xs) (at rs) (place t)
+    safe-more rest = (
+      λ u l. subst (Safe m (length rs) xs (at rs)) (index-put s ok cell here a u t (axis-low (ok .axes-high)) (left .worked-off .0) ∙ ap (λ (i : ℕ). place t + i) (sym (offset-is hx u)))
+          (rest (put a u t) (left-put s ok cell here a ls u t fresh used l left)),
+      stage-fits (kindOf (x .slope)) m (x .step) (x .basis) (fx .folds) (numbersAt m (after m xs (at rs)) (place t) (x .near)) (numbersAt m (after m xs (at rs)) (place t + x .far) (x .near)) (capOf ls * 2 ^ order) low-size high-size small,
+    )
+
+  pub safe : (ls : List ℕ) (xs : List Axis) → AllHeld s want step ls xs → AllPrepared m xs → Distinct ls → Each PlainHere ls → (t : Place) → Left s ls t → Safe m (length rs) xs (at rs) (place t)
+  unfolding index
+  safe [] [] h f d e t left = subst (λ (i : ℕ). i < length rs) (entry-at s ok cell here t (left .numbers)) (subst (λ (i : ℕ). entryIndex s (placed s cell t) < i) (sym (ready .long)) (entry-below s ok cell here t (left .numbers)))
+  safe [] (x ∷ xs) h f d e t left = absurd h
+  safe (a ∷ ls) [] h f d e t left = absurd h
+  safe (a ∷ ls) (x ∷ xs) h f d e t left = safe-more a 1 ls x xs (h .0) (f .0) (h .1) (d .0) (e .0 .used) (d .1) (e .1) t left (safe ls xs (h .1) (f .1) (d .1) (e .1))
+
+  -- ---- the stages of all axes
+
+  -- the axes before the last
+  abbrev prior : List ℕ
+  prior = before (askAt s want cell step)
+
+  plain : Each PlainHere prior
+  unfolding askAt
+  plain =
+      plain-before roundHalfUp half-up-nearly q m2 m3 (lit≤ tt) (recordsField s rs) limited (ready .last) (ready .steps-low) (ready .here .unused)
+
+  module _ (slope : Bool) (kind : kindOf slope ≡ kindOn want (lastAxis (s .axes) want)) (b : Strides) (vs : List Strides)
+      (last-is : IsAxis s step (lastAxis (s .axes) want) b) (are : AreAxes s step prior vs) where
+    kinds : (ls : List ℕ) → Each PlainHere ls → Each (λ a. kindOn want a ≡ value) ls
+    kinds [] h = tt
+    kinds (a ∷ ls) h = (h .0 .plain, kinds ls (h .1))
+
+    last-held : (z : Axis) → Made m slope (later vs) false b z → Holds s want step (counts prior) 8 (lastAxis (s .axes) want) z
+    unfolding worth
+    last-held z h = subst (λ (c : ℕ). Holds s want step c 8 (lastAxis (s .axes) want) z) (later-counts s step prior vs are) (held slope (later vs) false kind last-is h)
+
+    others-held : (xs : List Axis) → AllMade m vs xs → AllHeld s want step prior xs
+    others-held xs = all-held s want step prior vs xs are (kinds prior plain)
+
+    all-steps : (ls : List ℕ) (ws : List Strides) → Each PlainHere ls → AreAxes s step ls ws → AllSteps ws
+    all-steps [] [] h i = tt
+    all-steps [] (v ∷ ws) h i = absurd i
+    all-steps (a ∷ ls) [] h i = absurd i
+    all-steps (a ∷ ls) (v ∷ ws) h i = (subst (λ (u : ℕ). u ≤ steps) (sym (i .0 .step-is)) (h .0 .step), all-steps ls ws (h .1) (i .1))
+
+    pub workable : Workable (l .orders) slope b vs (length rs) (at rs) (l .base)
+    workable =
+        subst (λ (m : ℕ). Workable m slope b vs (length rs) (at rs) (l .base)) (sym (ready .laid .orders-are))
+        (subst (λ (p : ℕ). Workable m slope b vs (length rs) (at rs) p) (index-base s ok cell here ∙ sym (ready .laid .base-is))
+        (record {
+          m-low = m2;
+          m-high = m3;
+          steps-in = (subst (λ (u : ℕ). u ≤ steps) (sym (last-is .step-is)) (ready .steps-low (lastAxis (s .axes) want) (ready .last)), all-steps prior vs plain are);
+          safe = safe-all;
+        }))
+      where
+        safe-all : (z : Axis) (xs : List Axis) → Made m slope (later vs) false b z → AllMade m vs xs → AllPrepared m (z ∷ xs)
+            → Safe m (length rs) (z ∷ xs) (at rs) (place (λ a. 0))
+        safe-all z xs hz hx p =
+            safe-more (lastAxis (s .axes) want) 8 prior z xs (last-held z hz) (p .0) (others-held xs hx)
+            (fresh-before s ok cell here rs want step) (ready .last) (distinct-before s ok cell here rs want step) plain (λ a. 0)
+            (nought s ok cell here rs want step)
+            (safe prior xs (others-held xs hx) (p .1) (distinct-before s ok cell here rs want step) plain)
+
+    pub worked-answer : (r : ℤ) → WorkedOff (l .orders) slope b vs (at rs) (l .base) r → r ≡ answer (askAt s want cell step) (recordsField s rs)
+    worked-answer r w =
+        finish (subst (λ (m : ℕ). WorkedOff m slope b vs (at rs) (base s cell) r) (ready .laid .orders-are) (subst (λ (p : ℕ). WorkedOff (l .orders) slope b vs (at rs) p r) (ready .laid .base-is) w))
+      where
+        finish : WorkedOff m slope b vs (at rs) (base s cell) r → r ≡ answer (askAt s want cell step) (recordsField s rs)
+        finish w = w .is ∙ sym (answer-is s ok cell here rs want step (w .last) (w .others) (ready .last) (last-held (w .last) (w .made-last)) (others-held (w .others) (w .made)))
+
+  -- the answer fits 32 bits
+  pub answer-fits : natAbs (answer (askAt s want cell step) (recordsField s rs)) < 2 ^ 24
+  unfolding askAt
+  answer-fits =
+      answer-small q m2 m3 (ready .shape .axes-high) (lit≤ tt) (ready .last) (ready .steps-low) (ready .here .unused) (recordsField s rs) limited
+
+  -- n axes, of which a is the last
+  module _ (n a : ℕ) (en : s .axes ≡ n) (ea : lastAxis (s .axes) want ≡ a) (slope : Bool) (kind : (n : ℕ) → kindOf slope ≡ kindOn want (lastAxis n want)) (b : Strides) (vs : List Strides)
+      (last-is : IsAxis s step a b) (are : AreAxes s step (without a (axes n)) vs) where
+    last-in : IsAxis s step (lastAxis (s .axes) want) b
+    last-in = subst (λ (i : ℕ). IsAxis s step i b) (sym ea) last-is
+
+    are-in : AreAxes s step prior vs
+    unfolding before askAt
+    are-in = subst (λ (ls : List ℕ). AreAxes s step ls vs) (sym (ap₂ (λ (i j : ℕ). without i (axes j)) ea en)) are
+
+    pub workable-in : Workable (l .orders) slope b vs (length rs) (at rs) (l .base)
+    workable-in = workable slope (kind (s .axes)) b vs last-in are-in
+
+    pub answer-in : (r : ℤ) → WorkedOff (l .orders) slope b vs (at rs) (l .base) r → r ≡ answer (askAt s want cell step) (recordsField s rs)
+    answer-in = worked-answer slope (kind (s .axes)) b vs last-in are-in
+
+-- the three axes of a layout
+module _ (s : Shape) (cell : Place) (xs : List ℕ) (l : Layout) (laid : Laid s cell l) where
+  pub is-x : IsAxis s (placeAt xs) 0 (record { step = getD xs 0 0; far = getD (l .far) 0 0; near = 1 })
+  unfolding placeAt pick near
+  is-x = record { step-is = refl; far-is = laid .far-x; near-is = sym (pow-zero (orders s)) }
+
+  pub is-y : IsAxis s (placeAt xs) 1 (record { step = getD xs 1 0; far = getD (l .far) 1 0; near = l .orders })
+  unfolding placeAt pick near
+  is-y = record { step-is = refl; far-is = laid .far-y; near-is = laid .orders-are ∙ sym (pow-one (orders s)) }
+
+  pub is-z : IsAxis s (placeAt xs) 2 (record { step = getD xs 2 0; far = getD (l .far) 2 0; near = l .orders * l .orders })
+  unfolding placeAt pick near
+  is-z = record { step-is = refl; far-is = laid .far-z; near-is = ap (λ (m : ℕ). m * m) (laid .orders-are) ∙ sym (pow-two (orders s)) }
+
+-- the last of n axes
+pub last-of-one : (n a : ℕ) → n ≡ 1 → a < n → a ≡ 0
+last-of-one n a e l = omega arith
+
+pub last-of-two : (n a : ℕ) → n ≡ 2 → a < n → (a ≡ 0 → ⊥) → a ≡ 1
+last-of-two n a e l k = omega arith
+
+pub last-of-three : (n a : ℕ) → n ≤ 3 → a < n → (a ≡ 0 → ⊥) → (a ≡ 1 → ⊥) → a ≡ 2
+last-of-three n a e l k h = omega arith
+
+pub three-axes : (n : ℕ) → 1 ≤ n → n ≤ 3 → (n ≡ 1 → ⊥) → (n ≡ 2 → ⊥) → n ≡ 3
+three-axes n h k a b = omega arith

@@ -1,0 +1,204 @@
+-- The stages by index in the records are those of the definition: number t of a cell stands at its base plus its offset on each axis.
+use mathlib.Core.Path.{_≡_, refl, sym, ap, ap₂, subst, _∙_, fun-ext}
+use mathlib.Core.List.{List, [], _∷_}
+use Prim.Native.Nat.{ℕ, zero, suc, _+_, _*_, _-_, _/_, _%_, _^_, _≤_, _<_}
+use native.Mathlib.Nat.{zero-div, zero-mod, mul-one, mul-comm}
+use lib.Pow.{pow-pos}
+use native.Mathlib.Omega.{arith}
+use native.Mathlib.Decide.{ℕ-discrete}
+use lib.Dec.{lit≤, lit<}
+use lib.ListN.{length}
+use lib.IntN.{ℤ, pos, _*ℤ_, natAbs}
+use Rattle.arith.specs.Int.{roundHalfUp}
+use Rattle.arith.specs.Choice.{pick}
+use Rattle.arith.specs.Sum.{sum}
+use Rattle.arith.proofs.Laws.{pos-one-*ℤ}
+use Rattle.arith.proofs.Round.{round-common}
+use Rattle.arith.proofs.Sums.{sum-ext}
+use Rattle.lattice.specs.declared.Shape.{Shape}
+use Rattle.lattice.specs.Buffer.{at}
+use Rattle.lattice.specs.Shape.{orders, Shaped}
+use Rattle.lattice.specs.Axes.{Place, Field, put, along, sweep, axes}
+use Rattle.lattice.specs.Records.{recordsField}
+use Rattle.lattice.proofs.Along.{put-at, put-off, Each, each-axes, each-without, Fresh, fresh-out, Distinct, distinct-axes, distinct-without}
+use Rattle.lattice.proofs.ShapeLaws.{orders-range}
+use Rattle.hermite.specs.Hermite.{Kind, kindOf, divisor, stageSum, basis}
+use Rattle.hermite.specs.Stage.{steps}
+use Rattle.hermite.proofs.HermiteLaws.{stage-linear, stage-multiple}
+use Rattle.cell.specs.Cell.{Accepted, base, far, near, offset}
+use Rattle.cell.proofs.CellLaws.{Numbers, placed, entry-at}
+use Rattle.evaluate.specs.declared.Axis.{Axis}
+use Rattle.evaluate.specs.Evaluate.{Want, Ask, kindOn, lastAxis, stageOn, divisorOn, toEighth, toUnit, inEighths, before, answerBy, answer, askAt}
+use Rattle.evaluate.specs.Stages.{offsetOf, worked, after}
+use Rattle.evaluate.proofs.AnswerLaws.{answer-anywhere}
+use Rattle.evaluate.proofs.EndLaws.{stage-of}
+
+-- ---- one stage
+
+-- what an axis of the code holds of axis a of a cell; of its numbers one counts `from` eighths, of its stage's `to`
+pub record Holds (s : Shape) (want : Want) (step : Place) (from to a : ℕ) (x : Axis) : Type 0 where
+  pub kind-is : kindOf (x .slope) ≡ kindOn want a
+  pub step-is : x .step ≡ step a
+  pub far-is : x .far ≡ far s a
+  pub near-is : x .near ≡ near s a
+  pub some : 0 < from
+  pub shift-is : 2 ^ (x .shift + 1) * from ≡ divisor (kindOn want a) (orders s) steps * to
+
+module _ {s : Shape} {want : Want} {step : Place} {from to a : ℕ} {x : Axis} (h : Holds s want step from to a x) where
+  pub offset-is : (t : ℕ) → offsetOf (orders s) x t ≡ offset s a t
+  unfolding offsetOf offset
+  offset-is t = ap₂ (λ (f n : ℕ). t / orders s * f + t % orders s * n) (h .far-is) (h .near-is)
+
+  -- the definition's stage of numbers X, which count `from` eighths each
+  worked-is : (c i j : ℕ) (g X : ℕ → ℤ) → ((t : ℕ) → t < 2 * orders s → X (orders s * c + t) ≡ pos from *ℤ g (i + offset s a t))
+      → roundHalfUp (stageSum (kindOn want a) (orders s) steps c (step a) X j) (divisor (kindOn want a) (orders s) steps * to) ≡ worked (orders s) x g i
+  unfolding worked
+  worked-is c i j g X e =
+      ap₂ roundHalfUp
+      (stage-of (kindOn want a) (orders s) steps c (step a) X (λ t. pos from *ℤ g (i + offset s a t)) j e
+      ∙ stage-multiple (kindOn want a) (orders s) steps 0 (step a) (pos from) (λ t. g (i + offset s a t)) 0)
+      (sym (h .shift-is) ∙ mul-comm (2 ^ (x .shift + 1)) from)
+      ∙ round-common from (stageSum (kindOn want a) (orders s) steps 0 (step a) (λ t. g (i + offset s a t)) 0) (2 ^ (x .shift + 1)) (h .some) (pow-pos (x .shift + 1))
+      ∙ ap (λ z. roundHalfUp z (2 ^ (x .shift + 1)))
+      (ap₂ (λ (k : Kind) (u : ℕ). stageSum k (orders s) steps 0 u (λ t. g (i + offset s a t)) 0) (sym (h .kind-is)) (sym (h .step-is))
+      ∙ ap (λ (o : ℕ → ℕ). stageSum (kindOf (x .slope)) (orders s) steps 0 (x .step) (λ t. g (i + o t)) 0) (fun-ext (λ t. sym (offset-is t))))
+
+-- ---- all stages
+
+-- how many eighths a number counts before the stages of a list, and after them
+abbrev pub counts : List ℕ → ℕ
+counts [] = 8
+counts (a ∷ ls) = 1
+
+-- the axes of a list, each held
+abbrev pub AllHeld : Shape → Want → Place → List ℕ → List Axis → Type 0
+AllHeld s want step [] [] = Unit {0}
+AllHeld s want step [] (x ∷ xs) = ⊥
+AllHeld s want step (a ∷ ls) [] = ⊥
+AllHeld s want step (a ∷ ls) (x ∷ xs) = Holds s want step (counts ls) 1 a x × AllHeld s want step ls xs
+
+-- numbers of a cell, 0 on the axes of a list
+pub record Left (s : Shape) (ls : List ℕ) (t : Place) : Type 0 where
+  pub numbers : Numbers s t
+  pub worked-off : Each (λ a. t a ≡ 0) ls
+
+module _ (s : Shape) (ok : Shaped s) (cell : Place) (here : Accepted s cell) where
+  -- the index of number t
+  unfoldable pub index : Place → ℕ
+  index t = base s cell + (offset s 0 (t 0) + (offset s 1 (t 1) + offset s 2 (t 2)))
+
+  offset-none : (a : ℕ) → offset s a 0 ≡ 0
+  unfolding offset
+  offset-none a = rw (zero-div (orders s), zero-mod (orders s)) (omega arith)
+
+  pub index-put : (a u : ℕ) (t : Place) → a < 3 → t a ≡ 0 → index (put a u t) ≡ index t + offset s a u
+  unfolding index put pick
+  index-put zero u t l e = rw (e, offset-none 0) (omega arith)
+  index-put (suc zero) u t l e = rw (e, offset-none 1) (omega arith)
+  index-put (suc (suc zero)) u t l e = rw (e, offset-none 2) (omega arith)
+  index-put (suc (suc (suc a))) u t l e = absurd (beyond a l)
+    where
+      beyond : (a : ℕ) → suc (suc (suc a)) < 3 → ⊥
+      beyond a h = omega arith
+
+  pub index-base : index (λ a. 0) ≡ base s cell
+  unfolding index
+  index-base = rw (offset-none 0, offset-none 1, offset-none 2) (omega arith)
+
+  -- moving to number u of an axis
+  pub placed-put : (a u : ℕ) (t : Place) → put a (orders s * cell a + u) (placed s cell t) ≡ placed s cell (put a u t)
+  placed-put a u t = fun-ext (λ b. go b (ℕ-discrete b a))
+    where
+      go : (b : ℕ) → Dec (b ≡ a) → put a (orders s * cell a + u) (placed s cell t) b ≡ orders s * cell b + put a u t b
+      go b (yes e) =
+          subst (λ (i : ℕ). put a (orders s * cell a + u) (placed s cell t) i ≡ orders s * cell i + put a u t i) (sym e)
+          (put-at a (orders s * cell a + u) (placed s cell t) ∙ ap (λ (i : ℕ). orders s * cell a + i) (sym (put-at a u t)))
+      go b (no n) = put-off a (orders s * cell a + u) b (placed s cell t) n ∙ ap (λ (i : ℕ). orders s * cell b + i) (sym (put-off a u b t n))
+
+  pub left-put : (a : ℕ) (ls : List ℕ) (u : ℕ) (t : Place) → Fresh a ls → a < s .axes → u < 2 * orders s → Left s (a ∷ ls) t → Left s ls (put a u t)
+  left-put a ls u t f l k h =
+      record {
+        numbers = record { used = λ b i. used b i (ℕ-discrete b a); unused = λ b i. put-off a u b t (apart b i) ∙ h .numbers .unused b i };
+        worked-off = off ls f (h .worked-off .1);
+      }
+    where
+      apart : (b : ℕ) → s .axes ≤ b → b ≡ a → ⊥
+      apart b i e = omega arith
+
+      used : (b : ℕ) → b < s .axes → Dec (b ≡ a) → put a u t b < 2 * orders s
+      used b i (yes e) = subst (λ (c : ℕ). put a u t c < 2 * orders s) (sym e) (subst (λ (v : ℕ). v < 2 * orders s) (sym (put-at a u t)) k)
+      used b i (no n) = subst (λ (v : ℕ). v < 2 * orders s) (sym (put-off a u b t n)) (h .numbers .used b i)
+
+      off : (ms : List ℕ) → Fresh a ms → Each (λ b. t b ≡ 0) ms → Each (λ b. put a u t b ≡ 0) ms
+      off [] f e = tt
+      off (b ∷ ms) f e = (put-off a u b t (λ i. f .0 (sym i)) ∙ e .0, off ms (f .1) (e .1))
+
+  module _ (rs : List ℤ) (want : Want) (step : Place) where
+    abbrev q : Ask
+    q = askAt s want cell step
+
+    abbrev pub got : List ℕ → Field
+    got ls = sweep ls (toEighth roundHalfUp q) (inEighths (recordsField s rs))
+
+    pub after-is : (ls : List ℕ) (xs : List Axis) → AllHeld s want step ls xs → Distinct ls → Each (λ a. a < s .axes) ls → (t : Place) → Left s ls t
+        → got ls (placed s cell t) ≡ pos (counts ls) *ℤ after (orders s) xs (at rs) (index t)
+    unfolding sweep inEighths recordsField after toEighth stageOn divisorOn askAt index
+    after-is [] [] m d e t h = ap (λ (i : ℕ). pos 8 *ℤ at rs i) (entry-at s ok cell here t (h .numbers))
+    after-is [] (x ∷ xs) m d e t h = absurd m
+    after-is (a ∷ ls) [] m d e t h = absurd m
+    after-is (a ∷ ls) (x ∷ xs) m d e t h =
+        ap (roundHalfUp (stageSum (kindOn want a) (orders s) steps (cell a) (step a) (λ j. got ls (put a j (placed s cell t))) (placed s cell t a))) (sym (mul-one (divisor (kindOn want a) (orders s) steps)))
+        ∙ worked-is (m .0) (cell a) (index t) (placed s cell t a) (after (orders s) xs (at rs)) (λ j. got ls (put a j (placed s cell t)))
+        (λ u l. ap (got ls) (placed-put a u t) ∙ after-is ls xs (m .1) (d .1) (e .1) (put a u t) (left-put a ls u t (d .0) (e .0) l h)
+        ∙ ap (λ (i : ℕ). pos (counts ls) *ℤ after (orders s) xs (at rs) i) (index-put a u t (below a (e .0) (ok .axes-high)) (h .worked-off .0)))
+        ∙ sym (pos-one-*ℤ (worked (orders s) x (after (orders s) xs (at rs)) (index t)))
+      where
+        below : (a : ℕ) → a < s .axes → s .axes ≤ 3 → a < 3
+        below a i k = omega arith
+
+    -- ---- the answer
+
+    abbrev l : ℕ
+    l = lastAxis (s .axes) want
+
+    pub nought : Left s (l ∷ before q) (λ a. 0)
+    nought = record { numbers = record { used = λ a i. some; unused = λ a i. refl }; worked-off = each (l ∷ before q) }
+      where
+        some : 0 < 2 * orders s
+        some = let h = orders-range (s .degree) .0 in omega arith
+
+        each : (ls : List ℕ) → Each (λ a. _≡_ {A = ℕ} 0 0) ls
+        each [] = tt
+        each (a ∷ ls) = (refl, each ls)
+
+    pub used-before : Each (λ a. a < s .axes) (before q)
+    unfolding before askAt
+    used-before = each-without (λ a. a < s .axes) l (axes (s .axes)) (each-axes (s .axes) (λ a. (a ≡ l → ⊥) → a < s .axes) (λ a i n. i))
+
+    pub distinct-before : Distinct (before q)
+    unfolding before askAt
+    distinct-before = distinct-without l (axes (s .axes)) (distinct-axes (s .axes))
+
+    pub fresh-before : Fresh l (before q)
+    unfolding before askAt
+    fresh-before = fresh-out l (axes (s .axes))
+
+    pub answer-is : (z : Axis) (xs : List Axis) → l < s .axes → Holds s want step (counts (before q)) 8 l z → AllHeld s want step (before q) xs
+        → answer q (recordsField s rs) ≡ after (orders s) (z ∷ xs) (at rs) (base s cell)
+    unfolding answer toUnit stageOn divisorOn askAt after
+    answer-is z xs last hz hx =
+        answer-anywhere roundHalfUp q (recordsField s rs) (placed s cell (λ a. 0)) none
+        ∙ ap (roundHalfUp (stageSum (kindOn want l) (orders s) steps (cell l) (step l) X (placed s cell (λ a. 0) l))) (mul-comm 8 (divisor (kindOn want l) (orders s) steps))
+        ∙ worked-is hz (cell l) (index (λ a. 0)) (placed s cell (λ a. 0) l) (after (orders s) xs (at rs)) X
+        (λ u k. ap (got (before q)) (placed-put l u (λ a. 0)) ∙ after-is (before q) xs hx distinct-before used-before (put l u (λ a. 0)) (left-put l (before q) u (λ a. 0) fresh-before last k nought)
+        ∙ ap (λ (i : ℕ). pos (counts (before q)) *ℤ after (orders s) xs (at rs) i) (index-put l u (λ a. 0) (below (ok .axes-high)) refl))
+        ∙ ap (worked (orders s) z (after (orders s) xs (at rs))) index-base
+      where
+        X : ℕ → ℤ
+        X j = got (before q) (put l j (placed s cell (λ a. 0)))
+
+        none : (a : ℕ) → s .axes ≤ a → orders s * cell a + 0 ≡ 0
+        none a h = rw (here .unused a h) (omega arith)
+
+        below : s .axes ≤ 3 → l < 3
+        below k = omega (arith, last)

@@ -1,0 +1,6 @@
+pub mod AnswerLaws
+pub mod EndLaws
+pub mod Sizes
+pub mod ByIndex
+pub mod Filling
+pub mod Answering

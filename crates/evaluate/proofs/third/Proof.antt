@@ -1,0 +1,143 @@
+-- `evaluate::third` meets its contract: the second stage fills both ends, order by order.
+use mathlib.Core.Path.{_∙_}
+use mathlib.Core.List.{List, [], _∷_}
+use Prim.Native.Nat.{ℕ, _-_}
+use native.Mathlib.Omega.{arith}
+use lib.ListN.{length}
+use lib.IntN.{ℤ}
+use mir.Syntax.{w64}
+use mir.Val.{toZ, ofZ}
+use denote.Ref.{now}
+use Rattle.lattice.specs.Buffer.{at}
+use Rattle.hermite.specs.Hermite.{kindOf}
+use Rattle.hermite.proofs.DotLaws.{read}
+use Rattle.evaluate.specs.declared.Axis.{Axis}
+use Rattle.evaluate.specs.Stages.{after}
+use Rattle.evaluate.proofs.EndLaws.{safe-load, stage-after}
+use Rattle.evaluate.proofs.Filling.{low-safe, high-safe, low-below, high-below, near-below, BothFilled, both-none, both-more, both-all}
+use Rattle.evaluate.proofs.third.Statement.{statement}
+use Rattle.evaluate.proofs.third.Tie as tie
+
+abbrev Inv-loop : tie.InvT-loop
+Inv-loop m z y x records p near far low₀ high₀ o₀ low high o = BothFilled m z (after m (y ∷ x ∷ []) (at records)) p low high o
+
+abbrev μ-loop : tie.MeasureT-loop
+μ-loop m z y x records p near far low₀ high₀ o₀ low high o = m - o
+
+module _ (s : tie.Start Inv-loop μ-loop) where
+  abbrev n : ℕ
+  n = length (now (s .args .records))
+
+  abbrev xs : List Axis
+  xs = s .args .y ∷ s .args .x ∷ []
+
+  abbrev raw : ℕ → ℤ
+  raw = at (now (s .args .records))
+
+mul-t14 : tie.Need-mul-t14 Inv-loop μ-loop
+mul-t14 c =
+    let s = c .before in
+    let f = s .pre .0 .0 .folds in
+    let h = near-below (s .args .m) (n s) (s .args .z) (xs s) (raw s) (s .args .p) (f .m-low) (f .m-high) (s .pre .1) in
+    omega arith
+
+loop-holds : tie.Need-loop-holds Inv-loop μ-loop
+loop-holds c = let s = c .before in both-none (s .args .m) (s .args .z) (after (s .args .m) (xs s) (raw s)) (s .args .p)
+
+mul-i : tie.Need-mul-i Inv-loop μ-loop
+mul-i c = let h = c .before .before .before .pre .0 .0 .folds .m-high in omega arith
+
+array-read-i : tie.Need-array-read-i Inv-loop μ-loop
+array-read-i c = let h = c .before .before .before .pre .0 .0 .folds .m-high in omega arith
+
+add-i : tie.Need-add-i Inv-loop μ-loop
+add-i c =
+    let s = c .before .before .before in
+    let f = s .pre .0 .0 .folds in
+    let h = low-below (s .args .m) (n s) (s .args .z) (xs s) (raw s) (s .args .p) (f .m-low) (f .m-high) (s .pre .1) (c .before .loop .o) (c .loop-test .taken) in
+    omega arith
+
+second-requires : tie.Need-second-requires Inv-loop μ-loop
+second-requires c κs =
+    let s = c .before .before .before in
+    let f = s .pre .0 .0 .folds in
+    (s .pre .0 .1, low-safe (s .args .m) (n s) (s .args .z) (xs s) (raw s) (s .args .p) (f .m-low) (f .m-high) (s .pre .1) (c .before .loop .o) (c .loop-test .taken))
+
+mul-low : tie.Need-mul-low Inv-loop μ-loop
+mul-low c = let h = c .before .before .before .before .pre .0 .0 .folds .m-high in omega arith
+
+array-set-from-low : tie.Need-array-set-from-low Inv-loop μ-loop
+array-set-from-low c = let h = c .before .before .before .before .pre .0 .0 .folds .m-high in omega arith
+
+add-second : tie.Need-add-second Inv-loop μ-loop
+add-second c =
+    let s = c .before .before .before .before in
+    let f = s .pre .0 .0 .folds in
+    let h = high-below (s .args .m) (n s) (s .args .z) (xs s) (raw s) (s .args .p) (f .m-low) (f .m-high) (s .pre .1) (c .before .before .loop .o) (c .before .loop-test .taken) in
+    omega arith
+
+second-requires-2 : tie.Need-second-requires-2 Inv-loop μ-loop
+second-requires-2 c κs =
+    let s = c .before .before .before .before in
+    let f = s .pre .0 .0 .folds in
+    (s .pre .0 .1, high-safe (s .args .m) (n s) (s .args .z) (xs s) (raw s) (s .args .p) (f .m-low) (f .m-high) (s .pre .1) (c .before .before .loop .o) (c .before .loop-test .taken))
+
+mul-high : tie.Need-mul-high Inv-loop μ-loop
+mul-high c = let h = c .before .before .before .before .before .pre .0 .0 .folds .m-high in omega arith
+
+array-set-from-high : tie.Need-array-set-from-high Inv-loop μ-loop
+array-set-from-high c = let h = c .before .before .before .before .before .pre .0 .0 .folds .m-high in omega arith
+
+add-o : tie.Need-add-o Inv-loop μ-loop
+add-o c = let h = c .before .before .before .before .before .pre .0 .0 .folds .m-high in omega arith
+
+loop-less : tie.Need-loop-less Inv-loop μ-loop
+loop-less c = omega arith
+
+loop-again : tie.Need-loop-again Inv-loop μ-loop
+loop-again c =
+    let s = c .before .before .before .before .before in
+    let i = c .before .before .before .loop in
+    both-more (s .args .m) (s .args .z) (after (s .args .m) (xs s) (raw s)) (s .args .p) (s .pre .0 .0 .folds .m-high) (i .low) (i .high) (i .o) (c .before .before .loop-test .taken) (i .inv)
+    (toZ w64 (ofZ w64 (c .before .second .result))) (toZ w64 (ofZ w64 (c .second2 .result)))
+    (read (c .before .second .result) (c .before .second .ok) ∙ c .before .second .ensures) (read (c .second2 .result) (c .second2 .ok) ∙ c .second2 .ensures)
+
+stage-requires : tie.Need-stage-requires Inv-loop μ-loop
+stage-requires c κs =
+    let s = c .before .before .before .before in
+    let i = c .before .before .loop in
+    let all = both-all (s .args .m) (s .args .z) (after (s .args .m) (xs s) (raw s)) (s .args .p) (i .low) (i .high) (i .o) (i .inv) (c .before .loop-test .left) in
+    (s .pre .0 .0 .shift-low, safe-load (s .args .m) (n s) (s .args .z) (xs s) (raw s) (s .args .p) (s .pre .1) (at (i .low)) (at (i .high)) (all .0) (all .1))
+
+returns : tie.Need-returns Inv-loop μ-loop
+returns c =
+    let s = c .before .before .before .before .before in
+    let i = c .before .before .before .loop in
+    let f = s .pre .0 .0 .folds in
+    let all = both-all (s .args .m) (s .args .z) (after (s .args .m) (xs s) (raw s)) (s .args .p) (i .low) (i .high) (i .o) (i .inv) (c .before .before .loop-test .left) in
+    stage-after (s .args .m) (n s) (s .args .z) (xs s) (raw s) (s .args .p) (s .pre .1) (at (i .low)) (at (i .high)) (all .0) (all .1) (f .m-high)
+    (toZ w64 (ofZ w64 (c .stage .result))) (read (c .stage .result) (c .stage .ok) ∙ c .stage .ensures (kindOf (s .args .z .slope)) (s .args .m) (s .args .z .step) f)
+
+pub third-spec : {M : Type 1} → statement M
+third-spec =
+    tie.close
+    (tie.spec
+    Inv-loop
+    μ-loop
+    mul-t14
+    loop-holds
+    mul-i
+    array-read-i
+    add-i
+    second-requires
+    mul-low
+    array-set-from-low
+    add-second
+    second-requires-2
+    mul-high
+    array-set-from-high
+    add-o
+    loop-less
+    loop-again
+    stage-requires
+    returns)

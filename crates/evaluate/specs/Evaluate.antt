@@ -1,0 +1,92 @@
+-- A dose or a slope at step u of a cell: the exact value, and the rounded stages.
+use Prim.Native.Nat.{ℕ, _*_, _-_}
+use mathlib.Core.List.{List}
+use lib.Dec.{eqb}
+use lib.IntN.{ℤ, pos, _*ℤ_}
+use Rattle.arith.specs.Int.{Rounding, roundHalfUp}
+use Rattle.arith.specs.Sum.{sum, product, times}
+use Rattle.arith.specs.Choice.{pick}
+use Rattle.lattice.specs.declared.Shape.{Shape}
+use Rattle.lattice.specs.Shape.{orders}
+use Rattle.lattice.specs.Axes.{Place, Field, Rule, origin, along, sweep, axes, without}
+use Rattle.hermite.specs.Hermite.{Kind, value, slope, weightAt, divisor, stageSum}
+use Rattle.hermite.specs.Stage.{steps}
+use Rattle.cell.specs.Coefficients.{coefficients}
+
+-- what is asked for: a dose, or a slope along an axis
+pub data Want : Type 0 where
+  dose : Want
+  slopeAlong : ℕ → Want
+
+-- the kind of weights on an axis
+unfoldable pub kindOn : Want → ℕ → Kind
+kindOn dose a = value
+kindOn (slopeAlong l) a = pick (eqb a l) slope value
+
+-- the axis that is worked off last
+unfoldable pub lastAxis : ℕ → Want → ℕ
+lastAxis n dose = n - 1
+lastAxis n (slopeAlong l) = l
+
+-- m, the number of axes, the number N of steps, what is asked for, the cell and the in-cell step on each axis
+pub record Ask : Type 0 where
+  pub m : ℕ
+  pub n : ℕ
+  pub N : ℕ
+  pub want : Want
+  pub cell : Place
+  pub step : Place
+
+-- ---- exact: the sum over all coefficients of coefficient times weights, and its divisor
+
+-- the weight of coefficient i on one axis
+unfoldable pub weightOn : Ask → ℕ → ℕ → ℤ
+weightOn q a i = weightAt (kindOn (q .want) a) (q .m) (q .N) (q .step a) i
+
+-- the sum over places 0 to w - 1 of each axis
+unfoldable pub sumOver : List ℕ → ℕ → Field → Field
+sumOver ls w = sweep ls (λ a x j. sum w x)
+
+unfoldable pub exactSum : Ask → Field → ℤ
+exactSum q g =
+    sumOver (axes (q .n)) (2 * q .m) (λ i. coefficients (q .m) (q .n) (q .cell) g i *ℤ product (axes (q .n)) (λ a. weightOn q a (i a))) origin
+
+unfoldable pub divisorOn : Ask → ℕ → ℕ
+divisorOn q a = divisor (kindOn (q .want) a) (q .m) (q .N)
+
+unfoldable pub exactDivisor : Ask → ℕ
+exactDivisor q = times (axes (q .n)) (divisorOn q)
+
+-- ---- the rounded stages, on numbers in eighths of a unit
+
+-- a stage before its rounding
+unfoldable pub stageOn : Ask → ℕ → Rule
+stageOn q a = stageSum (kindOn (q .want) a) (q .m) (q .N) (q .cell a) (q .step a)
+
+-- every stage but the last rounds to an eighth
+unfoldable pub toEighth : Rounding → Ask → ℕ → Rule
+toEighth round q a x j = round (stageOn q a x j) (divisorOn q a)
+
+-- the last rounds to a unit
+unfoldable pub toUnit : Rounding → Ask → ℕ → Rule
+toUnit round q a x j = round (stageOn q a x j) (8 * divisorOn q a)
+
+unfoldable pub inEighths : Field → Field
+inEighths g p = pos 8 *ℤ g p
+
+-- the axes before the last; `sweep` works them off in the order x, y, z
+unfoldable pub before : Ask → List ℕ
+before q = without (lastAxis (q .n) (q .want)) (axes (q .n))
+
+unfoldable pub answerBy : Rounding → Ask → Field → ℤ
+answerBy round q g =
+    along (lastAxis (q .n) (q .want)) (toUnit round q (lastAxis (q .n) (q .want)))
+    (sweep (before q) (toEighth round q) (inEighths g)) origin
+
+-- to the nearest, halves up
+unfoldable pub answer : Ask → Field → ℤ
+answer q g = answerBy roundHalfUp q g
+
+-- of a table of shape s
+unfoldable pub askAt : Shape → Want → Place → Place → Ask
+askAt s want cell step = record { m = orders s; n = s .axes; N = steps; want = want; cell = cell; step = step }

@@ -1,0 +1,116 @@
+-- Where a position stands: its cell and in-cell step on each axis, over plain numbers, and three of them as a place.
+use mathlib.Core.Path.{_≡_, refl, sym, ap, _∙_, fun-ext}
+use mathlib.Core.Bool.{Bool, true, false, _&&_}
+use mathlib.Core.List.{List, [], _∷_}
+use Prim.Native.Nat.{ℕ, zero, suc, _*_, _-_, _/_, _^_, _≤_, _<_}
+use native.Mathlib.Omega.{arith}
+use lib.Dec.{leb, ltb}
+use lib.ListN.{getD}
+use lib.IntN.{ℤ, pos, negsuc, natAbs}
+use lib.Signed.{nonNeg, ltZ, mag}
+use borrow.Author.Tests.{ltb-true, lt-ltb, le-ltb}
+use Rattle.arith.specs.Choice.{pick}
+use Rattle.arith.proofs.Choices.{pick-true, pick-false}
+use Rattle.lattice.specs.declared.Shape.{Shape}
+use Rattle.lattice.specs.Outcome.{Check, refuseUnless, first, firstOf}
+use Rattle.lattice.specs.Buffer.{at}
+use Rattle.lattice.specs.Shape.{count}
+use Rattle.lattice.specs.Axes.{Place}
+use Rattle.hermite.specs.Stage.{steps}
+use Rattle.cell.specs.Cell.{placeAt}
+use Rattle.query.specs.Queries.{positionAt, positionOutcome, cellOf, positionCell, positionStep}
+
+-- ---- one axis
+
+module _ (count p last : ℕ) (is : last ≡ count - 2) where
+  pub low-cell : p / 256 < last → p / 256 ≡ cellOf steps count p
+  unfolding cellOf
+  low-cell h = omega arith
+
+  pub last-cell : last ≤ p / 256 → last ≡ cellOf steps count p
+  unfolding cellOf
+  last-cell h = omega arith
+
+-- a cell starts at or below its positions
+pub cell-below : (count p : ℕ) → 256 * cellOf steps count p ≤ p
+unfolding cellOf
+cell-below count p = omega arith
+
+-- ---- a signed coordinate
+
+pub size-low : (z : ℤ) → mag z < 2 ^ 31 → natAbs z ≤ 2 ^ 31
+size-low (pos n) h = omega arith
+size-low (negsuc n) h = omega arith
+
+neg-sign : (z : ℤ) → ltZ z (pos 0) ≡ true → nonNeg z ≡ false
+neg-sign (pos n) h = absurd (omega (arith, ltb-true n 0 h))
+neg-sign (negsuc n) h = refl
+
+pos-sign : (z : ℤ) → ltZ z (pos 0) ≡ false → nonNeg z ≡ true
+pos-sign (pos n) h = refl
+pos-sign (negsuc n) h = let z : _≡_ {A = ℕ} 0 1 = cc in absurd (omega arith)
+
+module _ (z : ℤ) (l axis : ℕ) where
+  pub below-zero : ltZ z (pos 0) ≡ true → refuseUnless false 11 axis ≡ refuseUnless (nonNeg z && leb (natAbs z) l) 11 axis
+  below-zero h = sym (ap (λ (t : Bool). refuseUnless (t && leb (natAbs z) l) 11 axis) (neg-sign z h))
+
+  pub from-zero : (r : ℕ) → ltZ z (pos 0) ≡ false → r ≡ natAbs z → refuseUnless (leb r l) 11 axis ≡ refuseUnless (nonNeg z && leb (natAbs z) l) 11 axis
+  from-zero r h e = ap (λ (n : ℕ). refuseUnless (leb n l) 11 axis) e ∙ sym (ap (λ (t : Bool). refuseUnless (t && leb (natAbs z) l) 11 axis) (pos-sign z h))
+
+-- ---- three axes
+
+pub three : (x y z : ℕ) (f : Place) → x ≡ f 0 → y ≡ f 1 → z ≡ f 2 → ((a : ℕ) → 3 ≤ a → f a ≡ 0) → placeAt (x ∷ y ∷ z ∷ []) ≡ f
+unfolding placeAt pick
+three x y z f i j k none = fun-ext go
+  where
+    go : (a : ℕ) → placeAt (x ∷ y ∷ z ∷ []) a ≡ f a
+    go zero = i
+    go (suc zero) = j
+    go (suc (suc zero)) = k
+    go (suc (suc (suc a))) = pick-false (ltb (suc (suc (suc a))) 3) 0 0 (le-ltb (suc (suc (suc a))) 3 (omega arith)) ∙ sym (none (suc (suc (suc a))) (omega arith))
+
+module _ (s : Shape) (p : List ℤ) where
+  position-beyond : (a : ℕ) → 3 ≤ a → natAbs (positionAt p a) ≡ 0
+  unfolding positionAt
+  position-beyond a l = ap natAbs (pick-false (ltb a 3) (at p a) (pos 0) (le-ltb a 3 l))
+
+  pub no-cell : (a : ℕ) → 3 ≤ a → positionCell s (positionAt p) a ≡ 0
+  unfolding positionCell cellOf
+  no-cell a l = let h = position-beyond a l in omega arith
+
+  pub no-step : (a : ℕ) → 3 ≤ a → positionStep s (positionAt p) a ≡ 0
+  unfolding positionStep
+  no-step a l = let h = position-beyond a l in omega arith
+
+  -- the three tests of a position
+  pub together : (x y z xy all : Check) (u v w : ℤ) → all ≡ first xy z → xy ≡ first x y → x ≡ positionOutcome s (λ a. u) 0 → y ≡ positionOutcome s (λ a. v) 1 → z ≡ positionOutcome s (λ a. w) 2
+      → u ≡ at p 0 → v ≡ at p 1 → w ≡ at p 2 → all ≡ firstOf 3 (positionOutcome s (positionAt p))
+  unfolding positionOutcome positionAt firstOf pick
+  together x y z xy all u v w f g h i j k l m =
+      f ∙ ap (λ (o : Check). first o z) g
+      ∙ ap (λ (o : Check). first (first o y) z) (h ∙ ap (λ (q : ℤ). positionOutcome s (λ a. q) 0) k)
+      ∙ ap (λ (o : Check). first (first (positionOutcome s (λ a. at p 0) 0) o) z) (i ∙ ap (λ (q : ℤ). positionOutcome s (λ a. q) 1) l)
+      ∙ ap (λ (o : Check). first (first (positionOutcome s (λ a. at p 0) 0) (positionOutcome s (λ a. at p 1) 1)) o) (j ∙ ap (λ (q : ℤ). positionOutcome s (λ a. q) 2) m)
+
+  -- the in-cell step of a position whose cell is known
+  module _ (cell : List ℕ) (is : placeAt cell ≡ positionCell s (positionAt p)) (a : ℕ) (l : a < 3) where
+    cell-is : getD cell a 0 ≡ cellOf steps (count s a) (natAbs (at p a))
+    unfolding positionCell positionAt placeAt
+    cell-is =
+        sym (pick-true (ltb a 3) (getD cell a 0) 0 (lt-ltb a 3 l)) ∙ ap (λ (f : Place). f a) is
+        ∙ ap (λ (z : ℤ). cellOf steps (count s a) (natAbs z)) (pick-true (ltb a 3) (at p a) (pos 0) (lt-ltb a 3 l))
+
+    pub start-below : 256 * getD cell a 0 ≤ natAbs (at p a)
+    start-below = let e = cell-is in let h = cell-below (count s a) (natAbs (at p a)) in omega arith
+
+    pub step-is : (d : ℕ) → d ≡ natAbs (at p a) → d - 256 * getD cell a 0 ≡ positionStep s (positionAt p) a
+    unfolding positionStep positionCell positionAt
+    step-is d e =
+        ap (λ (n : ℕ). n - 256 * getD cell a 0) e ∙ ap (λ (n : ℕ). natAbs (at p a) - 256 * n) cell-is
+        ∙ ap (λ (z : ℤ). natAbs z - 256 * cellOf steps (count s a) (natAbs z)) (sym (pick-true (ltb a 3) (at p a) (pos 0) (lt-ltb a 3 l)))
+
+-- ---- three tests in their order
+
+pub in-order : (x y z yz all f g h : Check) → all ≡ first x yz → yz ≡ first y z → x ≡ f → y ≡ g → z ≡ h → all ≡ first f (first g h)
+in-order x y z yz all f g h a b i j k =
+    a ∙ ap (λ (o : Check). first x o) b ∙ ap (λ (o : Check). first o (first y z)) i ∙ ap (λ (o : Check). first f (first o z)) j ∙ ap (λ (o : Check). first f (first g o)) k

@@ -1,0 +1,263 @@
+-- The facts behind a query that is not refused, when it is not, and a query by position as the query by its cell and in-cell step.
+use mathlib.Core.Path.{_≡_, refl, sym, ap, _∙_}
+use mathlib.Core.Bool.{Bool, true, _&&_}
+use mathlib.Core.List.{List}
+use Prim.Native.Nat.{ℕ, _+_, _*_, _-_, _≤_, _<_}
+use native.Mathlib.Omega.{arith}
+use native.Mathlib.Decide.{decLt}
+use lib.Dec.{leb, ltb, eqb}
+use lib.ListN.{length}
+use lib.IntN.{ℤ, pos, negsuc, natAbs}
+use lib.Signed.{nonNeg}
+use borrow.Author.Tests.{ltb-true, leb-true, eqb-true, lt-ltb, le-ltb, le-leb, eq-eqb}
+use Rattle.arith.specs.Choice.{pick}
+use Rattle.arith.proofs.Choices.{pick-true, pick-false, and-true}
+use Rattle.lattice.specs.declared.Shape.{Shape}
+use Rattle.lattice.specs.Outcome.{Outcome, Check, done, refused, refuseUnless, first, firstOf}
+use Rattle.lattice.specs.Shape.{count, size, shapeOutcome, Shaped}
+use Rattle.lattice.specs.Axes.{Place}
+use Rattle.lattice.specs.Records.{recordsField}
+use Rattle.lattice.proofs.ShapeLaws.{shaped}
+use Rattle.lattice.proofs.OutcomeLaws.{first-done, first-passed, first-after, first-assoc, refused-first, done-same, refuse-done, passes, firstOf-each, firstOf-passes}
+use Rattle.hermite.specs.Stage.{steps}
+use Rattle.cell.specs.declared.Layout.{Layout}
+use Rattle.cell.specs.Cell.{placeAt, indexOutcome, cellOutcome, cornersOutcome, Laid}
+use Rattle.cell.proofs.CellLaws.{accepted}
+use Rattle.evaluate.specs.Stages.{Ready}
+use Rattle.evaluate.specs.Evaluate.{Want, dose, slopeAlong, lastAxis, askAt, answer}
+use Rattle.query.specs.Queries.{wantOutcome, askedOutcome, reading, stepsOutcome, byCell, Position, positionOutcome, cellOf, positionCell, positionStep, byPosition}
+
+pub last-used : (s : Shape) (want : Want) → 1 ≤ s .axes → wantOutcome s want ≡ done tt → lastAxis (s .axes) want < s .axes
+unfolding wantOutcome lastAxis
+last-used s dose l h = omega arith
+last-used s (slopeAlong a) l h = ltb-true a (s .axes) (refuse-done (ltb a (s .axes)) 12 0 h)
+
+pub step-inside : (s : Shape) (step : Place) → Shaped s → stepsOutcome s step ≡ done tt → (a : ℕ) → a < s .axes → step a ≤ steps
+unfolding stepsOutcome
+step-inside s step f h a l =
+    leb-true (step a) steps
+    (sym (pick-true (ltb a (s .axes)) (leb (step a) steps) (eqb (step a) 0) (lt-ltb a (s .axes) l))
+    ∙ refuse-done (pick (ltb a (s .axes)) (leb (step a) steps) (eqb (step a) 0)) 11 a (firstOf-each 3 (λ a. refuseUnless (pick (ltb a (s .axes)) (leb (step a) steps) (eqb (step a) 0)) 11 a) h a (within a (s .axes) l (f .axes-high))))
+  where
+    within : (a n : ℕ) → a < n → n ≤ 3 → a < 3
+    within a n l h = omega arith
+
+-- the tests of a query that is not refused, and its answer
+pub record Asked (s : Shape) (rs : List ℤ) (want : Want) (cell step : Place) (v : ℤ) : Type 0 where
+  pub shape : shapeOutcome s ≡ done tt
+  pub wanted : wantOutcome s want ≡ done tt
+  pub cells : cellOutcome s cell ≡ done tt
+  pub inside : stepsOutcome s step ≡ done tt
+  pub corners : cornersOutcome s rs cell ≡ done tt
+  pub is : answer (askAt s want cell step) (recordsField s rs) ≡ v
+
+-- what 1, 2, 3, 4 and 12 say of a query that they do not refuse
+pub record Common (s : Shape) (rs : List ℤ) (want : Want) : Type 0 where
+  pub shape : shapeOutcome s ≡ done tt
+  pub long : length rs ≡ size s
+  pub wanted : wantOutcome s want ≡ done tt
+
+pub asked-facts : (s : Shape) (rs : List ℤ) (want : Want) → askedOutcome s rs want ≡ done tt → Common s rs want
+unfolding askedOutcome
+asked-facts s rs want h =
+    let later : Check = first (refuseUnless (eqb (length rs) (size s)) 4 0) (wantOutcome s want) in
+    let f = first-done (shapeOutcome s) later tt h in
+    let g = first-done (refuseUnless (eqb (length rs) (size s)) 4 0) (wantOutcome s want) tt (f .1) in
+    record { shape = f .0; long = eqb-true (length rs) (size s) (refuse-done (eqb (length rs) (size s)) 4 0 (g .0)); wanted = g .1 }
+
+pub asked-parts : (s : Shape) (rs : List ℤ) (want : Want) → askedOutcome s rs want ≡ done tt → (shapeOutcome s ≡ done tt) × (wantOutcome s want ≡ done tt)
+asked-parts s rs want h = let f = asked-facts s rs want h in (f .shape, f .wanted)
+
+reading-parts : (s : Shape) (rs : List ℤ) (want : Want) (cell step : Place) (v : ℤ) → reading s rs want cell step ≡ done v → (cornersOutcome s rs cell ≡ done tt) × (answer (askAt s want cell step) (recordsField s rs) ≡ v)
+unfolding reading
+reading-parts s rs want cell step v h =
+    let f = first-done (cornersOutcome s rs cell) (done (answer (askAt s want cell step) (recordsField s rs))) v h in
+    (f .0, done-same (answer (askAt s want cell step) (recordsField s rs)) v (f .1))
+
+pub by-cell-parts : (s : Shape) (rs : List ℤ) (want : Want) (cell step : Place) (v : ℤ) → byCell s rs want cell step ≡ done v → Asked s rs want cell step v
+unfolding byCell
+by-cell-parts s rs want cell step v h =
+    let rest₂ : Outcome ℤ = first (stepsOutcome s step) (reading s rs want cell step) in
+    let rest₁ : Outcome ℤ = first (cellOutcome s cell) rest₂ in
+    let f = first-done (askedOutcome s rs want) rest₁ v h in
+    let g = first-done (cellOutcome s cell) rest₂ v (f .1) in
+    let k = first-done (stepsOutcome s step) (reading s rs want cell step) v (g .1) in
+    let a = asked-parts s rs want (f .0) in
+    let r = reading-parts s rs want cell step v (k .1) in
+    record { shape = a .0; wanted = a .1; cells = g .0; inside = k .0; corners = r .0; is = r .1 }
+
+-- and back, for a slice of the right length
+asked-passes : (s : Shape) (rs : List ℤ) (want : Want) → length rs ≡ size s → shapeOutcome s ≡ done tt → wantOutcome s want ≡ done tt → askedOutcome s rs want ≡ done tt
+unfolding askedOutcome
+asked-passes s rs want l h w =
+    first-passed (shapeOutcome s) (first (refuseUnless (eqb (length rs) (size s)) 4 0) (wantOutcome s want)) h
+    ∙ first-passed (refuseUnless (eqb (length rs) (size s)) 4 0) (wantOutcome s want) (passes (eqb (length rs) (size s)) 4 0 (eq-eqb (length rs) (size s) l)) ∙ w
+
+-- what the stages need
+pub ready : (s : Shape) (rs : List ℤ) (cell : List ℕ) (step : Place) (want : Want) (l : Layout) → askedOutcome s rs want ≡ done tt → cellOutcome s (placeAt cell) ≡ done tt → stepsOutcome s step ≡ done tt
+    → Laid s (placeAt cell) l → cornersOutcome s rs (placeAt cell) ≡ done tt → Ready s rs (placeAt cell) step want l
+ready s rs cell step want l h c u laid k =
+    let a = asked-facts s rs want h in
+    let f = shaped s (a .shape) in
+    record { shape = f; long = a .long; here = accepted s cell (f .axes-high) c; laid = laid; steps-low = step-inside s step f u; last = last-used s want (f .axes-low) (a .wanted); corners = k }
+
+pub reading-passes : (s : Shape) (rs : List ℤ) (want : Want) (cell step : Place) → cornersOutcome s rs cell ≡ done tt → reading s rs want cell step ≡ done (answer (askAt s want cell step) (recordsField s rs))
+unfolding reading
+reading-passes s rs want cell step h = first-passed (cornersOutcome s rs cell) (done (answer (askAt s want cell step) (recordsField s rs))) h
+
+pub by-cell-passes : (s : Shape) (rs : List ℤ) (want : Want) (cell step : Place) → length rs ≡ size s → shapeOutcome s ≡ done tt → wantOutcome s want ≡ done tt
+    → cellOutcome s cell ≡ done tt → stepsOutcome s step ≡ done tt → cornersOutcome s rs cell ≡ done tt → byCell s rs want cell step ≡ done (answer (askAt s want cell step) (recordsField s rs))
+unfolding byCell
+by-cell-passes s rs want cell step l h w c u k =
+    first-passed (askedOutcome s rs want) (first (cellOutcome s cell) (first (stepsOutcome s step) (reading s rs want cell step))) (asked-passes s rs want l h w)
+    ∙ first-passed (cellOutcome s cell) (first (stepsOutcome s step) (reading s rs want cell step)) c
+    ∙ first-passed (stepsOutcome s step) (reading s rs want cell step) u ∙ reading-passes s rs want cell step k
+
+-- a query by cell that is not refused before 5
+pub record Passed (s : Shape) (rs : List ℤ) (want : Want) (cell step : Place) : Type 0 where
+  pub asked : askedOutcome s rs want ≡ done tt
+  pub cells : cellOutcome s cell ≡ done tt
+  pub inside : stepsOutcome s step ≡ done tt
+
+module _ (s : Shape) (rs : List ℤ) (want : Want) (cell step : Place) where
+  pub by-cell-passed : first (askedOutcome s rs want) (first (cellOutcome s cell) (stepsOutcome s step)) ≡ done tt → Passed s rs want cell step
+  by-cell-passed h =
+      let f = first-done (askedOutcome s rs want) (first (cellOutcome s cell) (stepsOutcome s step)) tt h in
+      let g = first-done (cellOutcome s cell) (stepsOutcome s step) tt (f .1) in
+      record { asked = f .0; cells = g .0; inside = g .1 }
+
+  pub by-cell-reads : Passed s rs want cell step → byCell s rs want cell step ≡ reading s rs want cell step
+  unfolding byCell
+  by-cell-reads f =
+      first-passed (askedOutcome s rs want) _ (f .asked) ∙ first-passed (cellOutcome s cell) _ (f .cells) ∙ first-passed (stepsOutcome s step) _ (f .inside)
+
+  pub by-cell-stops : (n p : ℕ) → first (askedOutcome s rs want) (first (cellOutcome s cell) (stepsOutcome s step)) ≡ refused n p → byCell s rs want cell step ≡ refused n p
+  unfolding byCell
+  by-cell-stops n p e =
+      ap (λ (o : Outcome ℤ). first (askedOutcome s rs want) o) (sym (first-assoc (cellOutcome s cell) (stepsOutcome s step) (reading s rs want cell step)))
+      ∙ sym (first-assoc (askedOutcome s rs want) (first (cellOutcome s cell) (stepsOutcome s step)) (reading s rs want cell step))
+      ∙ refused-first (reading s rs want cell step) e
+
+-- two slices of one length: the same outcome, if the readings are the same where the tests before are passed
+pub by-cell-same : (s : Shape) (rs qs : List ℤ) (want : Want) (cell step : Place) → length rs ≡ length qs
+    → (wantOutcome s want ≡ done tt → cellOutcome s cell ≡ done tt → reading s rs want cell step ≡ reading s qs want cell step) → byCell s rs want cell step ≡ byCell s qs want cell step
+unfolding byCell askedOutcome
+by-cell-same s rs qs want cell step l h =
+    ap (λ (n : ℕ). first (asks n) (rest rs)) l
+    ∙ first-after (asks (length qs)) (rest rs) (rest qs)
+    (λ a. first-after (cellOutcome s cell) (then rs) (then qs) (λ c. ap (λ (o : Outcome ℤ). first (stepsOutcome s step) o) (h (asked-parts s qs want a .1) c)))
+  where
+    asks : ℕ → Check
+    asks n = first (shapeOutcome s) (first (refuseUnless (eqb n (size s)) 4 0) (wantOutcome s want))
+
+    then : List ℤ → Outcome ℤ
+    then rs = first (stepsOutcome s step) (reading s rs want cell step)
+
+    rest : List ℤ → Outcome ℤ
+    rest rs = first (cellOutcome s cell) (then rs)
+
+-- ---- positions
+
+pub record AskedAt (s : Shape) (rs : List ℤ) (want : Want) (p : Position) (v : ℤ) : Type 0 where
+  pub shape : shapeOutcome s ≡ done tt
+  pub wanted : wantOutcome s want ≡ done tt
+  pub within : firstOf 3 (positionOutcome s p) ≡ done tt
+  pub corners : cornersOutcome s rs (positionCell s p) ≡ done tt
+  pub is : answer (askAt s want (positionCell s p) (positionStep s p)) (recordsField s rs) ≡ v
+
+pub by-position-parts : (s : Shape) (rs : List ℤ) (want : Want) (p : Position) (v : ℤ) → byPosition s rs want p ≡ done v → AskedAt s rs want p v
+unfolding byPosition
+by-position-parts s rs want p v h =
+    let rest : Outcome ℤ = first (firstOf 3 (positionOutcome s p)) (reading s rs want (positionCell s p) (positionStep s p)) in
+    let f = first-done (askedOutcome s rs want) rest v h in
+    let g = first-done (firstOf 3 (positionOutcome s p)) (reading s rs want (positionCell s p) (positionStep s p)) v (f .1) in
+    let a = asked-parts s rs want (f .0) in
+    let r = reading-parts s rs want (positionCell s p) (positionStep s p) v (g .1) in
+    record { shape = a .0; wanted = a .1; within = g .0; corners = r .0; is = r .1 }
+
+pub by-position-passes : (s : Shape) (rs : List ℤ) (want : Want) (p : Position) → length rs ≡ size s → shapeOutcome s ≡ done tt → wantOutcome s want ≡ done tt → firstOf 3 (positionOutcome s p) ≡ done tt
+    → cornersOutcome s rs (positionCell s p) ≡ done tt → byPosition s rs want p ≡ done (answer (askAt s want (positionCell s p) (positionStep s p)) (recordsField s rs))
+unfolding byPosition
+by-position-passes s rs want p l h w c k =
+    first-passed (askedOutcome s rs want) (first (firstOf 3 (positionOutcome s p)) (reading s rs want (positionCell s p) (positionStep s p))) (asked-passes s rs want l h w)
+    ∙ first-passed (firstOf 3 (positionOutcome s p)) (reading s rs want (positionCell s p) (positionStep s p)) c ∙ reading-passes s rs want (positionCell s p) (positionStep s p) k
+
+module _ (s : Shape) (rs : List ℤ) (want : Want) (p : Position) where
+  abbrev read : Outcome ℤ
+  read = reading s rs want (positionCell s p) (positionStep s p)
+
+  pub by-position-reads : askedOutcome s rs want ≡ done tt → firstOf 3 (positionOutcome s p) ≡ done tt → byPosition s rs want p ≡ read
+  unfolding byPosition
+  by-position-reads a w = first-passed (askedOutcome s rs want) _ a ∙ first-passed (firstOf 3 (positionOutcome s p)) read w
+
+  pub by-position-stops : (k l : ℕ) → first (askedOutcome s rs want) (firstOf 3 (positionOutcome s p)) ≡ refused k l → byPosition s rs want p ≡ refused k l
+  unfolding byPosition
+  by-position-stops k l e = sym (first-assoc (askedOutcome s rs want) (firstOf 3 (positionOutcome s p)) read) ∙ refused-first read e
+
+-- a position of the table: on a used axis a step of an accepted cell, on an unused one 0
+position-range : (s : Shape) (p : Position) → firstOf 3 (positionOutcome s p) ≡ done tt → (a : ℕ) → a < 3 → (nonNeg (p a) ≡ true) × (natAbs (p a) ≤ steps * (count s a - 1))
+unfolding positionOutcome
+position-range s p h a l =
+    let f = and-true (nonNeg (p a)) (leb (natAbs (p a)) (steps * (count s a - 1))) (refuse-done (nonNeg (p a) && leb (natAbs (p a)) (steps * (count s a - 1))) 11 a (firstOf-each 3 (positionOutcome s p) h a l)) in
+    (f .0, leb-true (natAbs (p a)) (steps * (count s a - 1)) (f .1))
+
+in-cell : (c P : ℕ) → 2 ≤ c → P ≤ steps * (c - 1) → (cellOf steps c P + 2 ≤ c) × (steps * cellOf steps c P ≤ P) × (P - steps * cellOf steps c P ≤ steps)
+unfolding cellOf
+in-cell c P h k = (omega arith, omega arith, omega arith)
+
+none-of : (c P : ℕ) → c ≡ 1 → P ≤ steps * (c - 1) → (cellOf steps c P ≡ 0) × (P - steps * cellOf steps c P ≡ 0)
+unfolding cellOf
+none-of c P h k = (omega arith, omega arith)
+
+in-either : (s : Shape) (a : ℕ) (x y : Bool) → (a < s .axes → x ≡ true) → (s .axes ≤ a → y ≡ true) → pick (ltb a (s .axes)) x y ≡ true
+in-either s a x y f g = go (decLt a (s .axes))
+  where
+    go : Dec (a < s .axes) → pick (ltb a (s .axes)) x y ≡ true
+    go (yes l) = pick-true (ltb a (s .axes)) x y (lt-ltb a (s .axes) l) ∙ f l
+    go (no n) = pick-false (ltb a (s .axes)) x y (le-ltb a (s .axes) (omega arith)) ∙ g (omega arith)
+
+pub position-cells : (s : Shape) (p : Position) → Shaped s → firstOf 3 (positionOutcome s p) ≡ done tt → cellOutcome s (positionCell s p) ≡ done tt
+unfolding cellOutcome indexOutcome positionCell
+position-cells s p f h = firstOf-passes 3 (λ a. indexOutcome s (positionCell s p a) a) (λ a l.
+    let r = position-range s p h a l in
+    passes (pick (ltb a (s .axes)) (leb (positionCell s p a + 2) (count s a)) (eqb (positionCell s p a) 0)) 14 a
+    (in-either s a (leb (positionCell s p a + 2) (count s a)) (eqb (positionCell s p a) 0)
+    (λ k. le-leb (positionCell s p a + 2) (count s a) (in-cell (count s a) (natAbs (p a)) (f .used a k) (r .1) .0))
+    (λ k. eq-eqb (positionCell s p a) 0 (none-of (count s a) (natAbs (p a)) (f .unused a l k) (r .1) .0))))
+
+pub position-steps : (s : Shape) (p : Position) → Shaped s → firstOf 3 (positionOutcome s p) ≡ done tt → stepsOutcome s (positionStep s p) ≡ done tt
+unfolding stepsOutcome positionStep positionCell
+position-steps s p f h = firstOf-passes 3 (λ a. refuseUnless (pick (ltb a (s .axes)) (leb (positionStep s p a) steps) (eqb (positionStep s p a) 0)) 11 a) (λ a l.
+    let r = position-range s p h a l in
+    passes (pick (ltb a (s .axes)) (leb (positionStep s p a) steps) (eqb (positionStep s p a) 0)) 11 a
+    (in-either s a (leb (positionStep s p a) steps) (eqb (positionStep s p a) 0)
+    (λ k. le-leb (positionStep s p a) steps (in-cell (count s a) (natAbs (p a)) (f .used a k) (r .1) .2))
+    (λ k. eq-eqb (positionStep s p a) 0 (none-of (count s a) (natAbs (p a)) (f .unused a l k) (r .1) .1))))
+
+pub position-point : (s : Shape) (p : Position) → Shaped s → firstOf 3 (positionOutcome s p) ≡ done tt → (a : ℕ) → a < s .axes → pos (steps * positionCell s p a + positionStep s p a) ≡ p a
+unfolding positionStep positionCell
+position-point s p f h a l =
+    let r = position-range s p h a (within a (s .axes) l (f .axes-high)) in
+    ap pos (rejoin (steps * cellOf steps (count s a) (natAbs (p a))) (natAbs (p a)) (in-cell (count s a) (natAbs (p a)) (f .used a l) (r .1) .1)) ∙ whole (p a) (r .0)
+  where
+    within : (a n : ℕ) → a < n → n ≤ 3 → a < 3
+    within a n l h = omega arith
+
+    rejoin : (x y : ℕ) → x ≤ y → x + (y - x) ≡ y
+    rejoin x y h = omega arith
+
+    whole : (z : ℤ) → nonNeg z ≡ true → pos (natAbs z) ≡ z
+    whole (pos n) e = refl
+    whole (negsuc n) e = cc
+
+-- a query by position is the query by its cell and in-cell step, where the position is one of the table
+pub by-position-is : (s : Shape) (rs : List ℤ) (want : Want) (p : Position) → firstOf 3 (positionOutcome s p) ≡ done tt → byPosition s rs want p ≡ byCell s rs want (positionCell s p) (positionStep s p)
+unfolding byPosition byCell
+by-position-is s rs want p h =
+    first-after (askedOutcome s rs want) (first (firstOf 3 (positionOutcome s p)) read) (first (cellOutcome s (positionCell s p)) (first (stepsOutcome s (positionStep s p)) read))
+    (λ a. let f = shaped s (asked-parts s rs want a .0) in
+    first-passed (firstOf 3 (positionOutcome s p)) read h
+    ∙ sym (first-passed (cellOutcome s (positionCell s p)) (first (stepsOutcome s (positionStep s p)) read) (position-cells s p f h) ∙ first-passed (stepsOutcome s (positionStep s p)) read (position-steps s p f h)))
+  where
+    read : Outcome ℤ
+    read = reading s rs want (positionCell s p) (positionStep s p)

@@ -1,0 +1,3 @@
+-- Reading order: Answers, Queries.
+pub mod Answers
+pub mod Queries

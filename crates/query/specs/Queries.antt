@@ -1,0 +1,73 @@
+-- The queries by cell and in-cell step, and by table position: what each is refused for, in the order of document 01, and what it gives.
+use Prim.Native.Nat.{ℕ, _+_, _*_, _-_, _/_, min}
+use mathlib.Core.Bool.{Bool, _&&_}
+use mathlib.Core.List.{List}
+use lib.Dec.{leb, ltb, eqb}
+use lib.IntN.{ℤ, pos, natAbs}
+use lib.ListN.{length}
+use lib.Signed.{nonNeg}
+use Rattle.arith.specs.Choice.{pick}
+use Rattle.lattice.specs.declared.Shape.{Shape}
+use Rattle.lattice.specs.Outcome.{Outcome, Check, done, refuseUnless, first, firstOf}
+use Rattle.lattice.specs.Buffer.{at}
+use Rattle.lattice.specs.Shape.{count, orders, size, shapeOutcome}
+use Rattle.lattice.specs.Axes.{Place}
+use Rattle.lattice.specs.Records.{recordsField}
+use Rattle.hermite.specs.Stage.{steps}
+use Rattle.cell.specs.Cell.{cellOutcome, cornersOutcome}
+use Rattle.evaluate.specs.Evaluate.{Want, dose, slopeAlong, askAt, answer}
+
+-- 12: slope axis not used
+unfoldable pub wantOutcome : Shape → Want → Check
+wantOutcome s dose = done tt
+wantOutcome s (slopeAlong l) = refuseUnless (ltb l (s .axes)) 12 0
+
+-- 1, 2, 3, 4, 12, common to all queries
+unfoldable pub askedOutcome : Shape → List ℤ → Want → Check
+askedOutcome s rs want =
+    first (shapeOutcome s) (first (refuseUnless (eqb (length rs) (size s)) 4 0) (wantOutcome s want))
+
+-- 5 on the corners, then the dose or slope
+unfoldable pub reading : Shape → List ℤ → Want → Place → Place → Outcome ℤ
+reading s rs want cell step = first (cornersOutcome s rs cell) (done (answer (askAt s want cell step) (recordsField s rs)))
+
+-- ---- by cell and in-cell step
+
+-- 11: u above 256, or not 0 on an unused axis; place is the axis
+unfoldable pub stepsOutcome : Shape → Place → Check
+stepsOutcome s step = firstOf 3 (λ a. refuseUnless (pick (ltb a (s .axes)) (leb (step a) steps) (eqb (step a) 0)) 11 a)
+
+-- then 14, 11, 5
+unfoldable pub byCell : Shape → List ℤ → Want → Place → Place → Outcome ℤ
+byCell s rs want cell step =
+    first (askedOutcome s rs want) (first (cellOutcome s cell) (first (stepsOutcome s step) (reading s rs want cell step)))
+
+-- ---- by table position
+
+-- a table position on each axis
+abbrev pub Position : Type 0
+Position = ℕ → ℤ
+
+-- the position of three numbers
+unfoldable pub positionAt : List ℤ → Position
+positionAt xs a = pick (ltb a 3) (at xs a) (pos 0)
+
+-- 11: below 0 or beyond the last node, or not 0 on an unused axis (whose count is 1); place is the axis
+unfoldable pub positionOutcome : Shape → Position → ℕ → Check
+positionOutcome s p a = refuseUnless (nonNeg (p a) && leb (natAbs (p a)) (steps * (count s a - 1))) 11 a
+
+-- the smaller of p/256 rounded down and count − 2; the last node belongs to the last cell
+unfoldable pub cellOf : ℕ → ℕ → ℕ → ℕ
+cellOf N count p = min (p / N) (count - 2)
+
+unfoldable pub positionCell : Shape → Position → Place
+positionCell s p a = cellOf steps (count s a) (natAbs (p a))
+
+-- p less 256 times the cell
+unfoldable pub positionStep : Shape → Position → Place
+positionStep s p a = natAbs (p a) - steps * positionCell s p a
+
+-- then 11, 5
+unfoldable pub byPosition : Shape → List ℤ → Want → Position → Outcome ℤ
+byPosition s rs want p =
+    first (askedOutcome s rs want) (first (firstOf 3 (positionOutcome s p)) (reading s rs want (positionCell s p) (positionStep s p)))

@@ -1,0 +1,218 @@
+// Doses and slopes by cell and in-cell step, and by table position.
+ghost use mathlib.Core.Path.{_≡_};
+ghost use Prim.Native.Nat.{_<_};
+ghost use mathlib.Core.List.{List};
+ghost use lib.Dec.{leb, ltb, eqb};
+ghost use lib.IntN.{ℤ, natAbs};
+ghost use lib.ListN.{length};
+ghost use Rattle.arith.specs.Choice.{pick};
+ghost use Rattle.lattice.specs.Outcome.{done, refuseUnless, first, firstOf};
+ghost use Rattle.lattice.specs.Answer.{meaning};
+ghost use Rattle.lattice.specs.Shape.{Shaped};
+ghost use Rattle.hermite.specs.Stage.{steps};
+ghost use Rattle.cell.specs.Cell.{placeAt, cellOutcome};
+ghost use Rattle.evaluate.specs.Wants.{wanted};
+ghost use Rattle.query.specs.Answers.{told};
+ghost use Rattle.query.specs.Queries.{wantOutcome, askedOutcome, reading, stepsOutcome, byCell, positionAt, positionOutcome, cellOf, positionCell, positionStep, byPosition};
+use evaluate::SlopeAxis;
+use lattice::Answer;
+use lattice::Refusal;
+use lattice::Shape;
+
+pub struct Query {
+    pub position: [i32; 3],
+    pub slope_axis: SlopeAxis,
+}
+
+pub struct CellQuery {
+    pub cell: [u32; 3],
+    pub step: [u32; 3],
+    pub slope_axis: SlopeAxis,
+}
+
+pub enum Reading {
+    Value(i32),
+    Refused(Refusal),
+}
+
+// Refusal 12.
+fn check_slope(s: Shape, slope_axis: SlopeAxis) -> Answer
+    ensures { λ r. ⌜ meaning r ≡ wantOutcome s (wanted «slope_axis») ⌝ }
+{
+    match slope_axis {
+        SlopeAxis::NoSlope => Answer::Done,
+        SlopeAxis::Along(a) => lattice::refuse_unless(a < s.axes, 12, 0),
+    }
+}
+
+// Refusals 1, 2, 3, 4 and 12, of `given` records' entries.
+pub fn check_asked(s: Shape, given: usize, slope_axis: SlopeAxis) -> Answer
+    ensures { λ r. ⌜ ((rs : List ℤ) → length rs ≡ given → meaning r ≡ askedOutcome s rs (wanted «slope_axis»)) ⌝ }
+{
+    let shape = lattice::check_shape(s);
+    if let Answer::Refused(_) = shape {
+        return shape;
+    }
+    let long = lattice::refuse_unless(given == lattice::table_entries(s), 4, 0);
+    lattice::earlier(long, check_slope(s, slope_axis))
+}
+
+fn check_step(s: Shape, step: u32, axis: u32) -> Answer
+    requires { ⌜ axis < 3 ⌝ }
+    ensures { λ r. ⌜ meaning r ≡ refuseUnless (pick (ltb axis (s .axes)) (leb step steps) (eqb step 0)) 11 axis ⌝ }
+{
+    let a = axis as usize;
+    if axis < s.axes {
+        lattice::refuse_unless(step <= 256, 11, a)
+    } else {
+        lattice::refuse_unless(step == 0, 11, a)
+    }
+}
+
+// Refusal 11 of an in-cell step.
+fn check_steps(s: Shape, step: [u32; 3]) -> Answer
+    ensures { λ r. ⌜ meaning r ≡ stepsOutcome s (placeAt step) ⌝ }
+{
+    let x = check_step(s, step[0], 0);
+    let y = check_step(s, step[1], 1);
+    let z = check_step(s, step[2], 2);
+    lattice::earlier(lattice::earlier(x, y), z)
+}
+
+// The distance of a position from 0.
+fn distance(p: i32) -> u32
+    ensures { λ r. ⌜ r ≡ natAbs p ⌝ }
+{
+    arith::magnitude(p as i64) as u32
+}
+
+// Refusal 11 of a position on one axis.
+pub fn check_coordinate(s: Shape, p: i32, axis: u32) -> Answer
+    requires { ⌜ Shaped s × (axis < 3) ⌝ }
+    ensures { λ r. ⌜ meaning r ≡ positionOutcome s (λ a. p) axis ⌝ }
+{
+    let a = axis as usize;
+    let count = s.counts[a];
+    if p < 0 {
+        return lattice::refuse_unless(false, 11, a);
+    }
+    lattice::refuse_unless(distance(p) <= 256 * (count - 1), 11, a)
+}
+
+// Refusal 11 of a position.
+fn check_position(s: Shape, p: [i32; 3]) -> Answer
+    requires { ⌜ Shaped s ⌝ }
+    ensures { λ r. ⌜ meaning r ≡ firstOf 3 (positionOutcome s (positionAt p)) ⌝ }
+{
+    let x = check_coordinate(s, p[0], 0);
+    let y = check_coordinate(s, p[1], 1);
+    let z = check_coordinate(s, p[2], 2);
+    lattice::earlier(lattice::earlier(x, y), z)
+}
+
+// The cell of a position on an axis of `count` nodes.
+fn cell_of(count: u32, p: u32) -> u32
+    ensures { λ r. ⌜ r ≡ cellOf steps count p ⌝ }
+{
+    let c = p / 256;
+    let last = if 2 <= count { count - 2 } else { 0 };
+    if c < last { c } else { last }
+}
+
+// The cell of a position.
+pub fn position_cell(s: Shape, p: [i32; 3]) -> [u32; 3]
+    ensures { λ r. ⌜ placeAt r ≡ positionCell s (positionAt p) ⌝ }
+{
+    let x = cell_of(s.counts[0], distance(p[0]));
+    let y = cell_of(s.counts[1], distance(p[1]));
+    let z = cell_of(s.counts[2], distance(p[2]));
+    [x, y, z]
+}
+
+// The in-cell step of a position.
+pub fn position_step(s: Shape, p: [i32; 3], cell: [u32; 3]) -> [u32; 3]
+    requires { ⌜ placeAt cell ≡ positionCell s (positionAt p) ⌝ }
+    ensures { λ r. ⌜ placeAt r ≡ positionStep s (positionAt p) ⌝ }
+{
+    let x = distance(p[0]) - 256 * cell[0];
+    let y = distance(p[1]) - 256 * cell[1];
+    let z = distance(p[2]) - 256 * cell[2];
+    [x, y, z]
+}
+
+// Refusals 1, 2, 3, 4, 12, 14 and 11 of a query by cell.
+fn check_cell_query(s: Shape, given: usize, q: CellQuery) -> Answer
+    ensures { λ r. ⌜ ((rs : List ℤ) → length rs ≡ given → meaning r ≡ first (askedOutcome s rs (wanted (q .«slope_axis»))) (first (cellOutcome s (placeAt (q .cell))) (stepsOutcome s (placeAt (q .step))))) ⌝ }
+{
+    let slope_axis = q.slope_axis;
+    let cell = q.cell;
+    let step = q.step;
+    let asked = check_asked(s, given, slope_axis);
+    let here = cell::check_cell(s, cell);
+    let inside = check_steps(s, step);
+    lattice::earlier(asked, lattice::earlier(here, inside))
+}
+
+// Refusals 1, 2, 3, 4, 12 and 11 of a query by position.
+fn check_query(s: Shape, given: usize, q: Query) -> Answer
+    ensures { λ r. ⌜ ((rs : List ℤ) → length rs ≡ given → meaning r ≡ first (askedOutcome s rs (wanted (q .«slope_axis»))) (firstOf 3 (positionOutcome s (positionAt (q .position))))) ⌝ }
+{
+    let slope_axis = q.slope_axis;
+    let position = q.position;
+    let asked = check_asked(s, given, slope_axis);
+    if let Answer::Refused(_) = asked {
+        return asked;
+    }
+    check_position(s, position)
+}
+
+// Refusal 5 of the cell's corners, or the dose or slope.
+fn read_cell(
+    s: Shape,
+    records: &[i32],
+    cell: [u32; 3],
+    step: [u32; 3],
+    slope_axis: SlopeAxis,
+) -> Reading
+    requires { ⌜ askedOutcome s (now records) (wanted «slope_axis») ≡ done tt ⌝ }
+    requires { ⌜ (cellOutcome s (placeAt cell) ≡ done tt) × (stepsOutcome s (placeAt step) ≡ done tt) ⌝ }
+    ensures { λ r. ⌜ told r ≡ reading s (now (records .entry)) (wanted «slope_axis») (placeAt cell) (placeAt step) ⌝ }
+{
+    let l = cell::lay_out(s, cell);
+    let tested = cell::check_corners(s, records, cell, l);
+    match tested {
+        Answer::Refused(r) => Reading::Refused(r),
+        Answer::Done => Reading::Value(evaluate::answer(s, records, cell, step, slope_axis, l)),
+    }
+}
+
+// The dose or slope at a step of a cell.
+pub fn in_cell(s: Shape, records: &[i32], q: CellQuery) -> Reading
+    ensures { λ r. ⌜ told r ≡ byCell s (now (records .entry)) (wanted (q .«slope_axis»)) (placeAt (q .cell)) (placeAt (q .step)) ⌝ }
+{
+    let slope_axis = q.slope_axis;
+    let cell = q.cell;
+    let step = q.step;
+    let asked = check_cell_query(s, records.len(), q);
+    match asked {
+        Answer::Refused(r) => Reading::Refused(r),
+        Answer::Done => read_cell(s, records, cell, step, slope_axis),
+    }
+}
+
+// The dose or slope at a position.
+pub fn at_position(s: Shape, records: &[i32], q: Query) -> Reading
+    ensures { λ r. ⌜ told r ≡ byPosition s (now (records .entry)) (wanted (q .«slope_axis»)) (positionAt (q .position)) ⌝ }
+{
+    let slope_axis = q.slope_axis;
+    let position = q.position;
+    let asked = check_query(s, records.len(), q);
+    match asked {
+        Answer::Refused(r) => Reading::Refused(r),
+        Answer::Done => {
+            let cell = position_cell(s, position);
+            let step = position_step(s, position, cell);
+            read_cell(s, records, cell, step, slope_axis)
+        }
+    }
+}
