@@ -26,5 +26,8 @@ pub use coefficients::{coefficients, corners};
 mod whole;
 pub use whole::{dose, dose_in_cell, slope, slope_in_cell};
 
+mod real;
+pub use real::{dose_float, slope_float};
+
 mod file;
 pub use file::{read, write, Table};

@@ -127,21 +127,18 @@ fn header_and_rust_declare_the_same() {
 
 #[test]
 fn rattle_declares_the_same_as_the_header() {
-    let folder = repository().join("crates/lukhtari/src");
-    let Ok(files) = fs::read_dir(folder) else {
-        println!("crates/lukhtari is absent: nothing to compare");
-        return;
-    };
-    let source = |file: fs::DirEntry| fs::read_to_string(file.path()).unwrap();
-    let sources: Vec<String> = files.map(|file| source(file.unwrap())).collect();
-    let source = sources.join("\n");
-    let calls = rust_calls(&source, &rust_structs(&source));
-    assert!(!calls.is_empty(), "no exported call");
+    let source = text("crates/lukhtari/src/lib.rt");
+    // A shape and a float position are structs of the crates that take them.
+    let mut structs = rust_structs(&source);
+    for (folder, name) in [("lattice", "Shape"), ("float_query", "FloatPosition")] {
+        let code = text(&format!("crates/{folder}/src/lib.rt"));
+        assert!(code.contains(&format!("#[repr(C)]\npub struct {name} ")));
+        let fields = rust_structs(&code).remove(name).expect("a struct");
+        structs.insert(name.to_string(), fields);
+    }
     let header = text("include/lukhtari.h");
     let expected = c_calls(&header, &c_structs(&header));
-    for (name, signature) in calls {
-        assert_eq!(Some(&signature), expected.get(&name), "{name}");
-    }
+    assert_eq!(rust_calls(&source, &structs), expected);
 }
 
 #[test]

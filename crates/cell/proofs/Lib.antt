@@ -1,2 +1,4 @@
 pub mod CellLaws
 pub mod CornerLaws
+pub mod LimitLaws
+pub mod LayoutLaws

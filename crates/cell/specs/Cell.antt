@@ -5,6 +5,8 @@ use mathlib.Core.List.{List}
 use lib.Dec.{leb, ltb, eqb}
 use lib.IntN.{ℤ, natAbs}
 use lib.ListN.{getD}
+use lib.Signed.{nonNeg}
+use mathlib.Core.Bool.{true}
 use Rattle.arith.specs.Choice.{pick}
 use Rattle.lattice.specs.declared.Shape.{Shape}
 use Rattle.lattice.specs.Outcome.{Check, refuseUnless, firstOf}
@@ -79,6 +81,13 @@ limitOf m e = sampleLimit * 2 ^ (e % m + (e / m % m + e / m / m))
 unfoldable pub recordOutcome : (ℕ → ℕ) → ℕ → List ℤ → ℕ → Check
 recordOutcome limits n rs start = firstOf n (λ e. refuseUnless (leb (natAbs (at rs (start + e))) (limits e)) 5 (start + e))
 
+-- limits held in an array, and what is asked of the first n
+abbrev pub limitIn : List ℤ → ℕ → ℕ
+limitIn limits e = natAbs (at limits e)
+
+abbrev pub Limits : ℕ → List ℤ → Type 0
+Limits n limits = (e : ℕ) → e < n → nonNeg (at limits e) ≡ true
+
 -- what a layout holds
 pub record Laid (s : Shape) (cell : Place) (l : Layout) : Type 0 where
   pub orders-are : l .orders ≡ orders s
@@ -87,6 +96,10 @@ pub record Laid (s : Shape) (cell : Place) (l : Layout) : Type 0 where
   pub far-x : getD (l .far) 0 0 ≡ far s 0
   pub far-y : getD (l .far) 1 0 ≡ far s 1
   pub far-z : getD (l .far) 2 0 ≡ far s 2
+
+-- the record of corner c, x fastest, by the layout
+abbrev pub startOf : Layout → ℕ → ℕ
+startOf l c = l .base + (c % 2 * getD (l .far) 0 0 + (c / 2 % 2 * getD (l .far) 1 0 + c / 2 / 2 * getD (l .far) 2 0))
 
 -- a layout whose sums fit
 pub record Small (l : Layout) : Type 0 where

@@ -1,14 +1,16 @@
 // A cell of a table: its index test, where its corner records stand, and the limit test of its corners.
 ghost use mathlib.Core.Path.{_≡_};
+ghost use mathlib.Core.Bool.{true};
 ghost use Prim.Native.Nat.{ℕ, _+_, _*_, _/_, _%_, _^_, _<_, _≤_};
-ghost use lib.Dec.{leb};
-ghost use lib.IntN.{natAbs};
+ghost use lib.Dec.{ltb};
+ghost use lib.IntN.{pos, natAbs};
+ghost use lib.Signed.{nonNeg};
 ghost use lib.ListN.{length, getD};
-ghost use Rattle.lattice.specs.Outcome.{refuseUnless, firstOf};
+ghost use Rattle.lattice.specs.Outcome.{firstOf, passed};
 ghost use Rattle.lattice.specs.Answer.{meaning};
 ghost use Rattle.lattice.specs.Buffer.{at};
 ghost use Rattle.lattice.specs.Shape.{count, orders, entries, size, Shaped};
-ghost use Rattle.cell.specs.Cell.{placeAt, indexOutcome, cellOutcome, cornersOutcome, Accepted, Laid, Small, base, far, cornerStart, limitOf, recordOutcome};
+ghost use Rattle.cell.specs.Cell.{placeAt, indexOutcome, cellOutcome, cornersOutcome, Accepted, Laid, Small, startOf, limitOf, limitIn, Limits, recordOutcome};
 use lattice::Answer;
 use lattice::Shape;
 
@@ -20,7 +22,7 @@ pub struct Layout {
     pub far: [usize; 3],
 }
 
-const LIMITS: [[u64; 27]; 2] = [
+const LIMITS: [[i32; 27]; 2] = [
     [
         32768,
         65536,
@@ -122,9 +124,9 @@ pub fn lay_out(s: Shape, cell: [u32; 3]) -> Layout
 }
 
 // The limits of the entries of a record.
-fn entry_limits(m: usize) -> [u64; 27]
+fn entry_limits(m: usize) -> [i32; 27]
     requires { ⌜ (2 ≤ m) × (m ≤ 3) ⌝ }
-    ensures { λ r. ⌜ ((e : ℕ) → e < m ^ 3 → getD r e 0 ≡ limitOf m e) ⌝ }
+    ensures { λ r. ⌜ ((e : ℕ) → e < m ^ 3 → at r e ≡ pos (limitOf m e)) ⌝ }
 {
     if m == 2 {
         return LIMITS[0];
@@ -132,15 +134,22 @@ fn entry_limits(m: usize) -> [u64; 27]
     LIMITS[1]
 }
 
+// Whether x is beyond a limit.
+fn beyond(x: i32, limit: i32) -> bool
+    requires { ⌜ nonNeg limit ≡ true ⌝ }
+    ensures { λ r. ⌜ r ≡ ltb (natAbs limit) (natAbs x) ⌝ }
+{
+    limit < x || x < 0 - limit
+}
+
 // The limit test of the record that starts at `start`.
-fn check_record(limits: &[u64; 27], n: usize, records: &[i32], start: usize) -> Answer
-    requires { ⌜ (n ≤ 27) × (start + n ≤ length (now records)) ⌝ }
-    ensures { λ r. ⌜ meaning r ≡ recordOutcome (λ e. getD (now (limits .entry)) e 0) n (now (records .entry)) start ⌝ }
+fn check_record(limits: &[i32; 27], n: usize, records: &[i32], start: usize) -> Answer
+    requires { ⌜ (n ≤ 27) × (start + n ≤ length (now records)) × Limits n (now limits) ⌝ }
+    ensures { λ r. ⌜ meaning r ≡ recordOutcome (limitIn (now (limits .entry))) n (now (records .entry)) start ⌝ }
 {
     let mut e: usize = 0;
     while e < n {
-        let x = records[start + e] as i64;
-        if limits[e] < arith::magnitude(x) {
+        if beyond(records[start + e], limits[e]) {
             return lattice::refuse_unless(false, 5, start + e);
         }
         e += 1;
@@ -148,15 +157,48 @@ fn check_record(limits: &[u64; 27], n: usize, records: &[i32], start: usize) -> 
     Answer::Done
 }
 
+// Whether the limit test of the record that starts at `start` is passed.
+fn record_within(limits: &[i32; 27], n: usize, records: &[i32], start: usize) -> bool
+    requires { ⌜ (n ≤ 27) × (start + n ≤ length (now records)) × Limits n (now limits) ⌝ }
+    ensures { λ r. ⌜ r ≡ passed (recordOutcome (limitIn (now (limits .entry))) n (now (records .entry)) start) ⌝ }
+{
+    let mut within = true;
+    let mut e: usize = 0;
+    while e < n {
+        if beyond(records[start + e], limits[e]) {
+            within = false;
+        }
+        e += 1;
+    }
+    within
+}
+
 // Where the record of corner c starts.
 fn corner_start(l: Layout, c: usize) -> usize
     requires { ⌜ (c < 8) × Small l ⌝ }
-    ensures { λ r. ⌜ r ≡ l .base + (c % 2 * getD (l .far) 0 0 + (c / 2 % 2 * getD (l .far) 1 0 + c / 2 / 2 * getD (l .far) 2 0)) ⌝ }
+    ensures { λ r. ⌜ r ≡ startOf l c ⌝ }
 {
     let x = l.far[0];
     let y = l.far[1];
     let z = l.far[2];
     l.base + (c % 2 * x + (c / 2 % 2 * y + c / 2 / 2 * z))
+}
+
+// Whether the limit test of the first `corners` records of a cell is passed.
+fn all_within(limits: &[i32; 27], n: usize, corners: usize, records: &[i32], l: Layout) -> bool
+    requires { ⌜ (n ≤ 27) × (corners ≤ 8) × Small l × Limits n (now limits) ⌝ }
+    requires { ⌜ ((c : ℕ) → c < corners → startOf l c + n ≤ length (now records)) ⌝ }
+    ensures { λ r. ⌜ r ≡ passed (firstOf corners (λ c. recordOutcome (limitIn (now (limits .entry))) n (now (records .entry)) (startOf l c))) ⌝ }
+{
+    let mut c: usize = 0;
+    while c < corners {
+        let start = corner_start(l, c);
+        if !record_within(limits, n, records, start) {
+            return false;
+        }
+        c += 1;
+    }
+    true
 }
 
 // Refusal 5 at the first entry of the corners, in corner order, beyond its limit.
@@ -178,4 +220,31 @@ pub fn check_corners(s: Shape, records: &[i32], cell: [u32; 3], l: Layout) -> An
         c += 1;
     }
     Answer::Done
+}
+
+// Whether refusal 5 does not arise: no entry of the corners is beyond its limit.
+pub fn corners_within(s: Shape, records: &[i32], cell: [u32; 3], l: Layout) -> bool
+    requires { ⌜ Shaped s × (length (now records) ≡ size s) ⌝ }
+    requires { ⌜ Accepted s (placeAt cell) × Laid s (placeAt cell) l ⌝ }
+    ensures { λ r. ⌜ r ≡ passed (cornersOutcome s (now (records .entry)) (placeAt cell)) ⌝ }
+{
+    let n = s.axes;
+    if l.orders == 2 {
+        let limits = entry_limits(2);
+        if n == 1 {
+            return all_within(&limits, 2, 2, records, l);
+        }
+        if n == 2 {
+            return all_within(&limits, 4, 4, records, l);
+        }
+        return all_within(&limits, 8, 8, records, l);
+    }
+    let limits = entry_limits(3);
+    if n == 1 {
+        return all_within(&limits, 3, 2, records, l);
+    }
+    if n == 2 {
+        return all_within(&limits, 9, 4, records, l);
+    }
+    all_within(&limits, 27, 8, records, l)
 }

@@ -53,6 +53,10 @@ Safe m n (x ∷ xs) g p =
     ((t : ℕ) → t < 2 * m → Safe m n xs g (p + offsetOf m x t))
     × (load (x .basis) (numbersAt m (after m xs g) p (x .near)) (numbersAt m (after m xs g) (p + x .far) (x .near)) ≤ 2 ^ 63 - 2 ^ 45)
 
+-- the step and the strides of an axis
+abbrev pub stridesOf : ℕ → ℕ → ℕ → Strides
+stridesOf step far near = record { step = step; far = far; near = near }
+
 -- what the stage of an axis holds of it, where numbers come and go in units, or in eighths
 pub record Made (m : ℕ) (slope from to : Bool) (a : Strides) (x : Axis) : Type 0 where
   pub slope-is : x .slope ≡ slope

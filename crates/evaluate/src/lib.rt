@@ -11,7 +11,7 @@ ghost use Rattle.cell.specs.Cell.{placeAt};
 ghost use Rattle.hermite.specs.Hermite.{kindOf};
 ghost use Rattle.evaluate.specs.Evaluate.{answer, askAt, kindOn, lastAxis};
 ghost use Rattle.evaluate.specs.Wants.{wanted};
-ghost use Rattle.evaluate.specs.Stages.{after, numbersAt, Made, AllPrepared, Safe, Workable, WorkedOff, Ready};
+ghost use Rattle.evaluate.specs.Stages.{after, numbersAt, stridesOf, Made, AllPrepared, Safe, Workable, WorkedOff, Ready};
 use cell::Layout;
 use hermite::Basis;
 use lattice::Shape;
@@ -40,19 +40,19 @@ pub struct Axis {
 }
 
 // The stage of an axis whose numbers come and go in units, or in eighths where `from` or `to` is set.
-fn axis_of(m: usize, slope: bool, from: bool, to: bool, a: Strides) -> Axis
-    requires { ⌜ (2 ≤ m) × (m ≤ 3) × (a .step ≤ steps) ⌝ }
-    ensures { λ r. ⌜ Made m slope from to a r ⌝ }
+fn axis_of(m: usize, slope: bool, from: bool, to: bool, step: u32, far: usize, near: usize) -> Axis
+    requires { ⌜ (2 ≤ m) × (m ≤ 3) × (step ≤ steps) ⌝ }
+    ensures { λ r. ⌜ Made m slope from to (stridesOf step far near) r ⌝ }
 {
     let shift = hermite::shift(slope, m, from, to);
-    let basis = hermite::basis_at(slope, m, a.step);
+    let basis = hermite::basis_at(slope, m, step);
     Axis {
         slope: slope,
-        step: a.step,
+        step: step,
         shift: shift,
         basis: basis,
-        far: a.far,
-        near: a.near,
+        far: far,
+        near: near,
     }
 }
 
@@ -135,7 +135,7 @@ fn one_axis(m: usize, slope: bool, a: Strides, records: &[i32], p: usize) -> i64
     requires { ⌜ Workable m slope a [] (length (now records)) (at (now records)) p ⌝ }
     ensures { λ r. ⌜ WorkedOff m slope a [] (at (now (records .entry))) p r ⌝ }
 {
-    let x = axis_of(m, slope, false, false, a);
+    let x = axis_of(m, slope, false, false, a.step, a.far, a.near);
     first(m, x, records, p)
 }
 
@@ -144,8 +144,8 @@ fn two_axes(m: usize, slope: bool, a: Strides, b: Strides, records: &[i32], p: u
     requires { ⌜ Workable m slope b (a ∷ []) (length (now records)) (at (now records)) p ⌝ }
     ensures { λ r. ⌜ WorkedOff m slope b (a ∷ []) (at (now (records .entry))) p r ⌝ }
 {
-    let x = axis_of(m, false, false, true, a);
-    let y = axis_of(m, slope, true, false, b);
+    let x = axis_of(m, false, false, true, a.step, a.far, a.near);
+    let y = axis_of(m, slope, true, false, b.step, b.far, b.near);
     second(m, y, x, records, p)
 }
 
@@ -162,9 +162,9 @@ fn three_axes(
     requires { ⌜ Workable m slope c (b ∷ a ∷ []) (length (now records)) (at (now records)) p ⌝ }
     ensures { λ r. ⌜ WorkedOff m slope c (b ∷ a ∷ []) (at (now (records .entry))) p r ⌝ }
 {
-    let x = axis_of(m, false, false, true, a);
-    let y = axis_of(m, false, true, true, b);
-    let z = axis_of(m, slope, true, false, c);
+    let x = axis_of(m, false, false, true, a.step, a.far, a.near);
+    let y = axis_of(m, false, true, true, b.step, b.far, b.near);
+    let z = axis_of(m, slope, true, false, c.step, c.far, c.near);
     third(m, z, y, x, records, p)
 }
 
@@ -188,8 +188,9 @@ fn last_axis(n: u32, want: SlopeAxis) -> u32
     }
 }
 
-// The stages of all axes: x, y, z, a slope's axis last.
+// The stages of all axes, of m orders: x, y, z, a slope's axis last.
 fn all_axes(
+    m: usize,
     s: Shape,
     records: &[i32],
     cell: [u32; 3],
@@ -197,10 +198,10 @@ fn all_axes(
     want: SlopeAxis,
     l: Layout,
 ) -> i64
+    requires { ⌜ m ≡ l .orders ⌝ }
     requires { ⌜ Ready s (now records) (placeAt cell) (placeAt step) (wanted want) l ⌝ }
     ensures { λ r. ⌜ r ≡ answer (askAt s (wanted want) (placeAt cell) (placeAt step)) (recordsField s (now (records .entry))) ⌝ }
 {
-    let m = l.orders;
     let n = s.axes;
     let p = l.base;
     let slope = is_slope(want);
@@ -250,5 +251,8 @@ pub fn answer(
     requires { ⌜ Ready s (now records) (placeAt cell) (placeAt step) (wanted want) l ⌝ }
     ensures { λ r. ⌜ r ≡ answer (askAt s (wanted want) (placeAt cell) (placeAt step)) (recordsField s (now (records .entry))) ⌝ }
 {
-    all_axes(s, records, cell, step, want, l) as i32
+    if l.orders == 2 {
+        return all_axes(2, s, records, cell, step, want, l) as i32;
+    }
+    all_axes(3, s, records, cell, step, want, l) as i32
 }

@@ -1,12 +1,12 @@
 -- What follows from a call that is not refused, and when it is not.
 use mathlib.Core.Path.{_≡_, refl, sym, ap, subst, _∙_}
-use mathlib.Core.Bool.{Bool, true, false}
+use mathlib.Core.Bool.{Bool, true, false, _&&_}
 use mathlib.Core.Logic.{⊎-elim}
 use Prim.Native.Nat.{ℕ, zero, suc, _+_, _*_, _<_}
 use native.Mathlib.Numerals.{add-one}
 use native.Mathlib.Nat.{add-zero, add-suc, mul-zero, mul-suc, eq-or-lt-of-le, not-suc-le-zero, le-of-suc-le-suc}
 use native.Mathlib.Omega.{arith}
-use Rattle.lattice.specs.Outcome.{Outcome, Check, done, refused, refuseUnless, first, firstOf, whenDone}
+use Rattle.lattice.specs.Outcome.{Outcome, Check, done, refused, refuseUnless, first, firstOf, whenDone, passed}
 
 module _ {A : Type 0} where
   pub first-done : (a : Check) (b : Outcome A) (v : A) → first a b ≡ done v → (a ≡ done tt) × (b ≡ done v)
@@ -56,6 +56,26 @@ refuse-done false n p h = cc
 pub passes : (t : Bool) (n p : ℕ) → t ≡ true → refuseUnless t n p ≡ done tt
 passes t n p e = ap (λ (b : Bool). refuseUnless b n p) e
 
+-- ---- whether a test is passed
+
+pub passed-done : (a : Check) → passed a ≡ true → a ≡ done tt
+passed-done (done tt) e = refl
+passed-done (refused n p) e = cc
+
+pub passed-not : (a : Check) → passed a ≡ false → a ≡ done tt → ⊥
+passed-not a e d = true-false (sym (ap passed d) ∙ e)
+  where
+    true-false : true ≡ false → ⊥
+    true-false e = let z : _≡_ {A = ℕ} 0 1 = cc in absurd (omega arith)
+
+pub passed-first : (a b : Check) → passed (first a b) ≡ passed a && passed b
+passed-first (done tt) b = refl
+passed-first (refused n p) b = refl
+
+pub passed-refuse : (t : Bool) (n p : ℕ) → passed (refuseUnless t n p) ≡ t
+passed-refuse true n p = refl
+passed-refuse false n p = refl
+
 pub firstOf-each : (n : ℕ) (test : ℕ → Check) → firstOf n test ≡ done tt → (a : ℕ) → a < n → test a ≡ done tt
 unfolding firstOf
 firstOf-each zero test h a l = absurd (not-suc-le-zero l)
@@ -81,6 +101,18 @@ firstOf-stops (suc n) i test k p l h e =
 pub firstOf-more : (i : ℕ) (test : ℕ → Check) → firstOf i test ≡ done tt → test i ≡ done tt → firstOf (i + 1) test ≡ done tt
 unfolding firstOf
 firstOf-more i test h e = rw (add-one i) (first-passed (firstOf i test) (test i) h ∙ e)
+
+pub passed-more : (i : ℕ) (test : ℕ → Check) → test i ≡ done tt → passed (firstOf i test) ≡ passed (firstOf (i + 1) test)
+unfolding firstOf
+passed-more i test e = rw (add-one i, e) (sym (ap passed (last-first (firstOf i test))))
+
+-- a test that is not passed
+pub firstOf-fails : (n : ℕ) (test : ℕ → Check) (i : ℕ) → i < n → passed (test i) ≡ false → passed (firstOf n test) ≡ false
+firstOf-fails n test i l e = go (passed (firstOf n test)) refl
+  where
+    go : (b : Bool) → passed (firstOf n test) ≡ b → b ≡ false
+    go true h = absurd (passed-not (test i) e (firstOf-each n test (passed-done (firstOf n test) h) i l))
+    go false h = refl
 
 -- tests in two runs
 pub firstOf-add : (a b : ℕ) (test : ℕ → Check) → firstOf (a + b) test ≡ first (firstOf a test) (firstOf b (λ i. test (a + i)))

@@ -21,6 +21,11 @@ module _ {A : Type 0} where
   first (done u) b = b
   first (refused n p) b = refused n p
 
+  -- whether nothing was refused
+  abbrev pub passed : Outcome A → Bool
+  passed (done u) = true
+  passed (refused n p) = false
+
   -- what a lent slice holds after a call: `new` where the call is not refused, else what it held
   abbrev pub whenDone : {B : Type 0} → Outcome A → B → B → B
   whenDone (done u) new old = new

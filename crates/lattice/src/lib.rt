@@ -18,6 +18,7 @@ pub enum Answer {
     Refused(Refusal),
 }
 
+#[repr(C)]
 pub struct Shape {
     pub axes: u32,
     pub degree: u32,
@@ -43,8 +44,17 @@ pub fn earlier(a: Answer, b: Answer) -> Answer
     ensures { λ r. ⌜ meaning r ≡ first (meaning a) (meaning b) ⌝ }
 {
     match a {
-        Answer::Done => b,
-        Answer::Refused(_) => a,
+        Answer::Refused(r) => Answer::Refused(Refusal {
+            number: r.number,
+            place: r.place,
+        }),
+        Answer::Done => match b {
+            Answer::Refused(r) => Answer::Refused(Refusal {
+                number: r.number,
+                place: r.place,
+            }),
+            Answer::Done => Answer::Done,
+        },
     }
 }
 

@@ -1,18 +1,17 @@
 -- What the host sees of an outcome: number 0 and place 0 where the call is not refused, and values 0 where it is.
 use Prim.Native.Nat.{ℕ}
 use mathlib.Core.List.{[], _∷_}
+use mathlib.Core.Option.{Option, some}
 use lib.IntN.{ℤ, pos}
 use Rattle.lattice.specs.Outcome.{Outcome, Check, done, refused}
-use Rattle.lattice.specs.declared.Shape as L
+use Rattle.floats.specs.Whole.{wholeOf}
+use Rattle.float_query.specs.Answers.{Held, asDose, asSlope}
 use Rattle.table_file.specs.File.{Header}
-use Rattle.lukhtari.specs.declared.Shape.{Shape}
 use Rattle.lukhtari.specs.declared.Done.{Done}
 use Rattle.lukhtari.specs.declared.Whole.{Whole}
+use Rattle.lukhtari.specs.declared.Real.{Real}
 use Rattle.lukhtari.specs.declared.Table.{Table}
 use Rattle.lukhtari.specs.declared.Written.{Written}
-
-abbrev pub shapeOf : Shape → L.Shape
-shapeOf s = record { axes = s .axes; degree = s .degree; counts = s .counts }
 
 abbrev pub doneOf : Check → Done
 doneOf (done u) = record { number = 0; place = 0 }
@@ -21,6 +20,25 @@ doneOf (refused n p) = record { number = n; place = p }
 abbrev pub wholeFrom : Outcome ℤ → Whole
 wholeFrom (done v) = record { number = 0; place = 0; value = v }
 wholeFrom (refused n p) = record { number = n; place = p; value = pos 0 }
+
+-- a float result: the whole number that the float equals exactly, which minus zero does not
+pub record Seen : Type 0 where
+  pub number : ℕ
+  pub place : ℕ
+  pub value : Option ℤ
+
+abbrev pub seen : Real → Seen
+seen r = record { number = r .number; place = r .place; value = wholeOf (r .value) }
+
+abbrev pub realFrom : Outcome ℤ → Seen
+realFrom (done v) = record { number = 0; place = 0; value = some v }
+realFrom (refused n p) = record { number = n; place = p; value = some (pos 0) }
+
+-- the same of a dose or slope that a float holds
+abbrev pub realOf : Outcome Held → Seen
+realOf (done (asDose w)) = record { number = 0; place = 0; value = w }
+realOf (done (asSlope w)) = record { number = 0; place = 0; value = w }
+realOf (refused n p) = record { number = n; place = p; value = some (pos 0) }
 
 abbrev pub tableFrom : Outcome Header → Table
 tableFrom (done h) = record { number = 0; place = 0; axes = h .axes; counts = h .counts }

@@ -11,23 +11,21 @@ ghost use Rattle.coefficients.specs.Corners.{coefficientsOutcome, coefficientsW
 ghost use Rattle.evaluate.specs.Evaluate.{dose, slopeAlong};
 ghost use Rattle.query.specs.Queries.{byCell, positionAt, byPosition};
 ghost use Rattle.query.specs.Answers.{told};
+ghost use Rattle.float_query.specs.Floats.{floatsAt, byFloat};
+ghost use Rattle.float_query.specs.Answers.{toldFloat};
 ghost use Rattle.table_file.specs.File.{header, readOutcome, samplesIn, writeOutcome, fileOf};
 ghost use Rattle.table_file.specs.Answers.{tableMeaning, writeMeaning};
-ghost use Rattle.lukhtari.specs.Host.{shapeOf, doneOf, wholeFrom, tableFrom, writtenFrom};
+ghost use Rattle.lukhtari.specs.Host.{doneOf, wholeFrom, seen, realOf, realFrom, tableFrom, writtenFrom};
 use evaluate::SlopeAxis;
+use float_query::FloatPosition;
+use float_query::FloatReading;
 use lattice::Answer;
+use lattice::Shape;
 use query::CellQuery;
 use query::Query;
 use query::Reading;
 use table_file::TableAnswer;
 use table_file::WriteAnswer;
-
-#[repr(C)]
-pub struct Shape {
-    pub axes: u32,
-    pub degree: u32,
-    pub counts: [u32; 3],
-}
 
 #[repr(C)]
 pub struct Index {
@@ -37,13 +35,6 @@ pub struct Index {
 #[repr(C)]
 pub struct Position {
     pub at: [i32; 3],
-}
-
-#[repr(C)]
-pub struct FloatPosition {
-    pub x: f32,
-    pub y: f32,
-    pub z: f32,
 }
 
 #[repr(C)]
@@ -81,17 +72,6 @@ pub struct Written {
     pub length: usize,
 }
 
-fn shape_of(s: Shape) -> lattice::Shape
-    ensures { λ r. ⌜ r ≡ shapeOf s ⌝ }
-{
-    let counts = s.counts;
-    lattice::Shape {
-        axes: s.axes,
-        degree: s.degree,
-        counts: counts,
-    }
-}
-
 fn done_of(a: Answer) -> Done
     ensures { λ r. ⌜ r ≡ doneOf (meaning a) ⌝ }
 {
@@ -110,10 +90,10 @@ fn done_of(a: Answer) -> Done
 // All records from the samples.
 #[no_mangle]
 pub extern "C" fn lukhtari_estimate(shape: Shape, samples: &[i32], records: &mut [i32]) -> Done
-    ensures { λ r. ⌜ r ≡ doneOf (estimateOutcome (shapeOf shape) (now (samples .entry)) (length (now (records .entry)))) ⌝ }
-    ensures { λ _. ⌜ now (records .exit) ≡ estimateWrites (shapeOf shape) (now (samples .entry)) (now (records .entry)) ⌝ }
+    ensures { λ r. ⌜ r ≡ doneOf (estimateOutcome shape (now (samples .entry)) (length (now (records .entry)))) ⌝ }
+    ensures { λ _. ⌜ now (records .exit) ≡ estimateWrites shape (now (samples .entry)) (now (records .entry)) ⌝ }
 {
-    done_of(estimate::estimate(shape_of(shape), samples, records))
+    done_of(estimate::estimate(shape, samples, records))
 }
 
 // The coefficients of a cell.
@@ -124,11 +104,11 @@ pub extern "C" fn lukhtari_coefficients(
     cell: Index,
     out: &mut [i32],
 ) -> Done
-    ensures { λ r. ⌜ r ≡ doneOf (coefficientsOutcome (shapeOf shape) (now (records .entry)) (placeAt (cell .at)) (length (now (out .entry)))) ⌝ }
-    ensures { λ _. ⌜ now (out .exit) ≡ coefficientsWrites (shapeOf shape) (now (records .entry)) (placeAt (cell .at)) (now (out .entry)) ⌝ }
+    ensures { λ r. ⌜ r ≡ doneOf (coefficientsOutcome shape (now (records .entry)) (placeAt (cell .at)) (length (now (out .entry)))) ⌝ }
+    ensures { λ _. ⌜ now (out .exit) ≡ coefficientsWrites shape (now (records .entry)) (placeAt (cell .at)) (now (out .entry)) ⌝ }
 {
     let at = cell.at;
-    done_of(coefficients::coefficients(shape_of(shape), records, at, out))
+    done_of(coefficients::coefficients(shape, records, at, out))
 }
 
 // The corner records that have these coefficients.
@@ -165,14 +145,14 @@ fn whole_of(a: Reading) -> Whole
 // Dose at a table position.
 #[no_mangle]
 pub extern "C" fn lukhtari_dose(shape: Shape, records: &[i32], position: Position) -> Whole
-    ensures { λ r. ⌜ r ≡ wholeFrom (byPosition (shapeOf shape) (now (records .entry)) dose (positionAt (position .at))) ⌝ }
+    ensures { λ r. ⌜ r ≡ wholeFrom (byPosition shape (now (records .entry)) dose (positionAt (position .at))) ⌝ }
 {
     let at = position.at;
     let q = Query {
         position: at,
         slope_axis: SlopeAxis::NoSlope,
     };
-    whole_of(query::at_position(shape_of(shape), records, q))
+    whole_of(query::at_position(shape, records, q))
 }
 
 // Slope along an axis at a table position.
@@ -183,14 +163,14 @@ pub extern "C" fn lukhtari_slope(
     position: Position,
     axis: u32,
 ) -> Whole
-    ensures { λ r. ⌜ r ≡ wholeFrom (byPosition (shapeOf shape) (now (records .entry)) (slopeAlong axis) (positionAt (position .at))) ⌝ }
+    ensures { λ r. ⌜ r ≡ wholeFrom (byPosition shape (now (records .entry)) (slopeAlong axis) (positionAt (position .at))) ⌝ }
 {
     let at = position.at;
     let q = Query {
         position: at,
         slope_axis: SlopeAxis::Along(axis),
     };
-    whole_of(query::at_position(shape_of(shape), records, q))
+    whole_of(query::at_position(shape, records, q))
 }
 
 // Dose at the steps u within a cell.
@@ -201,7 +181,7 @@ pub extern "C" fn lukhtari_dose_in_cell(
     cell: Index,
     u: Index,
 ) -> Whole
-    ensures { λ r. ⌜ r ≡ wholeFrom (byCell (shapeOf shape) (now (records .entry)) dose (placeAt (cell .at)) (placeAt (u .at))) ⌝ }
+    ensures { λ r. ⌜ r ≡ wholeFrom (byCell shape (now (records .entry)) dose (placeAt (cell .at)) (placeAt (u .at))) ⌝ }
 {
     let at = cell.at;
     let step = u.at;
@@ -210,7 +190,7 @@ pub extern "C" fn lukhtari_dose_in_cell(
         step: step,
         slope_axis: SlopeAxis::NoSlope,
     };
-    whole_of(query::in_cell(shape_of(shape), records, q))
+    whole_of(query::in_cell(shape, records, q))
 }
 
 // Slope along an axis at the steps u within a cell.
@@ -222,7 +202,7 @@ pub extern "C" fn lukhtari_slope_in_cell(
     u: Index,
     axis: u32,
 ) -> Whole
-    ensures { λ r. ⌜ r ≡ wholeFrom (byCell (shapeOf shape) (now (records .entry)) (slopeAlong axis) (placeAt (cell .at)) (placeAt (u .at))) ⌝ }
+    ensures { λ r. ⌜ r ≡ wholeFrom (byCell shape (now (records .entry)) (slopeAlong axis) (placeAt (cell .at)) (placeAt (u .at))) ⌝ }
 {
     let at = cell.at;
     let step = u.at;
@@ -231,7 +211,54 @@ pub extern "C" fn lukhtari_slope_in_cell(
         step: step,
         slope_axis: SlopeAxis::Along(axis),
     };
-    whole_of(query::in_cell(shape_of(shape), records, q))
+    whole_of(query::in_cell(shape, records, q))
+}
+
+fn real_of(a: FloatReading) -> Real
+    ensures { λ r. ⌜ seen r ≡ realOf (toldFloat a) ⌝ }
+{
+    match a {
+        FloatReading::Dose(x) => Real {
+            number: 0,
+            place: 0,
+            value: x,
+        },
+        FloatReading::Slope(x) => Real {
+            number: 0,
+            place: 0,
+            value: x,
+        },
+        FloatReading::Refused(r) => Real {
+            number: r.number,
+            place: r.place,
+            value: 0.0,
+        },
+    }
+}
+
+// Dose at the step nearest to a position in cells.
+#[no_mangle]
+pub extern "C" fn lukhtari_dose_float(
+    shape: Shape,
+    records: &[i32],
+    position: FloatPosition,
+) -> Real
+    ensures { λ r. ⌜ seen r ≡ realFrom (byFloat shape (now (records .entry)) dose (floatsAt position)) ⌝ }
+{
+    real_of(float_query::at_float(shape, records, position, SlopeAxis::NoSlope))
+}
+
+// Slope along an axis at the step nearest to a position in cells.
+#[no_mangle]
+pub extern "C" fn lukhtari_slope_float(
+    shape: Shape,
+    records: &[i32],
+    position: FloatPosition,
+    axis: u32,
+) -> Real
+    ensures { λ r. ⌜ seen r ≡ realFrom (byFloat shape (now (records .entry)) (slopeAlong axis) (floatsAt position)) ⌝ }
+{
+    real_of(float_query::at_float(shape, records, position, SlopeAxis::Along(axis)))
 }
 
 fn table_of(a: TableAnswer) -> Table

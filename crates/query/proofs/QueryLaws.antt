@@ -2,26 +2,29 @@
 use mathlib.Core.Path.{_≡_, refl, sym, ap, _∙_}
 use mathlib.Core.Bool.{Bool, true, _&&_}
 use mathlib.Core.List.{List}
-use Prim.Native.Nat.{ℕ, _+_, _*_, _-_, _≤_, _<_}
+use Prim.Native.Nat.{ℕ, _+_, _*_, _-_, _^_, _≤_, _<_}
 use native.Mathlib.Omega.{arith}
 use native.Mathlib.Decide.{decLt}
 use lib.Dec.{leb, ltb, eqb}
 use lib.ListN.{length}
 use lib.IntN.{ℤ, pos, negsuc, natAbs}
-use lib.Signed.{nonNeg}
+use lib.Signed.{nonNeg, mag}
+use mir.Syntax.{w32}
+use mir.Val.{toZ, ofZ}
 use borrow.Author.Tests.{ltb-true, leb-true, eqb-true, lt-ltb, le-ltb, le-leb, eq-eqb}
 use Rattle.arith.specs.Choice.{pick}
+use Rattle.arith.proofs.Machine.{element}
 use Rattle.arith.proofs.Choices.{pick-true, pick-false, and-true}
 use Rattle.lattice.specs.declared.Shape.{Shape}
-use Rattle.lattice.specs.Outcome.{Outcome, Check, done, refused, refuseUnless, first, firstOf}
+use Rattle.lattice.specs.Outcome.{Outcome, Check, done, refused, refuseUnless, first, firstOf, passed}
 use Rattle.lattice.specs.Shape.{count, size, shapeOutcome, Shaped}
 use Rattle.lattice.specs.Axes.{Place}
 use Rattle.lattice.specs.Records.{recordsField}
 use Rattle.lattice.proofs.ShapeLaws.{shaped}
-use Rattle.lattice.proofs.OutcomeLaws.{first-done, first-passed, first-after, first-assoc, refused-first, done-same, refuse-done, passes, firstOf-each, firstOf-passes}
+use Rattle.lattice.proofs.OutcomeLaws.{first-done, first-passed, first-after, first-assoc, refused-first, passed-done, done-same, refuse-done, passes, firstOf-each, firstOf-passes}
 use Rattle.hermite.specs.Stage.{steps}
 use Rattle.cell.specs.declared.Layout.{Layout}
-use Rattle.cell.specs.Cell.{placeAt, indexOutcome, cellOutcome, cornersOutcome, Laid}
+use Rattle.cell.specs.Cell.{placeAt, indexOutcome, cellOutcome, cornersOutcome, Accepted, Laid}
 use Rattle.cell.proofs.CellLaws.{accepted}
 use Rattle.evaluate.specs.Stages.{Ready}
 use Rattle.evaluate.specs.Evaluate.{Want, dose, slopeAlong, lastAxis, askAt, answer}
@@ -68,7 +71,7 @@ asked-facts s rs want h =
 pub asked-parts : (s : Shape) (rs : List ℤ) (want : Want) → askedOutcome s rs want ≡ done tt → (shapeOutcome s ≡ done tt) × (wantOutcome s want ≡ done tt)
 asked-parts s rs want h = let f = asked-facts s rs want h in (f .shape, f .wanted)
 
-reading-parts : (s : Shape) (rs : List ℤ) (want : Want) (cell step : Place) (v : ℤ) → reading s rs want cell step ≡ done v → (cornersOutcome s rs cell ≡ done tt) × (answer (askAt s want cell step) (recordsField s rs) ≡ v)
+pub reading-parts : (s : Shape) (rs : List ℤ) (want : Want) (cell step : Place) (v : ℤ) → reading s rs want cell step ≡ done v → (cornersOutcome s rs cell ≡ done tt) × (answer (askAt s want cell step) (recordsField s rs) ≡ v)
 unfolding reading
 reading-parts s rs want cell step v h =
     let f = first-done (cornersOutcome s rs cell) (done (answer (askAt s want cell step) (recordsField s rs))) v h in
@@ -87,19 +90,11 @@ by-cell-parts s rs want cell step v h =
     record { shape = a .0; wanted = a .1; cells = g .0; inside = k .0; corners = r .0; is = r .1 }
 
 -- and back, for a slice of the right length
-asked-passes : (s : Shape) (rs : List ℤ) (want : Want) → length rs ≡ size s → shapeOutcome s ≡ done tt → wantOutcome s want ≡ done tt → askedOutcome s rs want ≡ done tt
+pub asked-passes : (s : Shape) (rs : List ℤ) (want : Want) → length rs ≡ size s → shapeOutcome s ≡ done tt → wantOutcome s want ≡ done tt → askedOutcome s rs want ≡ done tt
 unfolding askedOutcome
 asked-passes s rs want l h w =
     first-passed (shapeOutcome s) (first (refuseUnless (eqb (length rs) (size s)) 4 0) (wantOutcome s want)) h
     ∙ first-passed (refuseUnless (eqb (length rs) (size s)) 4 0) (wantOutcome s want) (passes (eqb (length rs) (size s)) 4 0 (eq-eqb (length rs) (size s) l)) ∙ w
-
--- what the stages need
-pub ready : (s : Shape) (rs : List ℤ) (cell : List ℕ) (step : Place) (want : Want) (l : Layout) → askedOutcome s rs want ≡ done tt → cellOutcome s (placeAt cell) ≡ done tt → stepsOutcome s step ≡ done tt
-    → Laid s (placeAt cell) l → cornersOutcome s rs (placeAt cell) ≡ done tt → Ready s rs (placeAt cell) step want l
-ready s rs cell step want l h c u laid k =
-    let a = asked-facts s rs want h in
-    let f = shaped s (a .shape) in
-    record { shape = f; long = a .long; here = accepted s cell (f .axes-high) c; laid = laid; steps-low = step-inside s step f u; last = last-used s want (f .axes-low) (a .wanted); corners = k }
 
 pub reading-passes : (s : Shape) (rs : List ℤ) (want : Want) (cell step : Place) → cornersOutcome s rs cell ≡ done tt → reading s rs want cell step ≡ done (answer (askAt s want cell step) (recordsField s rs))
 unfolding reading
@@ -137,6 +132,41 @@ module _ (s : Shape) (rs : List ℤ) (want : Want) (cell step : Place) where
       ap (λ (o : Outcome ℤ). first (askedOutcome s rs want) o) (sym (first-assoc (cellOutcome s cell) (stepsOutcome s step) (reading s rs want cell step)))
       ∙ sym (first-assoc (askedOutcome s rs want) (first (cellOutcome s cell) (stepsOutcome s step)) (reading s rs want cell step))
       ∙ refused-first (reading s rs want cell step) e
+
+-- where the cell is given by three numbers: what its layout, its corners' test and its stages need
+pub record Near (s : Shape) (rs : List ℤ) (cell : List ℕ) : Type 0 where
+  pub shape : Shaped s
+  pub long : length rs ≡ size s
+  pub here : Accepted s (placeAt cell)
+
+module _ (s : Shape) (rs : List ℤ) (want : Want) (cell : List ℕ) (step : Place) where
+  pub near : Passed s rs want (placeAt cell) step → Near s rs cell
+  near f =
+      let a = asked-facts s rs want (f .asked) in
+      let h = shaped s (a .shape) in
+      record { shape = h; long = a .long; here = accepted s cell (h .axes-high) (f .cells) }
+
+  pub ready : Passed s rs want (placeAt cell) step → (l : Layout) → Laid s (placeAt cell) l → passed (cornersOutcome s rs (placeAt cell)) ≡ true → Ready s rs (placeAt cell) step want l
+  ready f l laid k =
+      let n = near f in
+      let a = asked-facts s rs want (f .asked) in
+      record {
+        shape = n .shape;
+        long = n .long;
+        here = n .here;
+        laid = laid;
+        steps-low = step-inside s step (n .shape) (f .inside);
+        last = last-used s want (n .shape .axes-low) (a .wanted);
+        corners = passed-done (cornersOutcome s rs (placeAt cell)) k;
+      }
+
+  -- the answer where 5 does not arise, and 5 where it does
+  pub answered : passed (cornersOutcome s rs (placeAt cell)) ≡ true → (r : ℤ) → mag r < 2 ^ 31 → r ≡ answer (askAt s want (placeAt cell) step) (recordsField s rs) → done (toZ w32 (ofZ w32 r)) ≡ reading s rs want (placeAt cell) step
+  answered k r fit is = ap done (element r fit ∙ is) ∙ sym (reading-passes s rs want (placeAt cell) step (passed-done (cornersOutcome s rs (placeAt cell)) k))
+
+  pub stopped : (o : Outcome ℤ) → ((v : ℤ) → o ≡ first (cornersOutcome s rs (placeAt cell)) (done v)) → o ≡ reading s rs want (placeAt cell) step
+  unfolding reading
+  stopped o h = h (answer (askAt s want (placeAt cell) step) (recordsField s rs))
 
 -- two slices of one length: the same outcome, if the readings are the same where the tests before are passed
 pub by-cell-same : (s : Shape) (rs qs : List ℤ) (want : Want) (cell step : Place) → length rs ≡ length qs
@@ -201,7 +231,7 @@ position-range s p h a l =
     let f = and-true (nonNeg (p a)) (leb (natAbs (p a)) (steps * (count s a - 1))) (refuse-done (nonNeg (p a) && leb (natAbs (p a)) (steps * (count s a - 1))) 11 a (firstOf-each 3 (positionOutcome s p) h a l)) in
     (f .0, leb-true (natAbs (p a)) (steps * (count s a - 1)) (f .1))
 
-in-cell : (c P : ℕ) → 2 ≤ c → P ≤ steps * (c - 1) → (cellOf steps c P + 2 ≤ c) × (steps * cellOf steps c P ≤ P) × (P - steps * cellOf steps c P ≤ steps)
+pub in-cell : (c P : ℕ) → 2 ≤ c → P ≤ steps * (c - 1) → (cellOf steps c P + 2 ≤ c) × (steps * cellOf steps c P ≤ P) × (P - steps * cellOf steps c P ≤ steps)
 unfolding cellOf
 in-cell c P h k = (omega arith, omega arith, omega arith)
 
@@ -233,6 +263,15 @@ position-steps s p f h = firstOf-passes 3 (λ a. refuseUnless (pick (ltb a (s .a
     (in-either s a (leb (positionStep s p a) steps) (eqb (positionStep s p a) 0)
     (λ k. le-leb (positionStep s p a) steps (in-cell (count s a) (natAbs (p a)) (f .used a k) (r .1) .2))
     (λ k. eq-eqb (positionStep s p a) 0 (none-of (count s a) (natAbs (p a)) (f .unused a l k) (r .1) .1))))
+
+-- the cell and the in-cell step that the code works out
+pub at-place : (s : Shape) (rs : List ℤ) (want : Want) (p : Position) (cell step : Place) → askedOutcome s rs want ≡ done tt → firstOf 3 (positionOutcome s p) ≡ done tt → cell ≡ positionCell s p → step ≡ positionStep s p
+    → Passed s rs want cell step × (reading s rs want cell step ≡ byPosition s rs want p)
+at-place s rs want p cell step a w c u =
+    let f = shaped s (asked-parts s rs want a .0) in (
+      record { asked = a; cells = rw c (position-cells s p f w); inside = rw u (position-steps s p f w) },
+      rw (c, u) (sym (by-position-reads s rs want p a w)),
+    )
 
 pub position-point : (s : Shape) (p : Position) → Shaped s → firstOf 3 (positionOutcome s p) ≡ done tt → (a : ℕ) → a < s .axes → pos (steps * positionCell s p a + positionStep s p a) ≡ p a
 unfolding positionStep positionCell

@@ -1,19 +1,21 @@
 // Doses and slopes by cell and in-cell step, and by table position.
 ghost use mathlib.Core.Path.{_≡_};
+ghost use mathlib.Core.Bool.{false};
 ghost use Prim.Native.Nat.{_<_};
 ghost use mathlib.Core.List.{List};
 ghost use lib.Dec.{leb, ltb, eqb};
 ghost use lib.IntN.{ℤ, natAbs};
 ghost use lib.ListN.{length};
 ghost use Rattle.arith.specs.Choice.{pick};
-ghost use Rattle.lattice.specs.Outcome.{done, refuseUnless, first, firstOf};
+ghost use Rattle.lattice.specs.Outcome.{done, refuseUnless, first, firstOf, passed};
 ghost use Rattle.lattice.specs.Answer.{meaning};
-ghost use Rattle.lattice.specs.Shape.{Shaped};
+ghost use Rattle.lattice.specs.Shape.{size, Shaped};
 ghost use Rattle.hermite.specs.Stage.{steps};
-ghost use Rattle.cell.specs.Cell.{placeAt, cellOutcome};
+ghost use Rattle.cell.specs.Cell.{placeAt, cellOutcome, cornersOutcome, Accepted, Laid};
 ghost use Rattle.evaluate.specs.Wants.{wanted};
 ghost use Rattle.query.specs.Answers.{told};
 ghost use Rattle.query.specs.Queries.{wantOutcome, askedOutcome, reading, stepsOutcome, byCell, positionAt, positionOutcome, cellOf, positionCell, positionStep, byPosition};
+use cell::Layout;
 use evaluate::SlopeAxis;
 use lattice::Answer;
 use lattice::Refusal;
@@ -120,7 +122,7 @@ fn cell_of(count: u32, p: u32) -> u32
 }
 
 // The cell of a position.
-pub fn position_cell(s: Shape, p: [i32; 3]) -> [u32; 3]
+fn position_cell(s: Shape, p: [i32; 3]) -> [u32; 3]
     ensures { λ r. ⌜ placeAt r ≡ positionCell s (positionAt p) ⌝ }
 {
     let x = cell_of(s.counts[0], distance(p[0]));
@@ -130,7 +132,7 @@ pub fn position_cell(s: Shape, p: [i32; 3]) -> [u32; 3]
 }
 
 // The in-cell step of a position.
-pub fn position_step(s: Shape, p: [i32; 3], cell: [u32; 3]) -> [u32; 3]
+fn position_step(s: Shape, p: [i32; 3], cell: [u32; 3]) -> [u32; 3]
     requires { ⌜ placeAt cell ≡ positionCell s (positionAt p) ⌝ }
     ensures { λ r. ⌜ placeAt r ≡ positionStep s (positionAt p) ⌝ }
 {
@@ -166,6 +168,20 @@ fn check_query(s: Shape, given: usize, q: Query) -> Answer
     check_position(s, position)
 }
 
+// Refusal 5 of the cell's corners.
+fn beyond(s: Shape, records: &[i32], cell: [u32; 3], l: Layout) -> Reading
+    requires { ⌜ Shaped s × (length (now records) ≡ size s) ⌝ }
+    requires { ⌜ Accepted s (placeAt cell) × Laid s (placeAt cell) l ⌝ }
+    requires { ⌜ passed (cornersOutcome s (now records) (placeAt cell)) ≡ false ⌝ }
+    ensures { λ r. ⌜ ((v : ℤ) → told r ≡ first (cornersOutcome s (now (records .entry)) (placeAt cell)) (done v)) ⌝ }
+{
+    let tested = cell::check_corners(s, records, cell, l);
+    match tested {
+        Answer::Refused(r) => Reading::Refused(r),
+        Answer::Done => Reading::Value(0),
+    }
+}
+
 // Refusal 5 of the cell's corners, or the dose or slope.
 fn read_cell(
     s: Shape,
@@ -179,11 +195,21 @@ fn read_cell(
     ensures { λ r. ⌜ told r ≡ reading s (now (records .entry)) (wanted «slope_axis») (placeAt cell) (placeAt step) ⌝ }
 {
     let l = cell::lay_out(s, cell);
-    let tested = cell::check_corners(s, records, cell, l);
-    match tested {
-        Answer::Refused(r) => Reading::Refused(r),
-        Answer::Done => Reading::Value(evaluate::answer(s, records, cell, step, slope_axis, l)),
+    if cell::corners_within(s, records, cell, l) {
+        return Reading::Value(evaluate::answer(s, records, cell, step, slope_axis, l));
     }
+    beyond(s, records, cell, l)
+}
+
+// Refusal 5 of the corners of a position's cell, or the dose or slope.
+pub fn read_position(s: Shape, records: &[i32], p: [i32; 3], slope_axis: SlopeAxis) -> Reading
+    requires { ⌜ askedOutcome s (now records) (wanted «slope_axis») ≡ done tt ⌝ }
+    requires { ⌜ firstOf 3 (positionOutcome s (positionAt p)) ≡ done tt ⌝ }
+    ensures { λ r. ⌜ told r ≡ reading s (now (records .entry)) (wanted «slope_axis») (positionCell s (positionAt p)) (positionStep s (positionAt p)) ⌝ }
+{
+    let cell = position_cell(s, p);
+    let step = position_step(s, p, cell);
+    read_cell(s, records, cell, step, slope_axis)
 }
 
 // The dose or slope at a step of a cell.
@@ -196,7 +222,13 @@ pub fn in_cell(s: Shape, records: &[i32], q: CellQuery) -> Reading
     let asked = check_cell_query(s, records.len(), q);
     match asked {
         Answer::Refused(r) => Reading::Refused(r),
-        Answer::Done => read_cell(s, records, cell, step, slope_axis),
+        Answer::Done => {
+            let l = cell::lay_out(s, cell);
+            if cell::corners_within(s, records, cell, l) {
+                return Reading::Value(evaluate::answer(s, records, cell, step, slope_axis, l));
+            }
+            beyond(s, records, cell, l)
+        }
     }
 }
 
@@ -212,7 +244,11 @@ pub fn at_position(s: Shape, records: &[i32], q: Query) -> Reading
         Answer::Done => {
             let cell = position_cell(s, position);
             let step = position_step(s, position, cell);
-            read_cell(s, records, cell, step, slope_axis)
+            let l = cell::lay_out(s, cell);
+            if cell::corners_within(s, records, cell, l) {
+                return Reading::Value(evaluate::answer(s, records, cell, step, slope_axis, l));
+            }
+            beyond(s, records, cell, l)
         }
     }
 }

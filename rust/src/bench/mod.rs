@@ -8,8 +8,10 @@ mod clock;
 mod conversion;
 mod double;
 mod estimation;
+mod floats;
 mod hand;
 mod inputs;
+mod lcms;
 mod queries;
 mod report;
 
@@ -17,10 +19,12 @@ use std::env;
 
 // All parts, or those named by the arguments.
 pub fn run() {
-    let parts: [(&str, fn()); 3] = [
+    let parts: [(&str, fn()); 5] = [
         ("estimation", estimation::run),
         ("conversion", conversion::run),
         ("queries", queries::run),
+        ("floats", floats::run),
+        ("lcms", lcms::run),
     ];
     let named: Vec<String> = env::args().skip(1).collect();
     for (name, part) in parts {

@@ -10,56 +10,21 @@ use Rattle.lattice.specs.Shape.{entries, orders, size, Shaped}
 use Rattle.lattice.proofs.ShapeLaws.{orders-range, entries-high, entries-pos}
 use Rattle.lattice.proofs.OutcomeLaws.{firstOf-stops, firstOf-more, firstOf-same}
 use Rattle.cell.specs.declared.Layout.{Layout}
-use Rattle.cell.specs.Cell.{placeAt, Accepted, Laid, base, far, cornerStart, limitOf, recordOutcome, cornersOutcome}
-use Rattle.cell.proofs.CornerLaws.{corner-below, corners-rows}
+use Rattle.cell.specs.Cell.{placeAt, Accepted, Laid, base, far, limitOf, limitIn, recordOutcome, cornersOutcome}
+use Rattle.lattice.specs.Buffer.{at}
+use Rattle.cell.proofs.LayoutLaws.{cornerTest, few, record-in, limits-hold, all-is}
 use mathlib.Core.Path.{_≡_, refl, sym, ap, subst, _∙_}
 use Prim.Native.Nat.{ℕ, _≤_, _<_, _+_, _^_, _-_, _*_, _/_, _%_}
 use native.Mathlib.Omega.{arith}
 use lib.ListN.{length, getD}
-use lib.IntN.{ℤ}
+use lib.IntN.{ℤ, pos}
 use denote.Ref.{now}
 use borrow.Author.Needs.{needs}
 use Rattle.cell.proofs.check_corners.Statement.{statement}
 use Rattle.cell.proofs.check_corners.Tie as tie
 
--- where the record of corner c starts, by the layout
-abbrev startOf : Layout → ℕ → ℕ
-startOf l c = l .base + (c % 2 * getD (l .far) 0 0 + (c / 2 % 2 * getD (l .far) 1 0 + c / 2 / 2 * getD (l .far) 2 0))
-
-abbrev test : List ℕ → ℕ → List ℤ → Layout → ℕ → Check
-test limits n rs l c = recordOutcome (λ e. getD limits e 0) n rs (startOf l c)
-
-module _ (s : Shape) (cell : List ℕ) (l : Layout) (rs : List ℤ) (limits : List ℕ) (ok : Shaped s) (long : length rs ≡ size s) (here : Accepted s (placeAt cell)) (laid : Laid s (placeAt cell) l)
-    (row : (e : ℕ) → e < l .orders ^ 3 → getD limits e 0 ≡ limitOf (l .orders) e) where
-  few : (c : ℕ) → c < 2 ^ s .axes → c < 8
-  few c h = lt-of-lt-of-le h (pow-mono (ok .axes-high))
-
-  start-is : (c : ℕ) → startOf l c ≡ cornerStart s (placeAt cell) c
-  unfolding cornerStart
-  start-is c = rw (laid .base-is, laid .far-x, laid .far-y, laid .far-z) refl
-
-  limits-are : (e : ℕ) → e < entries s → getD limits e 0 ≡ limitOf (orders s) e
-  unfolding entries
-  limits-are e h = row e (rw (laid .orders-are) (lt-of-lt-of-le h (pow-le-pow-right {n = orders s} (let k = orders-range (s .degree) .0 in omega arith) (ok .axes-high)))) ∙ ap (λ (m : ℕ). limitOf m e) (laid .orders-are)
-
-  -- a corner's record lies in the records
-  record-in : (c : ℕ) → c < 2 ^ s .axes → startOf l c + l .entries ≤ length rs
-  record-in c h =
-      let p = entries-pos s in
-      let e = corner-below s ok (placeAt cell) here c (entries s - 1) h (omega arith) in
-      let f = start-is c in
-      let g = laid .entries-are in
-      omega arith
-
-  test-is : (c : ℕ) → test limits (l .entries) rs l c ≡ recordOutcome (limitOf (orders s)) (entries s) rs (cornerStart s (placeAt cell) c)
-  unfolding recordOutcome
-  test-is c = rw (start-is c, laid .entries-are) (firstOf-same (entries s) _ _ (λ e h. rw (limits-are e h) refl))
-
-  all-is : firstOf (2 ^ s .axes) (test limits (l .entries) rs l) ≡ cornersOutcome s rs (placeAt cell)
-  all-is = firstOf-same (2 ^ s .axes) _ _ (λ c h. test-is c) ∙ sym (corners-rows s rs (placeAt cell) ok here)
-
 abbrev Inv-loop : tie.InvT-loop
-Inv-loop records l limits n corners c₀ c = (c ≤ corners) × (firstOf c (test limits n records l) ≡ done tt)
+Inv-loop records l limits n corners c₀ c = (c ≤ corners) × (firstOf c (cornerTest limits n records l) ≡ done tt)
 
 abbrev μ-loop : tie.MeasureT-loop
 μ-loop records l limits n corners c₀ c = corners - c
@@ -72,7 +37,7 @@ module _ (c : tie.At-loop Inv-loop μ-loop) where
   abbrev b : tie.Start Inv-loop μ-loop
   b = c .before .before .before
 
-  abbrev row : (e : ℕ) → e < b .args .l .orders ^ 3 → getD (c .before .before .entry-limits .result) e 0 ≡ limitOf (b .args .l .orders) e
+  abbrev row : (e : ℕ) → e < b .args .l .orders ^ 3 → at (c .before .before .entry-limits .result) e ≡ pos (limitOf (b .args .l .orders) e)
   row = c .before .before .entry-limits .ensures
 
   inside : c .loop .c < 1 * 2 ^ b .args .s .axes % 18446744073709551616 → c .loop .c < 2 ^ b .args .s .axes
@@ -83,15 +48,15 @@ module _ (c : tie.After-check-record Inv-loop μ-loop) where
   abbrev a : tie.At-loop Inv-loop μ-loop
   a = c .before .before .before .before
 
-  tested : test (a .before .before .entry-limits .result) (b a .args .l .entries) (b a .args .records .now) (b a .args .l) (a .loop .c) ≡ meaning (c .check-record .result)
-  tested = sym (c .check-record .ensures ∙ ap (λ (k : ℕ). recordOutcome (λ e. getD (a .before .before .entry-limits .result) e 0) (b a .args .l .entries) (b a .args .records .now) k) (c .before .before .corner-start .ensures))
+  tested : cornerTest (a .before .before .entry-limits .result) (b a .args .l .entries) (b a .args .records .now) (b a .args .l) (a .loop .c) ≡ meaning (c .check-record .result)
+  tested = sym (c .check-record .ensures ∙ ap (λ (k : ℕ). recordOutcome (limitIn (a .before .before .entry-limits .result)) (b a .args .l .entries) (b a .args .records .now) k) (c .before .before .corner-start .ensures))
 
-  whole : firstOf (2 ^ b a .args .s .axes) (test (a .before .before .entry-limits .result) (b a .args .l .entries) (b a .args .records .now) (b a .args .l)) ≡ cornersOutcome (b a .args .s) (b a .args .records .now) (placeAt (b a .args .cell))
+  whole : firstOf (2 ^ b a .args .s .axes) (cornerTest (a .before .before .entry-limits .result) (b a .args .l .entries) (b a .args .records .now) (b a .args .l)) ≡ cornersOutcome (b a .args .s) (b a .args .records .now) (placeAt (b a .args .cell))
   whole = all-is (b a .args .s) (b a .args .cell) (b a .args .l) (b a .args .records .now) (a .before .before .entry-limits .result) (b a .pre .0 .0) (b a .pre .0 .1) (b a .pre .1 .0) (b a .pre .1 .1) (row a)
 
   stops : (k p : ℕ) → meaning (c .check-record .result) ≡ refused k p → meaning (c .check-record .result) ≡ cornersOutcome (b a .args .s) (b a .args .records .now) (placeAt (b a .args .cell))
   stops k p e =
-      e ∙ sym (firstOf-stops (2 ^ b a .args .s .axes) (a .loop .c) (test (a .before .before .entry-limits .result) (b a .args .l .entries) (b a .args .records .now) (b a .args .l)) k p (inside a (c .before .before .before .loop-test .taken)) (a .loop .inv .1) (tested ∙ e)) ∙ whole
+      e ∙ sym (firstOf-stops (2 ^ b a .args .s .axes) (a .loop .c) (cornerTest (a .before .before .entry-limits .result) (b a .args .l .entries) (b a .args .records .now) (b a .args .l)) k p (inside a (c .before .before .before .loop-test .taken)) (a .loop .inv .1) (tested ∙ e)) ∙ whole
 
 entry-limits-requires : tie.Need-entry-limits-requires Inv-loop μ-loop
 entry-limits-requires c κs = let h = orders-range (c .args .s .degree) in let e = c .pre .1 .1 .orders-are in omega arith
@@ -121,7 +86,7 @@ check-record-requires c κs =
     let k = entries-high (s .args .s) (s .pre .0 .0) in
     let r = record-in (s .args .s) (s .args .cell) (s .args .l) (s .args .records .now) (a .before .before .entry-limits .result) (s .pre .0 .0) (s .pre .0 .1) (s .pre .1 .0) (s .pre .1 .1) (row a) (a .loop .c) (inside a (c .before .before .loop-test .taken)) in
     let e = c .before .corner-start .ensures in
-    (omega arith, omega arith)
+    (omega arith, omega arith, limits-hold (s .args .s) (s .args .cell) (s .args .l) (s .args .records .now) (a .before .before .entry-limits .result) (s .pre .0 .0) (s .pre .0 .1) (s .pre .1 .0) (s .pre .1 .1) (row a))
 
 enum-told : tie.Need-enum-told Inv-loop μ-loop
 enum-told c = search needs
@@ -142,13 +107,13 @@ loop-again : tie.Need-loop-again Inv-loop μ-loop
 loop-again c =
     let r = c .before .before in
     let s = a r in
-    (omega arith, firstOf-more (s .loop .c) (test (s .before .before .entry-limits .result) (b s .args .l .entries) (b s .args .records .now) (b s .args .l)) (s .loop .inv .1) (tested r ∙ ap meaning (c .enum-told2 .given .1)))
+    (omega arith, firstOf-more (s .loop .c) (cornerTest (s .before .before .entry-limits .result) (b s .args .l .entries) (b s .args .records .now) (b s .args .l)) (s .loop .inv .1) (tested r ∙ ap meaning (c .enum-told2 .given .1)))
 
 returns-2 : tie.Need-returns-2 Inv-loop μ-loop
 returns-2 c =
     let s = c .before in
     let n : c .before .loop .c ≡ 2 ^ b s .args .s .axes = (let e = shifted (b s .args .s .axes) (b s .pre .0 .0 .axes-high) in let h = s .loop .inv .0 in let k = c .loop-test .left in omega arith) in
-    sym (subst (λ (k : ℕ). firstOf k (test (s .before .before .entry-limits .result) (b s .args .l .entries) (b s .args .records .now) (b s .args .l)) ≡ done tt) n (s .loop .inv .1))
+    sym (subst (λ (k : ℕ). firstOf k (cornerTest (s .before .before .entry-limits .result) (b s .args .l .entries) (b s .args .records .now) (b s .args .l)) ≡ done tt) n (s .loop .inv .1))
     ∙ all-is (b s .args .s) (b s .args .cell) (b s .args .l) (b s .args .records .now) (s .before .before .entry-limits .result) (b s .pre .0 .0) (b s .pre .0 .1) (b s .pre .1 .0) (b s .pre .1 .1) (row s)
 
 pub check-corners-spec : {M : Type 1} → statement M

@@ -1,36 +1,15 @@
-use mathlib.Core.List.{List}
-use borrow.Author.Tests.{le-leb, lt-leb}
-use lib.Dec.{leb}
-use lib.Signed.{mag}
-use Rattle.arith.proofs.Machine.{widen-fits, widened}
-use Rattle.lattice.specs.Outcome.{Check, done, refused, refuseUnless, firstOf}
+use mathlib.Core.Path.{_≡_, refl, sym, ap, subst, _∙_}
+use Prim.Native.Nat.{ℕ, _≤_, _+_, _-_}
+use native.Mathlib.Omega.{arith}
+use Rattle.arith.proofs.Machine.{element}
+use Rattle.lattice.specs.Outcome.{done, firstOf}
 use Rattle.lattice.specs.Buffer.{at}
 use Rattle.lattice.proofs.OutcomeLaws.{firstOf-stops, firstOf-more}
 use Rattle.cell.specs.Cell.{recordOutcome}
-use mathlib.Core.Path.{_≡_, refl, sym, ap, subst, _∙_}
-use Prim.Native.Nat.{ℕ, _≤_, _<_, _+_, _^_, _-_}
-use native.Mathlib.Omega.{arith}
-use lib.ListN.{getD}
-use lib.IntN.{ℤ, pos, natAbs}
-use mir.Syntax.{w32, w64}
-use mir.Val.{toZ, ofZ}
-use denote.Ref.{now}
+use Rattle.cell.proofs.LimitLaws.{test, test-stopped, test-passed, limit-told}
 use borrow.Author.Needs.{needs}
 use Rattle.cell.proofs.check_record.Statement.{statement}
 use Rattle.cell.proofs.check_record.Tie as tie
-
-abbrev test : List ℕ → List ℤ → ℕ → ℕ → Check
-test limits rs start e = refuseUnless (leb (natAbs (at rs (start + e))) (getD limits e 0)) 5 (start + e)
-
-module _ (limits : List ℕ) (rs : List ℤ) (start e r : ℕ) (fit : mag (at rs (start + e)) < 2 ^ 31) (is : r ≡ natAbs (toZ w64 (ofZ w64 (toZ w32 (ofZ w32 (at rs (start + e))))))) where
-  size-is : r ≡ natAbs (at rs (start + e))
-  size-is = is ∙ ap natAbs (widened (at rs (start + e)) fit)
-
-  stopped : getD limits e 0 < r → test limits rs start e ≡ refused 5 (start + e)
-  stopped h = let k = size-is in simp (lt-leb (natAbs (at rs (start + e))) (getD limits e 0) (omega arith))
-
-  passed : r ≤ getD limits e 0 → test limits rs start e ≡ done tt
-  passed h = let k = size-is in simp (le-leb (natAbs (at rs (start + e))) (getD limits e 0) (omega arith))
 
 abbrev Inv-loop : tie.InvT-loop
 Inv-loop limits n records start e₀ e = (e ≤ n) × (firstOf e (test limits records start) ≡ done tt)
@@ -42,26 +21,26 @@ loop-holds : tie.Need-loop-holds Inv-loop μ-loop
 unfolding firstOf
 loop-holds c = (omega arith, refl)
 
-add-x : tie.Need-add-x Inv-loop μ-loop
-add-x c = omega arith
+add-beyond : tie.Need-add-beyond Inv-loop μ-loop
+add-beyond c = omega arith
 
-mul-x : tie.Need-mul-x Inv-loop μ-loop
-mul-x c = search needs
+mul-beyond : tie.Need-mul-beyond Inv-loop μ-loop
+mul-beyond c = search needs
 
-shared-slice-copy-out-x : tie.Need-shared-slice-copy-out-x Inv-loop μ-loop
-shared-slice-copy-out-x c = omega arith
+shared-slice-copy-out-beyond : tie.Need-shared-slice-copy-out-beyond Inv-loop μ-loop
+shared-slice-copy-out-beyond c = omega arith
 
-cast-x : tie.Need-cast-x Inv-loop μ-loop
-cast-x c = widen-fits (getD (c .before .before .before .args .records .now) (c .before .before .before .args .start + c .before .before .loop .e) (pos 0)) (c .x .given)
+mul-beyond-2 : tie.Need-mul-beyond-2 Inv-loop μ-loop
+mul-beyond-2 c = search needs
 
-mul-if1 : tie.Need-mul-if1 Inv-loop μ-loop
-mul-if1 c = search needs
+element-copy-out-beyond : tie.Need-element-copy-out-beyond Inv-loop μ-loop
+element-copy-out-beyond c = omega arith
 
-element-copy-out-if1 : tie.Need-element-copy-out-if1 Inv-loop μ-loop
-element-copy-out-if1 c = omega arith
-
-magnitude-requires : tie.Need-magnitude-requires Inv-loop μ-loop
-magnitude-requires c κs = search needs
+beyond-requires : tie.Need-beyond-requires Inv-loop μ-loop
+beyond-requires c κs =
+    let l = c .before .before .before in
+    let a = l .before .args in
+    rw (element (at (a .limits .now) (l .loop .e)) (c .beyond-arg2 .given)) (l .before .pre .2 (l .loop .e) (omega arith))
 
 add-refuse-unless : tie.Need-add-refuse-unless Inv-loop μ-loop
 add-refuse-unless c = omega arith
@@ -72,11 +51,14 @@ refuse-unless-requires c κs = search needs
 returns : tie.Need-returns Inv-loop μ-loop
 unfolding recordOutcome
 returns c =
-    let b = c .before .before .before .before .before .before in
-    let a = b .before .args in
+    let t = c .before in
+    let b = t .before in
+    let l = b .before .before .before .before in
+    let a = l .before .args in
     c .refuse-unless .ensures
-    ∙ sym (firstOf-stops (a .n) (b .loop .e) (test (a .limits .now) (a .records .now) (a .start)) 5 (a .start + b .loop .e) (omega arith) (b .loop .inv .1)
-    (stopped (a .limits .now) (a .records .now) (a .start) (b .loop .e) _ (c .before .before .before .before .x .given) (c .before .before .magnitude .ensures) (c .before .if1 .taken)))
+    ∙ sym (firstOf-stops (a .n) (l .loop .e) (test (a .limits .now) (a .records .now) (a .start)) 5 (a .start + l .loop .e) (omega arith) (l .loop .inv .1)
+    (test-stopped (a .limits .now) (a .records .now) (a .start) (l .loop .e)
+    (sym (limit-told (a .limits .now) (a .records .now) (a .start) (l .loop .e) _ (b .before .before .beyond-arg .given) (b .before .beyond-arg2 .given) (b .beyond .ensures)) ∙ t .if1 .taken)))
 
 add-e : tie.Need-add-e Inv-loop μ-loop
 add-e c = omega arith
@@ -86,11 +68,13 @@ loop-less c = omega arith
 
 loop-again : tie.Need-loop-again Inv-loop μ-loop
 loop-again c =
-    let b = c .before .before .before .before .before in
-    let a = b .before .args in (
+    let b = c .before in
+    let l = b .before .before .before .before in
+    let a = l .before .args in (
       omega arith,
-      firstOf-more (b .loop .e) (test (a .limits .now) (a .records .now) (a .start)) (b .loop .inv .1)
-          (passed (a .limits .now) (a .records .now) (a .start) (b .loop .e) _ (c .before .before .before .x .given) (c .before .magnitude .ensures) (c .if1 .left)),
+      firstOf-more (l .loop .e) (test (a .limits .now) (a .records .now) (a .start)) (l .loop .inv .1)
+          (test-passed (a .limits .now) (a .records .now) (a .start) (l .loop .e)
+          (sym (limit-told (a .limits .now) (a .records .now) (a .start) (l .loop .e) _ (b .before .before .beyond-arg .given) (b .before .beyond-arg2 .given) (b .beyond .ensures)) ∙ c .if1 .left)),
     )
 
 returns-2 : tie.Need-returns-2 Inv-loop μ-loop
@@ -107,13 +91,12 @@ check-record-spec =
     Inv-loop
     μ-loop
     loop-holds
-    add-x
-    mul-x
-    shared-slice-copy-out-x
-    cast-x
-    mul-if1
-    element-copy-out-if1
-    magnitude-requires
+    add-beyond
+    mul-beyond
+    shared-slice-copy-out-beyond
+    mul-beyond-2
+    element-copy-out-beyond
+    beyond-requires
     add-refuse-unless
     refuse-unless-requires
     returns

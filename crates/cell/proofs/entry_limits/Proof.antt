@@ -1,36 +1,48 @@
-use mathlib.Core.Bool.{Bool}
+use mathlib.Core.Bool.{Bool, true, false, _&&_}
 use mathlib.Core.List.{List, [], _∷_}
 use lib.Dec.{T, eqb, eqb→eq}
 use Rattle.arith.proofs.Choices.{all, all-at}
 use Rattle.cell.specs.Cell.{limitOf}
-use mathlib.Core.Path.{_≡_, sym, ap, subst, _∙_}
+use mathlib.Core.Path.{_≡_, refl, sym, ap, subst, _∙_}
 use Prim.Native.Nat.{ℕ, _<_, _^_}
 use native.Mathlib.Omega.{arith}
-use lib.ListN.{getD}
+use lib.IntN.{ℤ, pos, negsuc, natAbs}
+use lib.Signed.{nonNeg}
+use Rattle.lattice.specs.Buffer.{at}
 use borrow.Author.Needs.{needs}
 use Rattle.cell.proofs.entry_limits.Statement.{statement}
 use Rattle.cell.proofs.entry_limits.Tie as tie
 
-cubic : List ℕ
-cubic = 32768 ∷ 65536 ∷ 65536 ∷ 131072 ∷ 65536 ∷ 131072 ∷ 131072 ∷ 262144 ∷ 0 ∷ 0 ∷ 0 ∷ 0 ∷ 0 ∷ 0 ∷ 0 ∷ 0 ∷ 0 ∷ 0 ∷ 0 ∷ 0 ∷ 0 ∷ 0 ∷ 0 ∷ 0 ∷ 0 ∷ 0 ∷ 0 ∷ []
+cubic : List ℤ
+cubic = pos 32768 ∷ pos 65536 ∷ pos 65536 ∷ pos 131072 ∷ pos 65536 ∷ pos 131072 ∷ pos 131072 ∷ pos 262144 ∷ pos 0 ∷ pos 0 ∷ pos 0 ∷ pos 0 ∷ pos 0 ∷ pos 0 ∷ pos 0 ∷ pos 0 ∷ pos 0 ∷ pos 0 ∷ pos 0 ∷ pos 0 ∷ pos 0 ∷ pos 0 ∷ pos 0 ∷ pos 0 ∷ pos 0 ∷ pos 0 ∷ pos 0 ∷ []
 
-quintic : List ℕ
-quintic = 32768 ∷ 65536 ∷ 131072 ∷ 65536 ∷ 131072 ∷ 262144 ∷ 131072 ∷ 262144 ∷ 524288 ∷ 65536 ∷ 131072 ∷ 262144 ∷ 131072 ∷ 262144 ∷ 524288 ∷ 262144 ∷ 524288 ∷ 1048576 ∷ 131072 ∷ 262144 ∷ 524288 ∷ 262144 ∷ 524288 ∷ 1048576 ∷ 524288 ∷ 1048576 ∷ 2097152 ∷ []
+quintic : List ℤ
+quintic = pos 32768 ∷ pos 65536 ∷ pos 131072 ∷ pos 65536 ∷ pos 131072 ∷ pos 262144 ∷ pos 131072 ∷ pos 262144 ∷ pos 524288 ∷ pos 65536 ∷ pos 131072 ∷ pos 262144 ∷ pos 131072 ∷ pos 262144 ∷ pos 524288 ∷ pos 262144 ∷ pos 524288 ∷ pos 1048576 ∷ pos 131072 ∷ pos 262144 ∷ pos 524288 ∷ pos 262144 ∷ pos 524288 ∷ pos 1048576 ∷ pos 524288 ∷ pos 1048576 ∷ pos 2097152 ∷ []
 
-right : ℕ → List ℕ → ℕ → Bool
-right m row e = eqb (getD row e 0) (limitOf m e)
+right : ℕ → List ℤ → ℕ → Bool
+right m row e = nonNeg (at row e) && eqb (natAbs (at row e)) (limitOf m e)
 
 -- the rule at each entry, from a test over the row
-by-test : (m n : ℕ) (row : List ℕ) (e : ℕ) → e < n → T (all n (right m row)) → getD row e 0 ≡ limitOf m e
+by-test : (m n : ℕ) (row : List ℤ) (e : ℕ) → e < n → T (all n (right m row)) → at row e ≡ pos (limitOf m e)
 unfolding right
-by-test m n row e l t = eqb→eq (getD row e 0) (limitOf m e) (all-at n (right m row) t e l)
+by-test m n row e l t =
+    let h = and-T (nonNeg (at row e)) (eqb (natAbs (at row e)) (limitOf m e)) (all-at n (right m row) t e l) in
+    whole (at row e) (h .0) ∙ ap pos (eqb→eq (natAbs (at row e)) (limitOf m e) (h .1))
+  where
+    and-T : (a b : Bool) → T (a && b) → T a × T b
+    and-T true b h = (tt, h)
+    and-T false b h = absurd h
+
+    whole : (z : ℤ) → T (nonNeg z) → z ≡ pos (natAbs z)
+    whole (pos n) h = refl
+    whole (negsuc n) h = absurd h
 
 array-copy-out-result : tie.Need-array-copy-out-result
 array-copy-out-result c = search needs
 
 returns : tie.Need-returns
 unfolding right all limitOf cubic quintic
-returns c = λ e l. by-test 2 8 cubic e (subst (λ (m : ℕ). e < m ^ 3) (c .before .if1 .taken) l) tt ∙ ap (λ (m : ℕ). limitOf m e) (sym (c .before .if1 .taken))
+returns c = λ e l. by-test 2 8 cubic e (subst (λ (m : ℕ). e < m ^ 3) (c .before .if1 .taken) l) tt ∙ ap (λ (m : ℕ). pos (limitOf m e)) (sym (c .before .if1 .taken))
 
 array-copy-out-result-2 : tie.Need-array-copy-out-result-2
 array-copy-out-result-2 c = search needs
@@ -39,7 +51,7 @@ returns-2 : tie.Need-returns-2
 unfolding right all limitOf cubic quintic
 returns-2 c = λ e l.
     let three : c .before .before .args .m ≡ 3 = omega (arith, c .before .if1 .left) in
-    by-test 3 27 quintic e (subst (λ (m : ℕ). e < m ^ 3) three l) tt ∙ ap (λ (m : ℕ). limitOf m e) (sym three)
+    by-test 3 27 quintic e (subst (λ (m : ℕ). e < m ^ 3) three l) tt ∙ ap (λ (m : ℕ). pos (limitOf m e)) (sym three)
 
 pub entry-limits-spec : {M : Type 1} → statement M
 entry-limits-spec =

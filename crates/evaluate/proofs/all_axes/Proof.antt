@@ -38,43 +38,45 @@ module _ (t : tie.After-last-axis) where
   last = lastAxis n (wanted (b .args .want))
 
   abbrev x : Strides
-  x = record { step = getD (b .args .t4) 0 0; far = getD (b .args .t6 .far) 0 0; near = 1 }
+  x = record { step = getD (b .args .t5) 0 0; far = getD (b .args .t7 .far) 0 0; near = 1 }
 
   abbrev y : Strides
-  y = record { step = getD (b .args .t4) 1 0; far = getD (b .args .t6 .far) 1 0; near = b .args .t6 .orders }
+  y = record { step = getD (b .args .t5) 1 0; far = getD (b .args .t7 .far) 1 0; near = b .args .m }
 
   abbrev z : Strides
-  z = record { step = getD (b .args .t4) 2 0; far = getD (b .args .t6 .far) 2 0; near = b .args .t6 .orders * b .args .t6 .orders }
+  z = record { step = getD (b .args .t5) 2 0; far = getD (b .args .t7 .far) 2 0; near = b .args .m * b .args .m }
 
   abbrev Is : ℕ → Strides → Type 0
-  Is = IsAxis (b .args .s) (placeAt (b .args .t4))
+  Is = IsAxis (b .args .s) (placeAt (b .args .t5))
 
   x-is : Is 0 x
-  x-is = is-x (b .args .s) (placeAt (b .args .cell)) (b .args .t4) (b .args .t6) (b .pre .laid)
+  x-is = is-x (b .args .s) (placeAt (b .args .cell)) (b .args .t5) (b .args .t7) (b .pre .1 .laid)
 
   y-is : Is 1 y
-  y-is = is-y (b .args .s) (placeAt (b .args .cell)) (b .args .t4) (b .args .t6) (b .pre .laid)
+  y-is = subst (λ (m : ℕ). Is 1 (record { step = getD (b .args .t5) 1 0; far = getD (b .args .t7 .far) 1 0; near = m })) (sym (b .pre .0)) (is-y (b .args .s) (placeAt (b .args .cell)) (b .args .t5) (b .args .t7) (b .pre .1 .laid))
 
   z-is : Is 2 z
-  z-is = is-z (b .args .s) (placeAt (b .args .cell)) (b .args .t4) (b .args .t6) (b .pre .laid)
+  z-is = subst (λ (m : ℕ). Is 2 (record { step = getD (b .args .t5) 2 0; far = getD (b .args .t7 .far) 2 0; near = m * m })) (sym (b .pre .0)) (is-z (b .args .s) (placeAt (b .args .cell)) (b .args .t5) (b .args .t7) (b .pre .1 .laid))
 
   -- k axes, of which a, with strides v, is the last, and those of vs come before
-  module _ (k a : ℕ) (v : Strides) (vs : List Strides) (ek : n ≡ k) (ea : last ≡ a) (is : Is a v) (are : AreAxes (b .args .s) (placeAt (b .args .t4)) (without a (axes k)) vs) where
-    asks : Workable (b .args .t6 .orders) (t .before .is-slope .result) v vs (length (now (b .args .records))) (at (now (b .args .records))) (b .args .t6 .base)
+  module _ (k a : ℕ) (v : Strides) (vs : List Strides) (ek : n ≡ k) (ea : last ≡ a) (is : Is a v) (are : AreAxes (b .args .s) (placeAt (b .args .t5)) (without a (axes k)) vs) where
+    asks : Workable (b .args .m) (t .before .is-slope .result) v vs (length (now (b .args .records))) (at (now (b .args .records))) (b .args .t7 .base)
     asks =
-        workable-in (b .args .s) (now (b .args .records)) (placeAt (b .args .cell)) (placeAt (b .args .t4)) (wanted (b .args .want)) (b .args .t6) (b .pre) k a ek ea
-        (t .before .is-slope .result) (t .before .is-slope .ensures) v vs is are
+        subst (λ (m : ℕ). Workable m (t .before .is-slope .result) v vs (length (now (b .args .records))) (at (now (b .args .records))) (b .args .t7 .base)) (sym (b .pre .0))
+        (workable-in (b .args .s) (now (b .args .records)) (placeAt (b .args .cell)) (placeAt (b .args .t5)) (wanted (b .args .want)) (b .args .t7) (b .pre .1) k a ek ea
+        (t .before .is-slope .result) (t .before .is-slope .ensures) v vs is are)
 
-    gives : (r : ℤ) → mag r < 2 ^ 63 → WorkedOff (b .args .t6 .orders) (t .before .is-slope .result) v vs (at (now (b .args .records))) (b .args .t6 .base) r
-        → toZ w64 (ofZ w64 r) ≡ answer (askAt (b .args .s) (wanted (b .args .want)) (placeAt (b .args .cell)) (placeAt (b .args .t4))) (recordsField (b .args .s) (now (b .args .records)))
+    gives : (r : ℤ) → mag r < 2 ^ 63 → WorkedOff (b .args .m) (t .before .is-slope .result) v vs (at (now (b .args .records))) (b .args .t7 .base) r
+        → toZ w64 (ofZ w64 r) ≡ answer (askAt (b .args .s) (wanted (b .args .want)) (placeAt (b .args .cell)) (placeAt (b .args .t5))) (recordsField (b .args .s) (now (b .args .records)))
     gives r ok w =
         read r ok
-        ∙ answer-in (b .args .s) (now (b .args .records)) (placeAt (b .args .cell)) (placeAt (b .args .t4)) (wanted (b .args .want)) (b .args .t6) (b .pre) k a ek ea
-        (t .before .is-slope .result) (t .before .is-slope .ensures) v vs is are r w
+        ∙ answer-in (b .args .s) (now (b .args .records)) (placeAt (b .args .cell)) (placeAt (b .args .t5)) (wanted (b .args .want)) (b .args .t7) (b .pre .1) k a ek ea
+        (t .before .is-slope .result) (t .before .is-slope .ensures) v vs is are r
+        (subst (λ (m : ℕ). WorkedOff m (t .before .is-slope .result) v vs (at (now (b .args .records))) (b .args .t7 .base) r) (b .pre .0) w)
 
   -- the tests of the number of axes and of the last axis
   one : n ≡ 1 → last ≡ 0
-  one e = last-of-one n last e (b .pre .last)
+  one e = last-of-one n last e (b .pre .1 .last)
 
   named : (a : ℕ) → t .last-axis .result ≡ a → last ≡ a
   named a e = sym (t .last-axis .ensures) ∙ e
@@ -83,13 +85,13 @@ module _ (t : tie.After-last-axis) where
   other a k e = k (t .last-axis .ensures ∙ e)
 
   second-of-two : n ≡ 2 → (t .last-axis .result ≡ 0 → ⊥) → last ≡ 1
-  second-of-two e k = last-of-two n last e (b .pre .last) (other 0 k)
+  second-of-two e k = last-of-two n last e (b .pre .1 .last) (other 0 k)
 
   third-of-three : (t .last-axis .result ≡ 0 → ⊥) → (t .last-axis .result ≡ 1 → ⊥) → last ≡ 2
-  third-of-three k h = last-of-three n last (b .pre .shape .axes-high) (b .pre .last) (other 0 k) (other 1 h)
+  third-of-three k h = last-of-three n last (b .pre .1 .shape .axes-high) (b .pre .1 .last) (other 0 k) (other 1 h)
 
   three : (n ≡ 1 → ⊥) → (n ≡ 2 → ⊥) → n ≡ 3
-  three h k = three-axes n (b .pre .shape .axes-low) (b .pre .shape .axes-high) h k
+  three h k = three-axes n (b .pre .1 .shape .axes-low) (b .pre .1 .shape .axes-high) h k
 
 is-slope-requires : tie.Need-is-slope-requires
 is-slope-requires c κs = search needs
@@ -155,8 +157,8 @@ element-copy-out-t22-3 c = search needs
 mul-t33 : tie.Need-mul-t33
 mul-t33 c =
     let b = c .before .before .before .before .before .before .before in
-    let m = b .args .t6 .orders in
-    let h : m ≤ 3 = subst (λ (i : ℕ). i ≤ 3) (sym (b .pre .laid .orders-are)) (orders-range (b .args .s .degree) .1) in
+    let m = b .args .m in
+    let h : m ≤ 3 = subst (λ (i : ℕ). i ≤ 3) (sym (b .pre .0 ∙ b .pre .1 .laid .orders-are)) (orders-range (b .args .s .degree) .1) in
     let k : m * m ≤ 3 * 3 = mul-le-mul h h in
     omega arith
 

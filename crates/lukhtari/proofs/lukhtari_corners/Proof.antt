@@ -14,8 +14,7 @@ same-length : tie.Need-same-length
 same-length c = search needs
 
 returns : tie.Need-returns
-returns c =
-    let b = c .before .before in (c .done-of .ensures ∙ ap doneOf (b .corners .ensures .0), b .corners .ensures .1)
+returns c = let b = c .before .before in (c .done-of .ensures ∙ ap doneOf (b .corners .ensures .0), b .corners .ensures .1)
 
 pub lukhtari-corners-spec : {M : Type 1} → statement M
 lukhtari-corners-spec = tie.close (tie.spec corners-requires done-of-requires same-length returns)

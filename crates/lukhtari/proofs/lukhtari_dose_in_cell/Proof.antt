@@ -1,15 +1,8 @@
 use mathlib.Core.Path.{ap, _∙_}
-use denote.Ref.{now}
-use Rattle.cell.specs.Cell.{placeAt}
-use Rattle.evaluate.specs.Evaluate.{dose}
-use Rattle.query.specs.Queries.{byCell}
 use Rattle.lukhtari.specs.Host.{wholeFrom}
 use borrow.Author.Needs.{needs}
 use Rattle.lukhtari.proofs.lukhtari_dose_in_cell.Statement.{statement}
 use Rattle.lukhtari.proofs.lukhtari_dose_in_cell.Tie as tie
-
-shape-of-requires : tie.Need-shape-of-requires
-shape-of-requires c κs = search needs
 
 in-cell-requires : tie.Need-in-cell-requires
 in-cell-requires c κs = search needs
@@ -18,11 +11,7 @@ whole-of-requires : tie.Need-whole-of-requires
 whole-of-requires c κs = search needs
 
 returns : tie.Need-returns
-returns c =
-    let b = c .before in
-    let d = b .before in
-    let a = d .before .before .before .args in
-    c .whole-of .ensures ∙ ap wholeFrom (b .in-cell .ensures ∙ ap (λ s. byCell s (now (a .records)) dose (placeAt (a .cell .at)) (placeAt (a .u .at))) (d .shape-of .ensures))
+returns c = c .whole-of .ensures ∙ ap wholeFrom (c .before .in-cell .ensures)
 
 pub lukhtari-dose-in-cell-spec : {M : Type 1} → statement M
-lukhtari-dose-in-cell-spec = tie.close (tie.spec shape-of-requires in-cell-requires whole-of-requires returns)
+lukhtari-dose-in-cell-spec = tie.close (tie.spec in-cell-requires whole-of-requires returns)

@@ -1,28 +1,38 @@
-use mathlib.Core.Path.{_≡_, refl, sym, ap, subst, _∙_}
+use mathlib.Core.Path.{_≡_, refl, sym, ap, _∙_}
 use denote.Ref.{now}
 use Rattle.lattice.specs.Answer.{meaning}
-use Rattle.lattice.specs.Outcome.{done, first, firstOf}
-use Rattle.lattice.specs.Axes.{Place}
-use Rattle.lattice.proofs.ShapeLaws.{shaped}
-use Rattle.lattice.proofs.OutcomeLaws.{first-done, first-assoc, refused-first}
-use Rattle.cell.specs.Cell.{placeAt, cellOutcome}
+use Rattle.lattice.specs.Outcome.{done, firstOf}
+use Rattle.lattice.proofs.OutcomeLaws.{first-done}
+use Rattle.cell.specs.Cell.{placeAt}
 use Rattle.evaluate.specs.Wants.{wanted}
-use Rattle.query.specs.Queries.{askedOutcome, reading, stepsOutcome, positionAt, positionOutcome, positionCell, positionStep, byPosition}
-use Rattle.query.proofs.QueryLaws.{asked-parts, position-cells, position-steps, by-position-stops, by-position-reads}
+use Rattle.query.specs.Queries.{askedOutcome, reading, positionAt, positionOutcome, byPosition}
+use Rattle.query.proofs.QueryLaws.{by-position-stops, at-place, Passed, Near, near, ready, answered, stopped}
 use borrow.Author.Needs.{needs}
 use Rattle.query.proofs.at_position.Statement.{statement}
 use Rattle.query.proofs.at_position.Tie as tie
 
--- not refused before 5
-module _ (c : tie.After-enum-told) where
-  abbrev start : tie.Start
-  start = c .before .before .before .before
+-- not refused before 5: the position's cell and in-cell step
+module _ (c : tie.After-position-step) where
+  abbrev told : tie.After-enum-told
+  told = c .before .before
 
-  passed : (askedOutcome (start .args .s) (now (start .args .records)) (wanted (start .args .q .«slope_axis»)) ≡ done tt) × (firstOf 3 (positionOutcome (start .args .s) (positionAt (start .args .q .position))) ≡ done tt)
-  passed =
+  abbrev start : tie.Start
+  start = told .before .before .before .before
+
+  within : (askedOutcome (start .args .s) (now (start .args .records)) (wanted (start .args .q .«slope_axis»)) ≡ done tt) × (firstOf 3 (positionOutcome (start .args .s) (positionAt (start .args .q .position))) ≡ done tt)
+  within =
       let a = start .args in
       first-done (askedOutcome (a .s) (now (a .records)) (wanted (a .q .«slope_axis»))) (firstOf 3 (positionOutcome (a .s) (positionAt (a .q .position)))) tt
-      (sym (c .before .before .check-query .ensures (now (a .records)) refl) ∙ ap meaning (c .enum-told .given .1))
+      (sym (told .before .before .check-query .ensures (now (a .records)) refl) ∙ ap meaning (told .enum-told .given .1))
+
+  place : Passed (start .args .s) (now (start .args .records)) (wanted (start .args .q .«slope_axis»)) (placeAt (c .before .position-cell .result)) (placeAt (c .position-step .result))
+      × (reading (start .args .s) (now (start .args .records)) (wanted (start .args .q .«slope_axis»)) (placeAt (c .before .position-cell .result)) (placeAt (c .position-step .result)) ≡ byPosition (start .args .s) (now (start .args .records)) (wanted (start .args .q .«slope_axis»)) (positionAt (start .args .q .position)))
+  place =
+      let a = start .args in
+      at-place (a .s) (now (a .records)) (wanted (a .q .«slope_axis»)) (positionAt (a .q .position)) (placeAt (c .before .position-cell .result)) (placeAt (c .position-step .result)) (within .0) (within .1) (c .before .position-cell .ensures) (c .position-step .ensures)
+
+  facts : Near (start .args .s) (now (start .args .records)) (c .before .position-cell .result)
+  facts = let a = start .args in near (a .s) (now (a .records)) (wanted (a .q .«slope_axis»)) (c .before .position-cell .result) (placeAt (c .position-step .result)) (place .0)
 
 check-query-requires : tie.Need-check-query-requires
 check-query-requires c κs = search needs
@@ -39,36 +49,47 @@ position-cell-requires c κs = search needs
 position-step-requires : tie.Need-position-step-requires
 position-step-requires c κs = search needs
 
-read-cell-requires : tie.Need-read-cell-requires
-read-cell-requires c κs =
-    let e = c .before .before in
-    let a = start e .args in
-    let f = passed e in
-    let s = shaped (a .s) (asked-parts (a .s) (now (a .records)) (wanted (a .q .«slope_axis»)) (f .0) .0) in (
-      f .0,
-      (
-        subst (λ (p : Place). cellOutcome (a .s) p ≡ done tt) (sym (c .before .position-cell .ensures)) (position-cells (a .s) (positionAt (a .q .position)) s (f .1)),
-        subst (λ (p : Place). stepsOutcome (a .s) p ≡ done tt) (sym (c .position-step .ensures)) (position-steps (a .s) (positionAt (a .q .position)) s (f .1)),
-      ),
-    )
+lay-out-requires : tie.Need-lay-out-requires
+lay-out-requires c κs = (facts c .shape, facts c .here)
+
+corners-within-requires : tie.Need-corners-within-requires
+corners-within-requires c κs = let f = facts (c .before) in ((f .shape, f .long), (f .here, c .lay-out .ensures))
+
+answer-requires : tie.Need-answer-requires
+answer-requires c κs =
+    let w = c .before in
+    let l = w .before in
+    let u = l .before in
+    let a = start u .args in
+    ready (a .s) (now (a .records)) (wanted (a .q .«slope_axis»)) (u .before .position-cell .result) (placeAt (u .position-step .result)) (place u .0) (l .lay-out .result) (l .lay-out .ensures) (sym (w .corners-within .ensures) ∙ c .if1 .taken)
 
 returns : tie.Need-returns
 returns c =
+    let w = c .before .before in
+    let u = w .before .before in
+    let a = start u .args in
+    answered (a .s) (now (a .records)) (wanted (a .q .«slope_axis»)) (u .before .position-cell .result) (placeAt (u .position-step .result)) (sym (w .corners-within .ensures) ∙ c .before .if1 .taken) (c .answer .result) (c .answer .ok) (c .answer .ensures)
+    ∙ place u .1
+
+beyond-requires : tie.Need-beyond-requires
+beyond-requires c κs =
+    let w = c .before in
+    let f = facts (w .before .before) in
+    ((f .shape, f .long), ((f .here, w .before .lay-out .ensures), sym (w .corners-within .ensures) ∙ c .if1 .left))
+
+returns-2 : tie.Need-returns-2
+returns-2 c =
     let b = c .before .before .before in
     let a = b .before .before .args in
     let r = c .before .asked .given .0 .0 in
     sym (by-position-stops (a .s) (now (a .records)) (wanted (a .q .«slope_axis»)) (positionAt (a .q .position)) (r .number) (r .place)
     (sym (b .check-query .ensures (now (a .records)) refl) ∙ ap meaning (c .before .asked .given .1)))
 
-returns-2 : tie.Need-returns-2
-returns-2 c =
-    let e = c .before .before .before in
-    let a = start e .args in
-    let f = passed e in
-    c .read-cell .ensures
-    ∙ ap (λ (p : Place). reading (a .s) (now (a .records)) (wanted (a .q .«slope_axis»)) p (placeAt (c .before .position-step .result))) (c .before .before .position-cell .ensures)
-    ∙ ap (λ (p : Place). reading (a .s) (now (a .records)) (wanted (a .q .«slope_axis»)) (positionCell (a .s) (positionAt (a .q .position))) p) (c .before .position-step .ensures)
-    ∙ sym (by-position-reads (a .s) (now (a .records)) (wanted (a .q .«slope_axis»)) (positionAt (a .q .position)) (f .0) (f .1))
+returns-3 : tie.Need-returns-3
+returns-3 c =
+    let u = c .before .before .before .before in
+    let a = start u .args in
+    stopped (a .s) (now (a .records)) (wanted (a .q .«slope_axis»)) (u .before .position-cell .result) (placeAt (u .position-step .result)) _ (c .beyond .ensures) ∙ place u .1
 
 pub at-position-spec : {M : Type 1} → statement M
 at-position-spec =
@@ -79,6 +100,10 @@ at-position-spec =
     enum-told
     position-cell-requires
     position-step-requires
-    read-cell-requires
+    lay-out-requires
+    corners-within-requires
+    answer-requires
     returns
-    returns-2)
+    beyond-requires
+    returns-2
+    returns-3)

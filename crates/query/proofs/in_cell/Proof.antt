@@ -3,7 +3,7 @@ use denote.Ref.{now}
 use Rattle.lattice.specs.Answer.{meaning}
 use Rattle.cell.specs.Cell.{placeAt}
 use Rattle.evaluate.specs.Wants.{wanted}
-use Rattle.query.proofs.QueryLaws.{Passed, by-cell-passed, by-cell-stops, by-cell-reads}
+use Rattle.query.proofs.QueryLaws.{Passed, by-cell-passed, by-cell-stops, by-cell-reads, Near, near, ready, answered, stopped}
 use borrow.Author.Needs.{needs}
 use Rattle.query.proofs.in_cell.Statement.{statement}
 use Rattle.query.proofs.in_cell.Tie as tie
@@ -19,6 +19,9 @@ module _ (c : tie.After-enum-told) where
       by-cell-passed (a .s) (now (a .records)) (wanted (a .q .«slope_axis»)) (placeAt (a .q .cell)) (placeAt (a .q .step))
       (sym (c .before .before .check-cell-query .ensures (now (a .records)) refl) ∙ ap meaning (c .enum-told .given .1))
 
+  facts : Near (start .args .s) (now (start .args .records)) (start .args .q .cell)
+  facts = let a = start .args in near (a .s) (now (a .records)) (wanted (a .q .«slope_axis»)) (a .q .cell) (placeAt (a .q .step)) passed
+
 check-cell-query-requires : tie.Need-check-cell-query-requires
 check-cell-query-requires c κs = search needs
 
@@ -28,21 +31,47 @@ enum-known-asked c = search needs
 enum-told : tie.Need-enum-told
 enum-told c = search needs
 
-read-cell-requires : tie.Need-read-cell-requires
-read-cell-requires c κs = let f = passed c in (f .asked, (f .cells, f .inside))
+lay-out-requires : tie.Need-lay-out-requires
+lay-out-requires c κs = (facts c .shape, facts c .here)
+
+corners-within-requires : tie.Need-corners-within-requires
+corners-within-requires c κs = let f = facts (c .before) in ((f .shape, f .long), (f .here, c .lay-out .ensures))
+
+answer-requires : tie.Need-answer-requires
+answer-requires c κs =
+    let w = c .before in
+    let l = w .before in
+    let a = start (l .before) .args in
+    ready (a .s) (now (a .records)) (wanted (a .q .«slope_axis»)) (a .q .cell) (placeAt (a .q .step)) (passed (l .before)) (l .lay-out .result) (l .lay-out .ensures) (sym (w .corners-within .ensures) ∙ c .if1 .taken)
 
 returns : tie.Need-returns
 returns c =
+    let w = c .before .before in
+    let e = w .before .before in
+    let a = start e .args in
+    answered (a .s) (now (a .records)) (wanted (a .q .«slope_axis»)) (a .q .cell) (placeAt (a .q .step)) (sym (w .corners-within .ensures) ∙ c .before .if1 .taken) (c .answer .result) (c .answer .ok) (c .answer .ensures)
+    ∙ sym (by-cell-reads (a .s) (now (a .records)) (wanted (a .q .«slope_axis»)) (placeAt (a .q .cell)) (placeAt (a .q .step)) (passed e))
+
+beyond-requires : tie.Need-beyond-requires
+beyond-requires c κs =
+    let w = c .before in
+    let f = facts (w .before .before) in
+    ((f .shape, f .long), ((f .here, w .before .lay-out .ensures), sym (w .corners-within .ensures) ∙ c .if1 .left))
+
+returns-2 : tie.Need-returns-2
+returns-2 c =
     let b = c .before .before .before in
     let a = b .before .before .before .args in
     let r = c .before .asked .given .0 .0 in
     sym (by-cell-stops (a .s) (now (a .records)) (wanted (a .q .«slope_axis»)) (placeAt (a .q .cell)) (placeAt (a .q .step)) (r .number) (r .place)
     (sym (b .check-cell-query .ensures (now (a .records)) refl) ∙ ap meaning (c .before .asked .given .1)))
 
-returns-2 : tie.Need-returns-2
-returns-2 c =
-    let a = start (c .before) .args in
-    c .read-cell .ensures ∙ sym (by-cell-reads (a .s) (now (a .records)) (wanted (a .q .«slope_axis»)) (placeAt (a .q .cell)) (placeAt (a .q .step)) (passed (c .before)))
+returns-3 : tie.Need-returns-3
+returns-3 c =
+    let e = c .before .before .before .before in
+    let a = start e .args in
+    stopped (a .s) (now (a .records)) (wanted (a .q .«slope_axis»)) (a .q .cell) (placeAt (a .q .step)) _ (c .beyond .ensures)
+    ∙ sym (by-cell-reads (a .s) (now (a .records)) (wanted (a .q .«slope_axis»)) (placeAt (a .q .cell)) (placeAt (a .q .step)) (passed e))
 
 pub in-cell-spec : {M : Type 1} → statement M
 in-cell-spec =
@@ -51,6 +80,10 @@ in-cell-spec =
     check-cell-query-requires
     enum-known-asked
     enum-told
-    read-cell-requires
+    lay-out-requires
+    corners-within-requires
+    answer-requires
     returns
-    returns-2)
+    beyond-requires
+    returns-2
+    returns-3)

@@ -1,0 +1,186 @@
+-- The third demand, from what the two calls give: the stages' number from the records of the rules, for an accepted table and a query whose tests are passed.
+use mathlib.Core.Path.{_≡_, refl, sym, ap, _∙_}
+use mathlib.Core.List.{List}
+use mathlib.Core.Option.{none, some}
+use Prim.Native.Nat.{ℕ, _*_, _≤_, _<_}
+use lib.Dec.{ltb, eqb, lit<}
+use lib.ListN.{length, take}
+use lib.IntN.{ℤ}
+use borrow.Author.Tests.{ltb-true, lt-ltb}
+use Rattle.arith.specs.Int.{roundHalfUp}
+use Rattle.arith.proofs.Order.{pos-inj}
+use Rattle.arith.proofs.Round.{half-up-nearly}
+use Rattle.lattice.specs.declared.Shape.{Shape}
+use Rattle.lattice.specs.Outcome.{Outcome, Check, done, refused, refuseUnless, first}
+use Rattle.lattice.specs.Shape.{size, shapeOutcome, Shaped}
+use Rattle.lattice.proofs.OutcomeLaws.{first-done, first-passed, first-after, refused-first, done-same, refuse-done, passes}
+use Rattle.lattice.proofs.ShapeLaws.{orders-range}
+use Rattle.estimate.specs.Estimate.{Estimable, tableRecords, recordsOf, estimateOutcome, estimateWrites}
+use Rattle.estimate.proofs.CallLaws.{estimated, records-length}
+use Rattle.hermite.specs.Stage.{steps}
+use Rattle.evaluate.specs.Evaluate.{Want, dose, slopeAlong, lastAxis, answer, askAt}
+use Rattle.query.specs.Queries.{wantOutcome, askedOutcome, reading}
+use Rattle.query.proofs.QueryLaws.{last-used, asked-parts, asked-passes}
+use Rattle.float_query.specs.Answers.{Held, asDose, asSlope, inFloat}
+use Rattle.claims.specs.Third.{Query, queried, cellRead, stepRead, Reads, AcceptedTable, bothCalls, asked, Distance, Agreement, Locality, Askable, NoGap, Claimed, ThirdDemand}
+use Rattle.claims.proofs.General.{rejoined}
+use Rattle.claims.proofs.Distance.{Proper, distance}
+use Rattle.claims.proofs.Agree.{agreement}
+use Rattle.claims.proofs.Lent.{lent, reading-is, block-local}
+use Rattle.claims.proofs.Gates.{gate, by-gate, gated, gate-passes}
+
+-- ---- a slope along a used axis
+
+askable : (s : Shape) (want : Want) → wantOutcome s want ≡ done tt → Askable s want
+unfolding wantOutcome Askable
+askable s dose h = tt
+askable s (slopeAlong l) h = ltb-true l (s .axes) (refuse-done (ltb l (s .axes)) 12 0 h)
+
+want-passes : (s : Shape) (want : Want) → Askable s want → wantOutcome s want ≡ done tt
+unfolding wantOutcome Askable
+want-passes s dose h = refl
+want-passes s (slopeAlong l) h = passes (ltb l (s .axes)) 12 0 (lt-ltb l (s .axes) h)
+
+used-last : (s : Shape) (want : Want) → 1 ≤ s .axes → Askable s want → lastAxis (s .axes) want < s .axes
+used-last s want l h = last-used s want l (want-passes s want h)
+
+asked-known : (s : Shape) (rs : List ℤ) (want : Want) → askedOutcome s rs want ≡ done tt → Askable s want
+asked-known s rs want h = askable s want (asked-parts s rs want h .1)
+
+-- ---- what the two calls give
+
+-- what a query reads of the records that estimation wrote
+abbrev seen : Shape → List ℤ → Want → Query → Outcome ℤ
+seen s xs want q = reading s (recordsOf s xs) want (cellRead s q) (stepRead s q)
+
+module _ (s : Shape) (xs old : List ℤ) (taken : AcceptedTable s xs old) where
+  known : Estimable s xs (length old)
+  known = estimated s xs (length old) taken
+
+  -- the tests of the query, then what it reads
+  both-is : (want : Want) (q : Query) → bothCalls s xs old want q ≡ first (askedOutcome s (recordsOf s xs) want) (first (gate s q) (seen s xs want q))
+  unfolding bothCalls
+  both-is want q =
+      first-passed (estimateOutcome s xs (length old)) (queried s _ want q) taken
+      ∙ ap (λ (rs : List ℤ). queried s rs want q) (lent s xs old taken) ∙ by-gate s (recordsOf s xs) want q
+
+  askable-passes : (want : Want) → Askable s want → askedOutcome s (recordsOf s xs) want ≡ done tt
+  askable-passes want a = asked-passes s (recordsOf s xs) want (records-length s xs) (known .passed) (want-passes s want a)
+
+  -- what a query whose tests are passed reads
+  read-is : (want : Want) (q : Query) → Askable s want → gate s q ≡ done tt → seen s xs want q ≡ done (answer (asked s want q) (tableRecords s xs))
+  read-is want q a h = reading-is s xs (length old) known (cellRead s q) (gated s (known .shape) q h .accepted) want (stepRead s q) (used-last s want (known .shape .axes-low) a)
+
+  both-done : (want : Want) (q : Query) → Askable s want → gate s q ≡ done tt → bothCalls s xs old want q ≡ done (answer (asked s want q) (tableRecords s xs))
+  both-done want q a h =
+      both-is want q ∙ first-passed (askedOutcome s (recordsOf s xs) want) (first (gate s q) (seen s xs want q)) (askable-passes want a)
+      ∙ first-passed (gate s q) (seen s xs want q) h ∙ read-is want q a h
+
+-- the facts behind a dose or slope that is taken: neither call is refused
+record Taken (s : Shape) (xs old : List ℤ) (want : Want) (q : Query) (v : ℤ) : Type 0 where
+  table : AcceptedTable s xs old
+  can : Askable s want
+  passed : gate s q ≡ done tt
+  is : v ≡ answer (asked s want q) (tableRecords s xs)
+
+taken : (s : Shape) (xs old : List ℤ) (want : Want) (q : Query) (v : ℤ) → bothCalls s xs old want q ≡ done v → Taken s xs old want q v
+unfolding bothCalls
+taken s xs old want q v h =
+    let t = first-done (estimateOutcome s xs (length old)) (queried s _ want q) v h .0 in
+    let f = first-done (askedOutcome s (recordsOf s xs) want) (first (gate s q) (seen s xs want q)) v (sym (both-is s xs old t want q) ∙ h) in
+    let g = first-done (gate s q) (seen s xs want q) v (f .1) in
+    let a = asked-known s (recordsOf s xs) want (f .0) in
+    record { table = t; can = a; passed = g .0; is = done-same v _ (sym (g .1) ∙ read-is s xs old t want q a (g .0)) }
+
+proper : (s : Shape) (want : Want) (q : Query) → Shaped s → Askable s want → Reads s q → Proper (asked s want q)
+unfolding askAt
+proper s want q ok a r = record {
+  m-low = orders-range (s .degree) .0;
+  m-high = orders-range (s .degree) .1;
+  n-high = ok .axes-high;
+  some = lit< tt;
+  last = used-last s want (ok .axes-low) a;
+  inside = r .contains .upto;
+}
+
+-- ---- the parts of the demand
+
+module _ (s : Shape) (xs old : List ℤ) (want : Want) (q : Query) where
+  third-reads : (v : ℤ) → bothCalls s xs old want q ≡ done v → Reads s q
+  third-reads v h = let t = taken s xs old want q v h in gated s (known s xs old (t .table) .shape) q (t .passed)
+
+  sound : (v : ℤ) → bothCalls s xs old want q ≡ done v → Proper (asked s want q)
+  sound v h = let t = taken s xs old want q v h in proper s want q (known s xs old (t .table) .shape) (t .can) (third-reads v h)
+
+  pub third-distance : Distance s xs want q (bothCalls s xs old want q)
+  unfolding answer askAt
+  third-distance v h = rw (taken s xs old want q v h .is) (distance roundHalfUp half-up-nearly (asked s want q) (sound v h) (tableRecords s xs))
+
+  pub third-agreement : Agreement s xs want q (bothCalls s xs old want q)
+  unfolding answer askAt
+  third-agreement new r p v w c d h k =
+      taken s xs old want q v h .is
+      ∙ agreement roundHalfUp (asked s want q) (sound v h) (cellRead s r) (stepRead s r) (d .upto)
+      (λ a l. pos-inj (rejoined (p a) (steps * cellRead s q a) (stepRead s q a) (c .is a l) ∙ sym (rejoined (p a) (steps * cellRead s r a) (stepRead s r a) (d .is a l)))) (tableRecords s xs)
+      ∙ sym (taken s xs new want r w k .is)
+
+  pub third-locality : Locality s xs old want q (bothCalls s xs old want q)
+  unfolding askedOutcome
+  third-locality ys new t u same =
+      both-is s xs old t want q
+      ∙ ap (λ (n : ℕ). first (tests n) (first (gate s q) (seen s xs want q))) (records-length s xs ∙ sym (records-length s ys))
+      ∙ first-after (tests (length (recordsOf s ys))) (first (gate s q) (seen s xs want q)) (first (gate s q) (seen s ys want q))
+      (λ f. first-after (gate s q) (seen s xs want q) (seen s ys want q)
+      (λ g. let a = asked-known s (recordsOf s ys) want f in
+      read-is s xs old t want q a g
+      ∙ ap done (block-local s xs (length old) (known s xs old t) (cellRead s q) (gated s (known s xs old t .shape) q g .accepted) ys same want (stepRead s q) (used-last s want (known s xs old t .shape .axes-low) a))
+      ∙ sym (read-is s ys new u want q a g)))
+      ∙ sym (both-is s ys new u want q)
+    where
+      tests : ℕ → Check
+      tests n = first (shapeOutcome s) (first (refuseUnless (eqb n (size s)) 4 0) (wantOutcome s want))
+
+  pub third-no-gap : NoGap s xs old want q (bothCalls s xs old want q)
+  third-no-gap t a i = (_, both-done s xs old t want q a (gate-passes s (known s xs old t .shape) q i))
+
+-- for all tables and all queries
+pub third-demand : ThirdDemand
+third-demand s xs old want q = record {
+  reads = third-reads s xs old want q;
+  distance = third-distance s xs old want q;
+  agreement = third-agreement s xs old want q;
+  locality = third-locality s xs old want q;
+  no-gap = third-no-gap s xs old want q;
+}
+
+-- ---- for a function that makes the two calls
+
+-- the outcome of what is told
+outcomeOf : Outcome Held → Outcome ℤ
+outcomeOf (done (asDose (some v))) = done v
+outcomeOf (done (asSlope (some v))) = done v
+outcomeOf (done (asDose none)) = refused 0 0
+outcomeOf (done (asSlope none)) = refused 0 0
+outcomeOf (refused n p) = refused n p
+
+outcome-of : (want : Want) (o : Outcome ℤ) → outcomeOf (inFloat want o) ≡ o
+unfolding outcomeOf
+outcome-of dose (done v) = refl
+outcome-of (slopeAlong l) (done v) = refl
+outcome-of want (refused n p) = refl
+
+same-held : (want : Want) (o p : Outcome ℤ) → inFloat want o ≡ inFloat want p → o ≡ p
+same-held want o p e = sym (outcome-of want o) ∙ ap outcomeOf e ∙ outcome-of want p
+
+module _ (s : Shape) (xs old : List ℤ) (want : Want) (q : Query) where
+  pub both-refused : {n k : ℕ} → estimateOutcome s xs (length old) ≡ refused n k → refused n k ≡ bothCalls s xs old want q
+  unfolding bothCalls
+  both-refused e = sym (refused-first (queried s (take (size s) (estimateWrites s xs old)) want q) e)
+
+  pub both-asked : AcceptedTable s xs old → queried s (take (size s) (estimateWrites s xs old)) want q ≡ bothCalls s xs old want q
+  unfolding bothCalls
+  both-asked t = sym (first-passed (estimateOutcome s xs (length old)) (queried s (take (size s) (estimateWrites s xs old)) want q) t)
+
+  -- what the two calls give, told as a float or as a whole number
+  pub claimed-told : (told : Outcome Held) → told ≡ inFloat want (bothCalls s xs old want q) → (outcome : Outcome ℤ) → told ≡ inFloat want outcome → Claimed s xs old want q outcome
+  claimed-told told e outcome h = rw (same-held want outcome (bothCalls s xs old want q) (sym h ∙ e)) (third-demand s xs old want q)

@@ -1,0 +1,205 @@
+-- The tests of 14, 10 and 11 of the three kinds of query: what they say of the query's point and of the cell that it reads, and where they are passed.
+use mathlib.Core.Path.{_≡_, refl, sym, ap, _∙_}
+use mathlib.Core.Bool.{Bool, true, _&&_}
+use mathlib.Core.List.{List}
+use Prim.Native.Nat.{ℕ, _+_, _*_, _-_, _≤_, _<_}
+use native.Mathlib.Omega.{arith}
+use native.Mathlib.Decide.{decLt}
+use lib.Dec.{leb, ltb, eqb, leb→le}
+use lib.Ieee.{Float}
+use lib.Ieee.Scale.{finite}
+use lib.ListN.{getD}
+use lib.IntN.{ℤ, pos, negsuc, natAbs, _-ℤ_}
+use lib.Signed.{_≤ℤ_, nonNeg}
+use borrow.Author.Tests.{leb-true, eqb-true, lt-ltb, le-ltb, le-leb, eq-eqb}
+use Rattle.arith.specs.Choice.{pick}
+use Rattle.arith.proofs.Choices.{pick-true, pick-false}
+use Rattle.arith.proofs.Order.{nn-pos}
+use Rattle.lattice.specs.declared.Shape.{Shape}
+use Rattle.lattice.specs.Outcome.{Check, done, refuseUnless, first, firstOf}
+use Rattle.lattice.specs.Buffer.{at}
+use Rattle.lattice.specs.Shape.{count, Shaped}
+use Rattle.lattice.specs.Axes.{Place, OnUsed}
+use Rattle.lattice.proofs.OutcomeLaws.{first-done, first-passed, first-assoc, refuse-done, passes, firstOf-each, firstOf-passes}
+use Rattle.hermite.specs.Stage.{steps}
+use Rattle.cell.specs.Cell.{placeAt, indexOutcome, cellOutcome, Accepted}
+use Rattle.cell.proofs.CellLaws.{accepted}
+use Rattle.floats.specs.Step.{step}
+use Rattle.evaluate.specs.Evaluate.{Want}
+use Rattle.query.specs.Queries.{Position, positionAt, askedOutcome, reading, stepsOutcome, positionOutcome, cellOf, positionCell, positionStep, byCell, byPosition}
+use Rattle.query.proofs.QueryLaws.{in-cell}
+use Rattle.float_query.specs.Floats.{stepsOf, floatOutcome, byFloat}
+use Rattle.float_query.proofs.FloatLaws.{float-positions}
+use Rattle.claims.specs.Third.{Query, atPosition, inCell, atFloats, queried, pointOf, cellRead, stepRead, Point, Contains, Inside, Reads}
+use Rattle.claims.proofs.General.{less, le-pos}
+
+-- ---- one form for all queries
+
+unfoldable pub gate : Shape → Query → Check
+gate s (atPosition p) = firstOf 3 (positionOutcome s (positionAt p))
+gate s (inCell cell u) = first (cellOutcome s (placeAt cell)) (stepsOutcome s (placeAt u))
+gate s (atFloats x) = firstOf 3 (floatOutcome s x)
+
+pub by-gate : (s : Shape) (rs : List ℤ) (want : Want) (q : Query) → queried s rs want q ≡ first (askedOutcome s rs want) (first (gate s q) (reading s rs want (cellRead s q) (stepRead s q)))
+unfolding queried gate cellRead stepRead byCell byPosition byFloat
+by-gate s rs want (atPosition p) = refl
+by-gate s rs want (inCell cell u) = ap (first (askedOutcome s rs want)) (sym (first-assoc (cellOutcome s (placeAt cell)) (stepsOutcome s (placeAt u)) (reading s rs want (placeAt cell) (placeAt u))))
+by-gate s rs want (atFloats x) = refl
+
+-- ---- tests that differ on used and unused axes
+
+module _ (n number : ℕ) (x y : ℕ → Bool) where
+  abbrev sides : ℕ → Check
+  sides a = refuseUnless (pick (ltb a n) (x a) (y a)) number a
+
+  side-done : firstOf 3 sides ≡ done tt → (a : ℕ) → a < 3 → pick (ltb a n) (x a) (y a) ≡ true
+  side-done h a l = refuse-done (pick (ltb a n) (x a) (y a)) number a (firstOf-each 3 sides h a l)
+
+  used-done : firstOf 3 sides ≡ done tt → (a : ℕ) → a < 3 → a < n → x a ≡ true
+  used-done h a l k = sym (pick-true (ltb a n) (x a) (y a) (lt-ltb a n k)) ∙ side-done h a l
+
+  unused-done : firstOf 3 sides ≡ done tt → (a : ℕ) → a < 3 → n ≤ a → y a ≡ true
+  unused-done h a l k = sym (pick-false (ltb a n) (x a) (y a) (le-ltb a n k)) ∙ side-done h a l
+
+  sides-pass : ((a : ℕ) → a < n → x a ≡ true) → ((a : ℕ) → n ≤ a → y a ≡ true) → firstOf 3 sides ≡ done tt
+  sides-pass f g = firstOf-passes 3 sides (λ a l. passes (pick (ltb a n) (x a) (y a)) number a (go a (decLt a n)))
+    where
+      go : (a : ℕ) → Dec (a < n) → pick (ltb a n) (x a) (y a) ≡ true
+      go a (yes l) = pick-true (ltb a n) (x a) (y a) (lt-ltb a n l) ∙ f a l
+      go a (no k) = pick-false (ltb a n) (x a) (y a) (le-ltb a n (omega arith)) ∙ g a (omega arith)
+
+-- ---- a cell and u
+
+cell-passes : (s : Shape) (cell : Place) → Accepted s cell → cellOutcome s cell ≡ done tt
+unfolding cellOutcome indexOutcome
+cell-passes s cell h =
+    sides-pass (s .axes) 14 (λ a. leb (cell a + 2) (count s a)) (λ a. eqb (cell a) 0) (λ a k. le-leb (cell a + 2) (count s a) (h .used a k)) (λ a k. eq-eqb (cell a) 0 (h .unused a k))
+
+module _ (s : Shape) (xs : List ℕ) where
+  steps-pass : OnUsed (s .axes) (λ a i. i ≤ steps) (placeAt xs) → stepsOutcome s (placeAt xs) ≡ done tt
+  unfolding stepsOutcome
+  steps-pass h =
+      sides-pass (s .axes) 11 (λ a. leb (placeAt xs a) steps) (λ a. eqb (placeAt xs a) 0) (λ a k. le-leb (placeAt xs a) steps (h .used a k)) (λ a k. eq-eqb (placeAt xs a) 0 (h .unused a k))
+
+  steps-known : s .axes ≤ 3 → stepsOutcome s (placeAt xs) ≡ done tt → OnUsed (s .axes) (λ a i. i ≤ steps) (placeAt xs)
+  unfolding stepsOutcome placeAt
+  steps-known high h = record {
+    used = λ a l. leb-true (placeAt xs a) steps (used-done (s .axes) 11 (λ a. leb (placeAt xs a) steps) (λ a. eqb (placeAt xs a) 0) h a (omega arith) l);
+    unused = λ a l. go a l (decLt a 3);
+  }
+    where
+      go : (a : ℕ) → s .axes ≤ a → Dec (a < 3) → placeAt xs a ≡ 0
+      go a l (yes k) = eqb-true (placeAt xs a) 0 (unused-done (s .axes) 11 (λ a. leb (placeAt xs a) steps) (λ a. eqb (placeAt xs a) 0) h a k l)
+      go a l (no k) = pick-false (ltb a 3) (getD xs a 0) 0 (le-ltb a 3 (omega arith))
+
+cell-reads : (s : Shape) (cell u : Place) → Accepted s cell → OnUsed (s .axes) (λ a i. i ≤ steps) u → Point s (λ a. pos (steps * cell a + u a)) × Contains s cell u (λ a. pos (steps * cell a + u a))
+cell-reads s cell u h k = (
+  record {
+    low = λ a l. nn-pos (steps * cell a + u a);
+    high = λ a l. let i = h .used a l in let j = k .used a l in le-pos (omega arith);
+    unused = λ a l. let e = h .unused a l in let f = k .unused a l in ap pos (omega arith);
+  },
+  record { is = λ a l. less (steps * cell a) (u a); upto = k .used },
+)
+
+-- ---- a position
+
+-- the test of 11 on one axis
+range-test : (z : ℤ) (B : ℕ) → pos 0 ≤ℤ z → z ≤ℤ pos B → (nonNeg z && leb (natAbs z) B) ≡ true
+range-test (pos n) B h k = le-leb n B (leb→le n B (k .le))
+range-test (negsuc n) B h k = absurd (h .le)
+
+range-known : (z : ℤ) (B : ℕ) → (nonNeg z && leb (natAbs z) B) ≡ true → (pos 0 ≤ℤ z) × (z ≤ℤ pos B)
+range-known (pos n) B h = (nn-pos n, le-pos (leb-true n B h))
+range-known (negsuc n) B h = let z : _≡_ {A = ℕ} 0 1 = cc in absurd (omega arith)
+
+whole : (z : ℤ) (B : ℕ) → pos 0 ≤ℤ z → z ≤ℤ pos B → (z ≡ pos (natAbs z)) × (natAbs z ≤ B)
+whole (pos n) B h k = (refl, leb→le n B (k .le))
+whole (negsuc n) B h k = absurd (h .le)
+
+module _ (s : Shape) (ok : Shaped s) (p : Position) where
+  abbrev last : ℕ → ℕ
+  last a = steps * (count s a - 1)
+
+  abbrev test : ℕ → Bool
+  test a = nonNeg (p a) && leb (natAbs (p a)) (last a)
+
+  point-passes : Point s p → firstOf 3 (positionOutcome s p) ≡ done tt
+  unfolding positionOutcome
+  point-passes h = firstOf-passes 3 (positionOutcome s p) (λ a l. passes (test a) 11 a (go a (decLt a (s .axes))))
+    where
+      go : (a : ℕ) → Dec (a < s .axes) → test a ≡ true
+      go a (yes l) = range-test (p a) (last a) (h .low a l) (h .high a l)
+      go a (no k) = rw (h .unused a (omega arith)) (le-leb 0 (last a) (omega arith))
+
+  module _ (beyond : (a : ℕ) → 3 ≤ a → p a ≡ pos 0) (h : firstOf 3 (positionOutcome s p) ≡ done tt) where
+    tested : (a : ℕ) → a < 3 → (pos 0 ≤ℤ p a) × (p a ≤ℤ pos (last a))
+    unfolding positionOutcome
+    tested a l = range-known (p a) (last a) (refuse-done (test a) 11 a (firstOf-each 3 (positionOutcome s p) h a l))
+
+    point-known : Point s p
+    point-known = record { low = λ a l. tested a (below l) .0; high = λ a l. tested a (below l) .1; unused = λ a l. go a l (decLt a 3) }
+      where
+        below : {a : ℕ} → a < s .axes → a < 3
+        below l = let k = ok .axes-high in omega arith
+
+        go : (a : ℕ) → s .axes ≤ a → Dec (a < 3) → p a ≡ pos 0
+        go a l (yes k) =
+            let f = whole (p a) (last a) (tested a k .0) (tested a k .1) in
+            let e = ok .unused a k l in
+            f .0 ∙ ap pos (let i = f .1 in omega arith)
+        go a l (no k) = beyond a (omega arith)
+
+  module _ (h : Point s p) where
+    position-cell : Accepted s (positionCell s p)
+    unfolding positionCell cellOf
+    position-cell = record {
+      used = λ a l. in-cell (count s a) (natAbs (p a)) (ok .used a l) (whole (p a) (last a) (h .low a l) (h .high a l) .1) .0;
+      unused = λ a l. rw (h .unused a l) (omega arith);
+    }
+
+    position-contains : Contains s (positionCell s p) (positionStep s p) p
+    unfolding positionCell positionStep
+    position-contains = record {
+      is = λ a l. is a (whole (p a) (last a) (h .low a l) (h .high a l) .0) (inside a l .1);
+      upto = λ a l. inside a l .2;
+    }
+      where
+        inside : (a : ℕ) → a < s .axes → (positionCell s p a + 2 ≤ count s a) × (steps * positionCell s p a ≤ natAbs (p a)) × (positionStep s p a ≤ steps)
+        inside a l = in-cell (count s a) (natAbs (p a)) (ok .used a l) (whole (p a) (last a) (h .low a l) (h .high a l) .1)
+
+        is : (a : ℕ) → p a ≡ pos (natAbs (p a)) → steps * positionCell s p a ≤ natAbs (p a) → p a -ℤ pos (steps * positionCell s p a) ≡ pos (positionStep s p a)
+        is a e k =
+            let f : natAbs (p a) ≡ steps * positionCell s p a + positionStep s p a = omega arith in
+            ap (λ (z : ℤ). z -ℤ pos (steps * positionCell s p a)) (e ∙ ap pos f) ∙ less (steps * positionCell s p a) (positionStep s p a)
+
+-- ---- floats
+
+floats-pass : (s : Shape) (x : ℕ → Float) → ((a : ℕ) → a < 3 → finite (x a) ≡ true) → firstOf 3 (positionOutcome s (stepsOf x)) ≡ done tt → firstOf 3 (floatOutcome s x) ≡ done tt
+unfolding floatOutcome
+floats-pass s x f h = firstOf-passes 3 (floatOutcome s x) (λ a l. first-passed (refuseUnless (finite (x a)) 10 a) (positionOutcome s (stepsOf x) a) (passes (finite (x a)) 10 a (f a l)) ∙ firstOf-each 3 (positionOutcome s (stepsOf x)) h a l)
+
+-- ---- all queries
+
+module _ (s : Shape) (ok : Shaped s) where
+  -- a query whose tests are passed reads an accepted cell, which contains its point
+  pub gated : (q : Query) → gate s q ≡ done tt → Reads s q
+  unfolding gate pointOf cellRead stepRead positionAt stepsOf
+  gated (atPosition xs) h =
+      let k = point-known s ok (positionAt xs) (λ a l. pick-false (ltb a 3) (at xs a) (pos 0) (le-ltb a 3 l)) h in
+      record { point = k; accepted = position-cell s ok (positionAt xs) k; contains = position-contains s ok (positionAt xs) k }
+  gated (inCell cell u) h =
+      let f = first-done (cellOutcome s (placeAt cell)) (stepsOutcome s (placeAt u)) tt h in
+      let k = accepted s cell (ok .axes-high) (f .0) in
+      let r = cell-reads s (placeAt cell) (placeAt u) k (steps-known s u (ok .axes-high) (f .1)) in
+      record { point = r .0; accepted = k; contains = r .1 }
+  gated (atFloats x) h =
+      let k = point-known s ok (stepsOf x) (λ a l. pick-false (ltb a 3) (step steps (x a)) (pos 0) (le-ltb a 3 l)) (float-positions s x h) in
+      record { point = k; accepted = position-cell s ok (stepsOf x) k; contains = position-contains s ok (stepsOf x) k }
+
+  -- every step of the table, and every accepted cell with every u, passes
+  pub gate-passes : (q : Query) → Inside s q → gate s q ≡ done tt
+  unfolding gate Inside
+  gate-passes (atPosition xs) h = point-passes s ok (positionAt xs) h
+  gate-passes (inCell cell u) h = first-passed (cellOutcome s (placeAt cell)) (stepsOutcome s (placeAt u)) (cell-passes s (placeAt cell) (h .0)) ∙ steps-pass s u (h .1)
+  gate-passes (atFloats x) h = floats-pass s x (h .0) (point-passes s ok (stepsOf x) (h .1))

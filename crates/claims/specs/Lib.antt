@@ -1,0 +1,4 @@
+-- Reading order: Third, Calls, Examples.
+pub mod Third
+pub mod Calls
+pub mod Examples

@@ -1,0 +1,104 @@
+// Estimation and then a query, with the third demand as the promise.
+ghost use mathlib.Core.Path.{_≡_};
+ghost use lib.IntN.{ℤ};
+ghost use Rattle.lattice.specs.Outcome.{Outcome};
+ghost use Rattle.estimate.specs.Estimate.{estimateWrites};
+ghost use Rattle.cell.specs.Cell.{placeAt};
+ghost use Rattle.evaluate.specs.Wants.{wanted};
+ghost use Rattle.query.specs.Answers.{told};
+ghost use Rattle.query.specs.Queries.{positionAt, byPosition, byCell};
+ghost use Rattle.claims.specs.Third.{queried, bothCalls, Claimed};
+ghost use Rattle.claims.specs.Calls.{stepsIn, indicesIn, queryOf, Gives};
+use evaluate::SlopeAxis;
+use float_query::FloatPosition;
+use float_query::FloatReading;
+use lattice::Answer;
+use lattice::Refusal;
+use lattice::Shape;
+use query::CellQuery;
+use query::Query;
+use query::Reading;
+
+// A table position on each axis.
+pub struct Steps {
+    pub x: i32,
+    pub y: i32,
+    pub z: i32,
+}
+
+// A cell index or an in-cell step on each axis.
+pub struct Indices {
+    pub x: u32,
+    pub y: u32,
+    pub z: u32,
+}
+
+// A query by position, by cell and in-cell step, or by float.
+pub enum Question {
+    Position(Steps),
+    Cell(Indices, Indices),
+    Floats(FloatPosition),
+}
+
+// What a query gives, or the refusal of estimation.
+pub enum Reply {
+    Whole(Reading),
+    Float(FloatReading),
+    Refused(Refusal),
+}
+
+// The query by position.
+fn by_position(s: Shape, records: &[i32], p: Steps, slope_axis: SlopeAxis) -> Reading
+    ensures { λ r. ⌜ told r ≡ byPosition s (now (records .entry)) (wanted «slope_axis») (positionAt (stepsIn p)) ⌝ }
+{
+    let q = Query {
+        position: [p.x, p.y, p.z],
+        slope_axis: slope_axis,
+    };
+    query::at_position(s, records, q)
+}
+
+// The query by cell and in-cell step.
+fn by_cell(s: Shape, records: &[i32], c: Indices, u: Indices, slope_axis: SlopeAxis) -> Reading
+    ensures { λ r. ⌜ told r ≡ byCell s (now (records .entry)) (wanted «slope_axis») (placeAt (indicesIn c)) (placeAt (indicesIn u)) ⌝ }
+{
+    let q = CellQuery {
+        cell: [c.x, c.y, c.z],
+        step: [u.x, u.y, u.z],
+        slope_axis: slope_axis,
+    };
+    query::in_cell(s, records, q)
+}
+
+// The query that a question stands for.
+fn ask(s: Shape, records: &[i32], q: Question, slope_axis: SlopeAxis) -> Reply
+    ensures { λ r. ⌜ Gives (wanted «slope_axis») r (queried s (now (records .entry)) (wanted «slope_axis») (queryOf q)) ⌝ }
+{
+    match q {
+        Question::Position(p) => Reply::Whole(by_position(s, records, p, slope_axis)),
+        Question::Cell(c, u) => Reply::Whole(by_cell(s, records, c, u, slope_axis)),
+        Question::Floats(p) => Reply::Float(float_query::at_float(s, records, p, slope_axis)),
+    }
+}
+
+// Estimation, then a query, which is lent exactly the records that estimation wrote.
+pub fn estimate_and_ask(
+    s: Shape,
+    samples: &[i32],
+    records: &mut [i32],
+    q: Question,
+    slope_axis: SlopeAxis,
+) -> Reply
+    ensures given { λ r. ⌜ Gives (wanted «slope_axis») r (bothCalls s (now (samples .entry)) (now (records .entry)) (wanted «slope_axis») (queryOf q)) ⌝ }
+    ensures written { λ r. ⌜ now (records .exit) ≡ estimateWrites s (now (samples .entry)) (now (records .entry)) ⌝ }
+    ensures claimed { λ r. ⌜ ((outcome : Outcome ℤ) → Gives (wanted «slope_axis») r outcome → Claimed s (now (samples .entry)) (now (records .entry)) (wanted «slope_axis») (queryOf q) outcome) ⌝ }
+{
+    let answer = estimate::estimate(s, samples, records);
+    match answer {
+        Answer::Refused(r) => Reply::Refused(r),
+        Answer::Done => {
+            let n = lattice::table_entries(s);
+            ask(s, &records[..n], q, slope_axis)
+        }
+    }
+}

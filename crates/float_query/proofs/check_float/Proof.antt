@@ -1,0 +1,30 @@
+use mathlib.Core.Path.{ap, ap₂, _∙_}
+use lib.IntN.{ℤ}
+use Rattle.arith.proofs.Machine.{element}
+use Rattle.lattice.specs.Outcome.{Check, first}
+use Rattle.query.specs.Queries.{positionOutcome}
+use Rattle.float_query.specs.Floats.{heldOutcome}
+use borrow.Author.Needs.{needs}
+use Rattle.float_query.proofs.check_float.Statement.{statement}
+use Rattle.float_query.proofs.check_float.Tie as tie
+
+refuse-unless-requires : tie.Need-refuse-unless-requires
+refuse-unless-requires c κs = search needs
+
+check-coordinate-requires : tie.Need-check-coordinate-requires
+check-coordinate-requires c κs = search needs
+
+earlier-requires : tie.Need-earlier-requires
+earlier-requires c κs = search needs
+
+returns : tie.Need-returns
+unfolding heldOutcome
+returns c =
+    let b = c .before .before .before .before in
+    let k = element (b .args .f .step) (b .good .1 .0 .1 .1 .1 .0 .1) in
+    c .earlier .ensures
+    ∙ ap₂ (λ (o p : Check). first o p) (c .before .before .before .refuse-unless .ensures)
+    (c .before .check-coordinate .ensures ∙ ap (λ (z : ℤ). positionOutcome (b .args .s) (λ a. z) (b .args .axis)) k)
+
+pub check-float-spec : {M : Type 1} → statement M
+check-float-spec = tie.close (tie.spec refuse-unless-requires check-coordinate-requires earlier-requires returns)

@@ -1,0 +1,80 @@
+use mathlib.Core.Path.{_≡_, sym, ap, subst, _∙_}
+use mathlib.Core.Option.{some}
+use Prim.Native.Nat.{_<_, _^_}
+use native.Mathlib.Nat.{lt-of-lt-of-le}
+use lib.Dec.{lit≤}
+use lib.IntN.{ℤ, natAbs}
+use mir.Syntax.{w32}
+use mir.Val.{toZ, ofZ}
+use mir.Facts.{toZ-ofZ}
+use Rattle.arith.proofs.Abs.{sfits-abs}
+use Rattle.lattice.specs.Outcome.{done}
+use Rattle.evaluate.specs.Evaluate.{dose, slopeAlong}
+use Rattle.evaluate.specs.Wants.{wanted}
+use Rattle.query.specs.Answers.{told}
+use Rattle.float_query.specs.Answers.{asDose, asSlope, inFloat}
+use borrow.Author.Needs.{needs}
+use Rattle.float_query.proofs.in_float.Statement.{statement}
+use Rattle.float_query.proofs.in_float.Tie as tie
+
+-- the whole number
+module _ (c : tie.After-known-told2) where
+  abbrev start : tie.Start
+  start = c .before .before .before
+
+  abbrev v : ℤ
+  v = c .before .a2 .given .0 .0
+
+  is : told (start .args .a) ≡ done v
+  is = ap told (c .before .a2 .given .1)
+
+  small : natAbs v < 2 ^ 24
+  small = start .pre v is
+
+  read : toZ w32 (ofZ w32 v) ≡ v
+  read = toZ-ofZ {w = w32} (sfits-abs v (lt-of-lt-of-le small (lit≤ tt)))
+
+enum-known-a : tie.Need-enum-known-a
+enum-known-a c = search needs
+
+enum-known-a-2 : tie.Need-enum-known-a-2
+enum-known-a-2 c = search needs
+
+whole-requires : tie.Need-whole-requires
+whole-requires c κs = subst (λ z. natAbs z < 2 ^ 24) (sym (read c)) (small c)
+
+enum-told : tie.Need-enum-told
+enum-told c = search needs
+
+enum-told-2 : tie.Need-enum-told-2
+enum-told-2 c = search needs
+
+returns : tie.Need-returns
+returns c = let a = c .before .before .before .args in sym (ap (λ z. inFloat (wanted (a .slope-axis)) (told z)) (c .before .a .given .1))
+
+returns-2 : tie.Need-returns-2
+returns-2 c =
+    let k = c .before .before .before in
+    let a = start k .args in
+    ap (λ z. done (asDose z)) (c .before .before .whole .ensures ∙ ap some (read k))
+    ∙ sym (ap (λ z. inFloat z (told (a .a))) (ap wanted (c .enum-told .given .1)) ∙ ap (inFloat dose) (is k))
+
+returns-3 : tie.Need-returns-3
+returns-3 c =
+    let k = c .before .before .before in
+    let a = start k .args in
+    ap (λ z. done (asSlope z)) (c .before .before .whole .ensures ∙ ap some (read k))
+    ∙ sym (ap (λ z. inFloat z (told (a .a))) (ap wanted (c .enum-told2 .given .1)) ∙ ap (inFloat (slopeAlong _)) (is k))
+
+pub in-float-spec : {M : Type 1} → statement M
+in-float-spec =
+    tie.close
+    (tie.spec
+    enum-known-a
+    enum-known-a-2
+    whole-requires
+    enum-told
+    enum-told-2
+    returns
+    returns-2
+    returns-3)

@@ -1,0 +1,40 @@
+-- Queries by float: each of three floats, in cells, becomes the step nearest to 256 times its exact value, halves up.
+use mathlib.Core.List.{List}
+use Prim.Native.Nat.{ℕ, zero, suc}
+use lib.Dec.{ltb}
+use lib.Ieee.{Float}
+use lib.Ieee.Scale.{finite}
+use lib.IntN.{ℤ, pos}
+use Rattle.arith.specs.Choice.{pick}
+use Rattle.lattice.specs.declared.Shape.{Shape}
+use Rattle.lattice.specs.Outcome.{Outcome, Check, refuseUnless, first, firstOf}
+use Rattle.hermite.specs.Stage.{steps}
+use Rattle.floats.specs.declared.FloatStep.{FloatStep}
+use Rattle.floats.specs.Step.{step}
+use Rattle.evaluate.specs.Evaluate.{Want}
+use Rattle.query.specs.Queries.{Position, askedOutcome, positionOutcome, positionCell, positionStep, reading}
+use Rattle.float_query.specs.declared.FloatPosition.{FloatPosition}
+
+-- the float on each axis
+unfoldable pub floatsAt : FloatPosition → ℕ → Float
+floatsAt p zero = p .x
+floatsAt p (suc zero) = p .y
+floatsAt p (suc (suc a)) = p .z
+
+-- the steps that three floats become
+unfoldable pub stepsOf : (ℕ → Float) → Position
+stepsOf x a = pick (ltb a 3) (step steps (x a)) (pos 0)
+
+-- 10: NaN or infinite; then 11, which looks at the step; place is the axis
+unfoldable pub floatOutcome : Shape → (ℕ → Float) → ℕ → Check
+floatOutcome s x a = first (refuseUnless (finite (x a)) 10 a) (positionOutcome s (stepsOf x) a)
+
+-- for each axis 10 before 11, then 5
+unfoldable pub byFloat : Shape → List ℤ → Want → (ℕ → Float) → Outcome ℤ
+byFloat s rs want x =
+    first (askedOutcome s rs want)
+    (first (firstOf 3 (floatOutcome s x)) (reading s rs want (positionCell s (stepsOf x)) (positionStep s (stepsOf x))))
+
+-- 10 and 11 of a float whose step is held in 32 bits
+unfoldable pub heldOutcome : Shape → FloatStep → ℕ → Check
+heldOutcome s f a = first (refuseUnless (f .finite) 10 a) (positionOutcome s (λ b. f .step) a)

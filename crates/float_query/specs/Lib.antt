@@ -1,0 +1,3 @@
+-- Reading order: Floats, Answers.
+pub mod Floats
+pub mod Answers

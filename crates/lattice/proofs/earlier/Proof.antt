@@ -1,0 +1,34 @@
+use mathlib.Core.Path.{sym, ap, _∙_}
+use Rattle.lattice.specs.Answer.{meaning}
+use Rattle.lattice.specs.Outcome.{first}
+use Rattle.lattice.proofs.OutcomeLaws.{refused-first, first-passed}
+use borrow.Author.Needs.{needs}
+use Rattle.lattice.proofs.earlier.Statement.{statement}
+use Rattle.lattice.proofs.earlier.Tie as tie
+
+enum-known-a : tie.Need-enum-known-a
+enum-known-a c = search needs
+
+enum-told : tie.Need-enum-told
+enum-told c = search needs
+
+enum-known-b : tie.Need-enum-known-b
+enum-known-b c = search needs
+
+enum-told-2 : tie.Need-enum-told-2
+enum-told-2 c = search needs
+
+returns : tie.Need-returns
+returns c = sym (refused-first _ (ap meaning (c .before .a .given .1)))
+
+returns-2 : tie.Need-returns-2
+returns-2 c =
+    sym (first-passed _ _ (ap meaning (c .before .before .before .enum-told .given .1)) ∙ ap meaning (c .before .b .given .1))
+
+returns-3 : tie.Need-returns-3
+returns-3 c = sym (first-passed _ _ (ap meaning (c .before .before .enum-told .given .1)) ∙ ap meaning (c .enum-told2 .given .1))
+
+pub earlier-spec : {M : Type 1} → statement M
+earlier-spec =
+    tie.close
+    (tie.spec enum-known-a enum-told enum-known-b enum-told-2 returns returns-2 returns-3)

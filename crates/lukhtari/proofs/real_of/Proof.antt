@@ -1,0 +1,41 @@
+use mathlib.Core.Path.{_≡_, refl, sym, ap, _∙_}
+use mathlib.Core.Option.{Option, some}
+use Prim.Native.Nat.{ℕ}
+use lib.Ieee.{ofBits, binary32}
+use lib.IntN.{ℤ, pos}
+use Rattle.arith.specs.Choice.{pick}
+use Rattle.floats.specs.Whole.{wholeOf}
+use Rattle.float_query.specs.Answers.{toldFloat}
+use Rattle.lukhtari.specs.Host.{Seen, realOf}
+use borrow.Author.Needs.{needs}
+use Rattle.lukhtari.proofs.real_of.Statement.{statement}
+use Rattle.lukhtari.proofs.real_of.Tie as tie
+
+-- the float that a refused result holds
+nought : wholeOf (ofBits binary32 0) ≡ some (pos 0)
+unfolding wholeOf pick ofBits
+nought = refl
+
+enum-known-a : tie.Need-enum-known-a
+enum-known-a c = search needs
+
+enum-known-a-2 : tie.Need-enum-known-a-2
+enum-known-a-2 c = search needs
+
+enum-known-a-3 : tie.Need-enum-known-a-3
+enum-known-a-3 c = search needs
+
+returns : tie.Need-returns
+returns c = ap (λ a. realOf (toldFloat a)) (sym (c .before .a .given .1))
+
+returns-2 : tie.Need-returns-2
+returns-2 c = ap (λ a. realOf (toldFloat a)) (sym (c .before .a2 .given .1))
+
+returns-3 : tie.Need-returns-3
+returns-3 c =
+    let r = c .before .a3 .given .0 .0 in
+    ap (λ (w : Option ℤ). record { number = r .number; place = r .place; value = w }) nought ∙ ap (λ a. realOf (toldFloat a)) (sym (c .before .a3 .given .1))
+
+pub real-of-spec : {M : Type 1} → statement M
+real-of-spec =
+    tie.close (tie.spec enum-known-a enum-known-a-2 enum-known-a-3 returns returns-2 returns-3)

@@ -1,0 +1,25 @@
+use mathlib.Core.Path.{_≡_, sym, ap, _∙_}
+use Rattle.lattice.specs.Answer.{meaning}
+use Rattle.lattice.proofs.OutcomeLaws.{refused-first, passed-not}
+use borrow.Author.Needs.{needs}
+use Rattle.query.proofs.beyond.Statement.{statement}
+use Rattle.query.proofs.beyond.Tie as tie
+
+check-corners-requires : tie.Need-check-corners-requires
+check-corners-requires c κs = search needs
+
+enum-known-tested : tie.Need-enum-known-tested
+enum-known-tested c = search needs
+
+enum-told : tie.Need-enum-told
+enum-told c = search needs
+
+returns : tie.Need-returns
+returns c = λ v. sym (refused-first _ (sym (c .before .before .before .check-corners .ensures) ∙ ap meaning (c .before .tested .given .1)))
+
+returns-2 : tie.Need-returns-2
+returns-2 c = absurd (passed-not _ (c .before .before .before .pre .1 .1) (sym (c .before .before .check-corners .ensures) ∙ ap meaning (c .enum-told .given .1)))
+
+pub beyond-spec : {M : Type 1} → statement M
+beyond-spec =
+    tie.close (tie.spec check-corners-requires enum-known-tested enum-told returns returns-2)

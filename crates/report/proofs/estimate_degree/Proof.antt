@@ -1,0 +1,46 @@
+-- `estimate_degree` meets its contract: the records stand at the front.
+use mathlib.Core.Path.{refl, ap, _∙_}
+use Prim.Native.Nat.{ℕ}
+use native.Mathlib.Omega.{arith}
+use lib.IntN.{ℤ}
+use lib.ListN.{length, take}
+use denote.Ref.{now}
+use Rattle.lattice.specs.declared.Shape.{Shape}
+use Rattle.lattice.specs.Shape.{size}
+use Rattle.estimate.specs.Estimate.{Estimable}
+use Rattle.estimate.proofs.CallLaws.{estimated}
+use Rattle.table_file.specs.File.{header}
+use Rattle.report.specs.Report.{shapeOf}
+use Rattle.report.proofs.DoseLaws.{front}
+use borrow.Author.Needs.{needs}
+use Rattle.report.proofs.estimate_degree.Statement.{statement}
+use Rattle.report.proofs.estimate_degree.Tie as tie
+
+module _ (c : tie.Start) where
+  abbrev shape : Shape
+  shape = shapeOf (header (c .args .axes) (c .args .counts)) (c .args .degree)
+
+  known : Estimable shape (now (c .args .samples)) (length (now (c .args .records)))
+  known = estimated shape (now (c .args .samples)) (length (now (c .args .records))) (c .pre)
+
+estimate-requires : tie.Need-estimate-requires
+estimate-requires c κs = search needs
+
+table-entries-requires : tie.Need-table-entries-requires
+table-entries-requires c κs = known (c .before .before .before) .shape
+
+same-length : tie.Need-same-length
+same-length c = search needs
+
+returns : tie.Need-returns
+returns c =
+    let s = c .before .before .before .before in
+    let p = c .before .before .estimate in
+    let e = c .table-entries .ensures in (
+      omega (arith, known s .fits, p .kept .1 .1 .0),
+      ap (λ (k : ℕ). take k (p .last .1 .1 .0)) e ∙ ap (take (size (shape s))) (p .ensures .1) ∙ front (shape s) (now (s .args .samples)) (length (now (s .args .records))) (s .pre) (now (s .args .records)) refl,
+    )
+
+pub estimate-degree-spec : {M : Type 1} → statement M
+estimate-degree-spec =
+    tie.close (tie.spec estimate-requires table-entries-requires same-length returns)

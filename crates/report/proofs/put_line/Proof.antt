@@ -1,0 +1,69 @@
+-- `put_line` meets its contract: two doses and a line.
+use mathlib.Core.Path.{_≡_, ap, _∙_}
+use mathlib.Core.List.{List}
+use Prim.Native.Nat.{ℕ, _+_, _≤_}
+use native.Mathlib.Omega.{arith}
+use lib.IntN.{ℤ}
+use lib.ListN.{length}
+use lib.Seq.{sets}
+use denote.Ref.{now}
+use mir.Syntax.{w32}
+use mir.Val.{toZ, ofZ}
+use Rattle.arith.proofs.Machine.{element}
+use Rattle.query.proofs.Locate.{size-low}
+use Rattle.table_file.specs.File.{header}
+use Rattle.text.specs.Lines.{cellLine}
+use Rattle.report.specs.Parts.{lineFrom, lineLimit}
+use Rattle.report.proofs.CellsLaws.{any-degree}
+use Rattle.report.proofs.LineLaws.{line-short}
+use borrow.Author.Needs.{needs}
+use Rattle.report.proofs.put_line.Statement.{statement}
+use Rattle.report.proofs.put_line.Tie as tie
+
+-- the line of the two doses
+module _ (c : tie.After-dose-at2) where
+  abbrev start : tie.Start
+  start = c .before .before .before
+
+  abbrev low : ℤ
+  low = toZ w32 (ofZ w32 (c .before .dose-at .result))
+
+  abbrev high : ℤ
+  high = toZ w32 (ofZ w32 (c .dose-at2 .result))
+
+  short : length (cellLine (start .args .cell) low high) ≤ lineLimit
+  short =
+      rw (element (c .before .dose-at .result) (c .before .dose-at .ok), element (c .dose-at2 .result) (c .dose-at2 .ok))
+      (line-short (start .args .cell) (c .before .dose-at .result) (c .dose-at2 .result) (start .pre .1 .1) (size-low (c .before .dose-at .result) (c .before .dose-at .ok)) (size-low (c .dose-at2 .result) (c .dose-at2 .ok)))
+
+  line : cellLine (start .args .cell) low high ≡ lineFrom (header (start .args .axes) (start .args .counts)) (now (start .args .cubic)) (now (start .args .quintic)) (start .args .cell)
+  unfolding lineFrom
+  line =
+      rw (element (c .before .dose-at .result) (c .before .dose-at .ok), element (c .dose-at2 .result) (c .dose-at2 .ok))
+      (ap (λ (z : ℤ). cellLine (start .args .cell) z (c .dose-at2 .result)) (c .before .dose-at .ensures) ∙ ap (cellLine (start .args .cell) _) (c .dose-at2 .ensures))
+
+dose-at-requires : tie.Need-dose-at-requires
+dose-at-requires c κs = search needs
+
+dose-at-requires-2 : tie.Need-dose-at-requires-2
+dose-at-requires-2 c κs = let b = c .before .before in (b .pre .0 .1, any-degree (header (b .args .axes) (b .args .counts)) 3 5 (b .args .cell) (b .pre .1 .0))
+
+put-cell-line-requires : tie.Need-put-cell-line-requires
+put-cell-line-requires c κs = let b = start (c .before) in let s = short (c .before) in omega (arith, b .pre .1 .2)
+
+same-length : tie.Need-same-length
+same-length c = search needs
+
+returns : tie.Need-returns
+returns c =
+    let p = c .before .before .put-cell-line in
+    let d = c .before .before .before .before in
+    let b = start d in
+    let s = short d in
+    let e = line d in
+    ((p .ensures .0 ∙ ap (λ (l : List ℕ). b .args .at + length l) e, omega (arith, p .ensures .0)), p .ensures .1 ∙ ap (λ (l : List ℕ). sets (now (b .args .out)) (b .args .at) l) e)
+
+pub put-line-spec : {M : Type 1} → statement M
+put-line-spec =
+    tie.close
+    (tie.spec dose-at-requires dose-at-requires-2 put-cell-line-requires same-length returns)

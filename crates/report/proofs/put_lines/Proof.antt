@@ -1,0 +1,152 @@
+-- `put_lines` meets its contract: after i turns the lines of the first i cells stand at the front.
+use mathlib.Core.Path.{_≡_, ap, subst, _∙_}
+use mathlib.Core.List.{List}
+use Prim.Native.Nat.{ℕ, _+_, _-_, _*_, _≤_, _<_}
+use native.Mathlib.Nat.{mul-le-mul}
+use native.Mathlib.Omega.{arith}
+use lib.Dec.{lit<}
+use lib.IntN.{ℤ}
+use lib.ListN.{length, getD}
+use lib.Seq.{sets, length-sets}
+use denote.Ref.{now}
+use Rattle.lattice.specs.Shape.{Shaped}
+use Rattle.lattice.proofs.ShapeLaws.{shaped}
+use Rattle.table_file.specs.File.{Header, header}
+use Rattle.report.specs.Report.{cellCount, cellAt, shapeOf, joined}
+use Rattle.report.specs.Parts.{Between, lineFrom, lineLimit}
+use Rattle.report.proofs.CellsLaws.{counts-between, cells-between, cell-accepted, cell-between, cell-is, total-is}
+use Rattle.report.proofs.LineLaws.{Lines, lines-none, lines-more}
+use borrow.Author.Needs.{needs}
+use Rattle.report.proofs.put_lines.Statement.{statement}
+use Rattle.report.proofs.put_lines.Tie as tie
+
+abbrev lineAt : ℕ → List ℕ → List ℤ → List ℤ → ℕ → List ℕ
+lineAt axes counts cubic quintic i = lineFrom (header axes counts) cubic quintic (cellAt (header axes counts) i)
+
+abbrev Inv-loop : tie.InvT-loop
+Inv-loop axes counts cubic quintic out₀ cells total at₀ i₀ out at i =
+    (i ≤ total) × (at ≤ lineLimit * i) × Lines (lineAt axes counts cubic quintic) i out₀ out at
+
+abbrev μ-loop : tie.MeasureT-loop
+μ-loop axes counts cubic quintic out₀ cells total at₀ i₀ out at i = total - i
+
+-- the table's shape and its cells
+module _ (c : tie.Start Inv-loop μ-loop) where
+  abbrev table : Header
+  table = header (c .args .axes) (c .args .counts)
+
+  shape : Shaped (shapeOf table 3)
+  shape = shaped (shapeOf table 3) (c .pre .0 .0 .shape)
+
+module _ (c : tie.After-cells-of Inv-loop μ-loop) where
+  abbrev cells : List ℕ
+  cells = c .cells-of .result
+
+  between : Between 1 64 cells
+  between = rw (c .cells-of .ensures) (cells-between (table (c .before .before)) 3 (shape (c .before .before)))
+
+  few : getD cells 0 0 * (getD cells 1 0 * getD cells 2 0) ≤ 512
+  few = let e = total-is (table (c .before .before)) cells (c .cells-of .ensures) in omega (arith, c .before .before .pre .1 .0)
+
+-- the cell of a turn
+module _ (c : tie.After-cell-at Inv-loop μ-loop) where
+  abbrev first : tie.After-cells-of Inv-loop μ-loop
+  first = c .before .before .before
+
+  cell : c .cell-at .result ≡ cellAt (table (first .before .before)) (c .before .before .loop .i)
+  cell = c .cell-at .ensures ∙ cell-is (table (first .before .before)) (cells first) (c .before .before .loop .i) (first .cells-of .ensures)
+
+cells-of-requires : tie.Need-cells-of-requires Inv-loop μ-loop
+cells-of-requires c κs = counts-between (table (c .before)) 3 (shape (c .before))
+
+array-read-total : tie.Need-array-read-total Inv-loop μ-loop
+array-read-total c = search needs
+
+array-read-total-2 : tie.Need-array-read-total-2 Inv-loop μ-loop
+array-read-total-2 c = search needs
+
+array-read-total-3 : tie.Need-array-read-total-3 Inv-loop μ-loop
+array-read-total-3 c = search needs
+
+mul-total : tie.Need-mul-total Inv-loop μ-loop
+mul-total c = let b = between c in let h : getD (cells c) 1 0 * getD (cells c) 2 0 ≤ 64 * 64 = mul-le-mul (b .most 1 (lit< tt)) (b .most 2 (lit< tt)) in omega arith
+
+mul-total-2 : tie.Need-mul-total-2 Inv-loop μ-loop
+mul-total-2 c = let h = few c in omega arith
+
+loop-holds : tie.Need-loop-holds Inv-loop μ-loop
+loop-holds c = let a = c .before .before .args in (omega arith, omega arith, lines-none (lineAt (a .axes) (a .counts) (now (a .cubic)) (now (a .quintic))) (now (a .out)))
+
+cell-at-requires : tie.Need-cell-at-requires Inv-loop μ-loop
+cell-at-requires c κs = between (c .before .before)
+
+put-line-requires : tie.Need-put-line-requires Inv-loop μ-loop
+put-line-requires c κs =
+    let f = first (c .before) in
+    let s = f .before .before in
+    let l = c .before .before .before .loop in
+    let t = few f in (
+      s .pre .0,
+      (
+        rw (cell (c .before)) (cell-accepted (table s) 3 (shape s) (l .i)),
+        rw (cell (c .before)) (cell-between (table s) 3 (shape s) (l .i)),
+        omega (arith, ap length (l .inv .2 .1), length-sets (now (s .args .out)) 0 (joined (l .i) (lineAt (s .args .axes) (s .args .counts) (now (s .args .cubic)) (now (s .args .quintic)))), s .pre .1 .1, l .inv .1, c .before .before .loop-test .taken),
+      ),
+    )
+
+add-i : tie.Need-add-i Inv-loop μ-loop
+add-i c = let t = few (c .before .before .before .before .before .before .before) in omega arith
+
+loop-less : tie.Need-loop-less Inv-loop μ-loop
+loop-less c = omega arith
+
+loop-again : tie.Need-loop-again Inv-loop μ-loop
+loop-again c =
+    let p = c .before .before .put-line in
+    let d = c .before .before .before .before in
+    let l = d .before .before .loop in
+    let a = first d .before .before .args in
+    let e = ap (lineFrom (header (a .axes) (a .counts)) (now (a .cubic)) (now (a .quintic))) (cell d) in (
+      omega arith,
+      omega (arith, p .ensures .0 .1, l .inv .1),
+      lines-more (lineAt (a .axes) (a .counts) (now (a .cubic)) (now (a .quintic))) (l .i) (l .at) (p .result) (now (a .out)) (l .out) _ (l .inv .2)
+          (p .ensures .0 .0 ∙ ap (λ (t : List ℕ). l .at + length t) e) (p .ensures .1 ∙ ap (sets (l .out) (l .at)) e),
+    )
+
+same-length : tie.Need-same-length Inv-loop μ-loop
+same-length c =
+    let l = c .before .loop in
+    let a = c .before .before .before .before .args in
+    ap length (l .inv .2 .1) ∙ length-sets (now (a .out)) 0 (joined (l .i) (lineAt (a .axes) (a .counts) (now (a .cubic)) (now (a .quintic))))
+
+returns : tie.Need-returns Inv-loop μ-loop
+returns c =
+    let l = c .before .loop in
+    let f = c .before .before in
+    let s = f .before .before in
+    let a = s .args in
+    let t = total-is (table s) (cells f) (f .cells-of .ensures) in
+    let e : l .i ≡ cellCount (table s) = omega (arith, l .inv .0, c .loop-test .left) in
+    let r = subst (λ (n : ℕ). Lines (lineAt (a .axes) (a .counts) (now (a .cubic)) (now (a .quintic))) n (now (a .out)) (l .out) (l .at)) e (l .inv .2) in
+    (r .0, (omega (arith, l .inv .1, few f), r .1))
+
+pub put-lines-spec : {M : Type 1} → statement M
+put-lines-spec =
+    tie.close
+    (tie.spec
+    Inv-loop
+    μ-loop
+    cells-of-requires
+    array-read-total
+    array-read-total-2
+    array-read-total-3
+    mul-total
+    mul-total-2
+    loop-holds
+    cell-at-requires
+    put-line-requires
+    add-i
+    loop-less
+    loop-again
+    same-length
+    returns)

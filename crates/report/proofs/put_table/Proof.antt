@@ -1,0 +1,106 @@
+-- `put_table` meets its contract: two estimates, then the lines.
+use mathlib.Core.Path.{_≡_, sym, ap, _∙_}
+use mathlib.Core.List.{List}
+use Prim.Native.Nat.{ℕ}
+use lib.IntN.{ℤ}
+use lib.ListN.{length, take}
+use lib.Seq.{sets, length-take-le}
+use denote.Ref.{now}
+use Rattle.estimate.specs.Estimate.{recordsOf}
+use Rattle.table_file.specs.File.{Header, header}
+use Rattle.report.specs.Report.{cellCount, cellAt, shapeOf, joined, cellLines}
+use Rattle.report.specs.Parts.{lineFrom}
+use Rattle.report.proofs.DoseLaws.{answers}
+use Rattle.report.proofs.TableLaws.{cubic-taken, quintic-taken, few-cells, lines-are}
+use borrow.Author.Needs.{needs}
+use Rattle.report.proofs.put_table.Statement.{statement}
+use Rattle.report.proofs.put_table.Tie as tie
+
+abbrev table : tie.Start → Header
+table c = header (c .args .axes) (c .args .counts)
+
+abbrev samples : tie.Start → List ℤ
+samples c = now (c .args .samples)
+
+-- the records that are lent
+module _ (c : tie.After-put-lines-arg) where
+  abbrev start : tie.Start
+  start = c .before .before .before .before .before .before .before .before .before .before
+
+  abbrev low : List ℤ
+  low = let p = c .before .before .before .before .before .before .before .estimate-degree in take (p .result) (p .last .1 .1 .1 .1 .0)
+
+  abbrev high : List ℤ
+  high = let p = c .before .before .before .before .estimate-degree2 in take (p .result) (p .last .1 .1 .1 .1 .0)
+
+  low-is : low ≡ recordsOf (shapeOf (table start) 3) (samples start)
+  low-is = c .before .before .before .before .before .before .before .estimate-degree .ensures .1
+
+  high-is : high ≡ recordsOf (shapeOf (table start) 5) (samples start)
+  high-is = c .before .before .before .before .estimate-degree2 .ensures .1
+
+  abbrev joinedFrom : List ℤ → List ℤ → List ℕ
+  joinedFrom cubic quintic = joined (cellCount (table start)) (λ i. lineFrom (table start) cubic quintic (cellAt (table start) i))
+
+  lines : joinedFrom low high ≡ cellLines (table start) (samples start)
+  lines = ap (λ (rs : List ℤ). joinedFrom rs high) low-is ∙ ap (joinedFrom (recordsOf (shapeOf (table start) 3) (samples start))) high-is ∙ lines-are (table start) (samples start) (start .pre .0)
+
+slice-aggregate-estimate-degree : tie.Need-slice-aggregate-estimate-degree
+slice-aggregate-estimate-degree c = search needs
+
+estimate-degree-requires : tie.Need-estimate-degree-requires
+estimate-degree-requires c κs = let s = c .before .before in cubic-taken (table s) (samples s) (s .pre .0)
+
+slice-aggregate-estimate-degree-2 : tie.Need-slice-aggregate-estimate-degree-2
+slice-aggregate-estimate-degree-2 c = search needs
+
+estimate-degree-requires-2 : tie.Need-estimate-degree-requires-2
+estimate-degree-requires-2 c κs = let s = c .before .before .before .before .before in quintic-taken (table s) (samples s) (s .pre .0)
+
+array-share-prefix-cubic : tie.Need-array-share-prefix-cubic
+array-share-prefix-cubic c = search needs
+
+slice-aggregate-put-lines : tie.Need-slice-aggregate-put-lines
+slice-aggregate-put-lines c = let p = c .before .before .before .before .before .estimate-degree in sym (length-take-le (p .result) (p .last .1 .1 .1 .1 .0) (p .ensures .0))
+
+array-share-prefix-quintic : tie.Need-array-share-prefix-quintic
+array-share-prefix-quintic c = search needs
+
+slice-aggregate-put-lines-2 : tie.Need-slice-aggregate-put-lines-2
+slice-aggregate-put-lines-2 c = let p = c .before .before .before .estimate-degree2 in sym (length-take-le (p .result) (p .last .1 .1 .1 .1 .0) (p .ensures .0))
+
+put-lines-requires : tie.Need-put-lines-requires
+put-lines-requires c κs =
+    let s = start c in (
+      (
+        rw (low-is c) (answers (shapeOf (table s) 3) (samples s) 4096 (cubic-taken (table s) (samples s) (s .pre .0))),
+        rw (high-is c) (answers (shapeOf (table s) 5) (samples s) 13824 (quintic-taken (table s) (samples s) (s .pre .0))),
+      ),
+      (few-cells (table s) (samples s) (s .pre .0), s .pre .1),
+    )
+
+same-length : tie.Need-same-length
+same-length c = search needs
+
+returns : tie.Need-returns
+returns c =
+    let p = c .before .before .put-lines in
+    let d = c .before .before .before in
+    let e = lines d in
+    ((p .ensures .0 ∙ ap length e, p .ensures .1 .0), p .ensures .1 .1 ∙ ap (sets (now (start d .args .out)) 0) e)
+
+pub put-table-spec : {M : Type 1} → statement M
+put-table-spec =
+    tie.close
+    (tie.spec
+    slice-aggregate-estimate-degree
+    estimate-degree-requires
+    slice-aggregate-estimate-degree-2
+    estimate-degree-requires-2
+    array-share-prefix-cubic
+    slice-aggregate-put-lines
+    array-share-prefix-quintic
+    slice-aggregate-put-lines-2
+    put-lines-requires
+    same-length
+    returns)

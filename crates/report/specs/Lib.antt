@@ -1,0 +1,3 @@
+-- Reading order: Report, Parts.
+pub mod Report
+pub mod Parts

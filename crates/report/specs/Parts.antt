@@ -1,0 +1,43 @@
+-- What the inner functions give and ask for. The promises of `report` mention none of this.
+use mathlib.Core.Path.{_≡_}
+use Prim.Native.Nat.{ℕ, _≤_, _<_}
+use mathlib.Core.List.{List}
+use lib.IntN.{ℤ}
+use lib.ListN.{length, getD}
+use Rattle.lattice.specs.declared.Shape.{Shape}
+use Rattle.lattice.specs.Outcome.{done}
+use Rattle.lattice.specs.Shape.{size, shapeOutcome}
+use Rattle.lattice.specs.Axes.{Place}
+use Rattle.lattice.specs.Records.{recordsField}
+use Rattle.cell.specs.Cell.{placeAt, Accepted, cornersOutcome}
+use Rattle.evaluate.specs.Evaluate.{dose, askAt, answer}
+use Rattle.table_file.specs.File.{Header, Permitted}
+use Rattle.text.specs.Lines.{cellLine}
+use Rattle.report.specs.Report.{middle, shapeOf, heldNodes}
+
+-- three indices or counts
+pub record Between (low high : ℕ) (xs : List ℕ) : Type 0 where
+  pub least : (a : ℕ) → a < 3 → low ≤ getD xs a 0
+  pub most : (a : ℕ) → a < 3 → getD xs a 0 ≤ high
+
+-- records that refuse no cell
+pub record Answers (s : Shape) (rs : List ℤ) : Type 0 where
+  pub shape : shapeOutcome s ≡ done tt
+  pub long : length rs ≡ size s
+  pub corners : (cell : Place) → Accepted s cell → cornersOutcome s rs cell ≡ done tt
+
+-- the dose at the middle of a cell, from the records that a slice holds
+unfoldable pub doseFrom : Shape → List ℤ → List ℕ → ℤ
+doseFrom s rs cell = answer (askAt s dose (placeAt cell) (middle (s .axes))) (recordsField s rs)
+
+unfoldable pub lineFrom : Header → List ℤ → List ℤ → List ℕ → List ℕ
+lineFrom h cubic quintic cell = cellLine cell (doseFrom (shapeOf h 3) cubic cell) (doseFrom (shapeOf h 5) quintic cell)
+
+-- the longest line: three indices of two digits, two numbers of ten digits and a sign
+abbrev pub lineLimit : ℕ
+lineLimit = 33
+
+-- a table that the program holds
+pub record Held (h : Header) (samples : List ℤ) : Type 0 where
+  pub permitted : Permitted h samples
+  pub few : length samples ≤ heldNodes

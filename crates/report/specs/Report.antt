@@ -1,0 +1,75 @@
+-- The program's text for its whole input: one line for each cell of the table, x fastest, or the line of a refusal.
+use Prim.Native.Nat.{ℕ, zero, suc, _-_}
+use mathlib.Core.List.{List, [], _++_}
+use lib.Dec.{leb, ltb}
+use lib.IntN.{ℤ}
+use lib.ListN.{length}
+use Rattle.arith.specs.Choice.{pick}
+use Rattle.lattice.specs.declared.Shape.{Shape}
+use Rattle.lattice.specs.Outcome.{Outcome, done, refused, refuseUnless, first}
+use Rattle.lattice.specs.Buffer.{tabulate}
+use Rattle.lattice.specs.Digits.{span, digit}
+use Rattle.lattice.specs.Axes.{Place}
+use Rattle.cell.specs.Cell.{placeAt}
+use Rattle.estimate.specs.Estimate.{tableRecords}
+use Rattle.evaluate.specs.Evaluate.{dose, askAt, answer}
+use Rattle.table_file.specs.File.{Header, countOf, samplesIn, readOutcome}
+use Rattle.text.specs.Lines.{cellLine, refusedLine}
+
+-- the program holds 512 nodes and 4,096 bytes
+abbrev pub heldNodes : ℕ
+heldNodes = 512
+
+abbrev pub heldBytes : ℕ
+heldBytes = 4096
+
+-- ---- the cells of a table
+
+-- along a used axis one less than the nodes, along an unused one 1
+unfoldable pub cellsAlong : Header → ℕ → ℕ
+cellsAlong h a = pick (ltb a (h .axes)) (countOf h a - 1) 1
+
+unfoldable pub cellCount : Header → ℕ
+cellCount h = span 3 (cellsAlong h)
+
+-- the three indices of cell i, x fastest
+unfoldable pub cellAt : Header → ℕ → List ℕ
+cellAt h i = tabulate 3 (digit (cellsAlong h) i)
+
+-- ---- its line
+
+-- in-cell step 128 of each used axis
+unfoldable pub middle : ℕ → Place
+middle axes a = pick (ltb a axes) 128 0
+
+abbrev pub shapeOf : Header → ℕ → Shape
+shapeOf h degree = record { axes = h .axes; degree = degree; counts = h .counts }
+
+-- the dose there, from the records of one degree that the rules under Estimates give
+unfoldable pub doseIn : Shape → List ℤ → List ℕ → ℤ
+doseIn s samples cell = answer (askAt s dose (placeAt cell) (middle (s .axes))) (tableRecords s samples)
+
+-- the cubic dose and the quintic dose
+unfoldable pub lineIn : Header → List ℤ → List ℕ → List ℕ
+lineIn h samples cell = cellLine cell (doseIn (shapeOf h 3) samples cell) (doseIn (shapeOf h 5) samples cell)
+
+-- ---- the text
+
+-- f 0, f 1, .., f (n - 1), one after the other
+unfoldable pub joined : ℕ → (ℕ → List ℕ) → List ℕ
+joined zero f = []
+joined (suc n) f = joined n f ++ f n
+
+unfoldable pub cellLines : Header → List ℤ → List ℕ
+cellLines h samples = joined (cellCount h) (λ i. lineIn h samples (cellAt h i))
+
+-- a longer input is refused 9 before anything else
+unfoldable pub inputOutcome : List ℕ → Outcome Header
+inputOutcome input = first (refuseUnless (leb (length input) heldBytes) 9 0) (readOutcome input heldNodes)
+
+unfoldable pub textOf : Outcome Header → List ℤ → List ℕ
+textOf (done h) samples = cellLines h samples
+textOf (refused number place) samples = refusedLine number
+
+unfoldable pub reportText : List ℕ → List ℕ
+reportText input = textOf (inputOutcome input) (samplesIn input)

@@ -1,0 +1,194 @@
+// The program's text: the dose at the middle of each cell of a table file, cubic and quintic.
+ghost use mathlib.Core.Path.{_≡_};
+ghost use Prim.Native.Nat.{_+_, _-_, _*_, _<_, _≤_};
+ghost use lib.Dec.{ltb};
+ghost use lib.ListN.{length, getD, take};
+ghost use lib.Seq.{sets};
+ghost use Rattle.arith.specs.Choice.{pick};
+ghost use Rattle.lattice.specs.Buffer.{tabulate, overwrite};
+ghost use Rattle.lattice.specs.Digits.{digit};
+ghost use Rattle.lattice.specs.Outcome.{done};
+ghost use Rattle.estimate.specs.Estimate.{recordsOf, estimateOutcome};
+ghost use Rattle.cell.specs.Cell.{placeAt, Accepted};
+ghost use Rattle.table_file.specs.File.{header};
+ghost use Rattle.report.specs.Report.{heldNodes, cellsAlong, cellCount, cellAt, middle, shapeOf, joined, cellLines, reportText};
+ghost use Rattle.report.specs.Parts.{Between, Answers, Held, doseFrom, lineFrom, lineLimit};
+use evaluate::SlopeAxis;
+use lattice::Shape;
+use query::CellQuery;
+use query::Reading;
+use table_file::TableAnswer;
+
+// In-cell step 128 of a used axis.
+fn step_on(axes: u32, axis: u32) -> u32
+    ensures { λ r. ⌜ r ≡ middle axes axis ⌝ }
+{
+    if axis < axes { 128 } else { 0 }
+}
+
+// The middle of a cell.
+fn middle_of(axes: u32) -> [u32; 3]
+    requires { ⌜ axes ≤ 3 ⌝ }
+    ensures { λ r. ⌜ placeAt r ≡ middle axes ⌝ }
+{
+    let x = step_on(axes, 0);
+    let y = step_on(axes, 1);
+    let z = step_on(axes, 2);
+    [x, y, z]
+}
+
+// The dose of one degree at the middle of a cell; no query is refused.
+fn dose_at(axes: u32, counts: [u32; 3], degree: u32, records: &[i32], cell: [u32; 3]) -> i32
+    requires { ⌜ Answers (shapeOf (header axes counts) degree) (now records) ⌝ }
+    requires { ⌜ Accepted (shapeOf (header axes counts) degree) (placeAt cell) ⌝ }
+    ensures { λ r. ⌜ r ≡ doseFrom (shapeOf (header axes counts) degree) (now (records .entry)) cell ⌝ }
+{
+    let step = middle_of(axes);
+    let reading = query::in_cell(
+        Shape {
+            axes: axes,
+            degree: degree,
+            counts: counts,
+        },
+        records,
+        CellQuery {
+            cell: cell,
+            step: step,
+            slope_axis: SlopeAxis::NoSlope,
+        },
+    );
+    match reading {
+        Reading::Value(v) => v,
+        Reading::Refused(_) => 0,
+    }
+}
+
+// Puts the line of a cell at `at`, and gives the place after it.
+fn put_line(
+    axes: u32,
+    counts: [u32; 3],
+    cubic: &[i32],
+    quintic: &[i32],
+    cell: [u32; 3],
+    out: &mut [u8],
+    at: usize,
+) -> usize
+    requires { ⌜ Answers (shapeOf (header axes counts) 3) (now cubic) × Answers (shapeOf (header axes counts) 5) (now quintic) ⌝ }
+    requires { ⌜ Accepted (shapeOf (header axes counts) 3) (placeAt cell) × Between 0 99 cell × (at + lineLimit ≤ length (now out)) ⌝ }
+    ensures { λ r. ⌜ (r ≡ at + length (lineFrom (header axes counts) (now (cubic .entry)) (now (quintic .entry)) cell)) × (r ≤ at + lineLimit) ⌝ }
+    ensures { λ _. ⌜ now (out .exit) ≡ sets (now (out .entry)) at (lineFrom (header axes counts) (now (cubic .entry)) (now (quintic .entry)) cell) ⌝ }
+{
+    let a = dose_at(axes, counts, 3, cubic, cell);
+    let b = dose_at(axes, counts, 5, quintic, cell);
+    text::put_cell_line(out, at, cell, a, b)
+}
+
+// The cells along one axis.
+fn cells_on(axes: u32, count: u32, axis: u32) -> u32
+    requires { ⌜ 1 ≤ count ⌝ }
+    ensures { λ r. ⌜ r ≡ pick (ltb axis axes) (count - 1) 1 ⌝ }
+{
+    if axis < axes { count - 1 } else { 1 }
+}
+
+// The cells along each axis.
+fn cells_of(axes: u32, counts: [u32; 3]) -> [u32; 3]
+    requires { ⌜ Between 1 64 counts ⌝ }
+    ensures { λ r. ⌜ r ≡ tabulate 3 (cellsAlong (header axes counts)) ⌝ }
+{
+    let x = cells_on(axes, counts[0], 0);
+    let y = cells_on(axes, counts[1], 1);
+    let z = cells_on(axes, counts[2], 2);
+    [x, y, z]
+}
+
+// The indices of cell `i`, x fastest.
+fn cell_at(cells: [u32; 3], i: u32) -> [u32; 3]
+    requires { ⌜ Between 1 64 cells ⌝ }
+    ensures { λ r. ⌜ r ≡ tabulate 3 (digit (λ a. getD cells a 0) i) ⌝ }
+{
+    let row = i / cells[0];
+    let plane = row / cells[1];
+    let along_x = i % cells[0];
+    let along_y = row % cells[1];
+    let along_z = plane % cells[2];
+    [along_x, along_y, along_z]
+}
+
+// Puts the lines of all cells at the front of `out`, and gives their length.
+fn put_lines(axes: u32, counts: [u32; 3], cubic: &[i32], quintic: &[i32], out: &mut [u8]) -> usize
+    requires { ⌜ Answers (shapeOf (header axes counts) 3) (now cubic) × Answers (shapeOf (header axes counts) 5) (now quintic) ⌝ }
+    requires { ⌜ (cellCount (header axes counts) ≤ heldNodes) × (heldNodes * lineLimit ≤ length (now out)) ⌝ }
+    ensures { λ r. ⌜ r ≡ length (joined (cellCount (header axes counts)) (λ i. lineFrom (header axes counts) (now (cubic .entry)) (now (quintic .entry)) (cellAt (header axes counts) i))) ⌝ }
+    ensures { λ r. ⌜ r ≤ heldNodes * lineLimit ⌝ }
+    ensures { λ _. ⌜ now (out .exit) ≡ sets (now (out .entry)) 0 (joined (cellCount (header axes counts)) (λ i. lineFrom (header axes counts) (now (cubic .entry)) (now (quintic .entry)) (cellAt (header axes counts) i))) ⌝ }
+{
+    let cells = cells_of(axes, counts);
+    let total = cells[0] * (cells[1] * cells[2]);
+    let mut at: usize = 0;
+    let mut i: u32 = 0;
+    while i < total {
+        let cell = cell_at(cells, i);
+        at = put_line(axes, counts, cubic, quintic, cell, out, at);
+        i += 1;
+    }
+    at
+}
+
+// Estimates one degree: the records to the front of `records`; gives the number of their entries.
+fn estimate_degree(
+    axes: u32,
+    counts: [u32; 3],
+    degree: u32,
+    samples: &[i32],
+    records: &mut [i32],
+) -> usize
+    requires { ⌜ estimateOutcome (shapeOf (header axes counts) degree) (now samples) (length (now records)) ≡ done tt ⌝ }
+    ensures { λ r. ⌜ (r ≤ length (now (records .exit))) × (take r (now (records .exit)) ≡ recordsOf (shapeOf (header axes counts) degree) (now (samples .entry))) ⌝ }
+{
+    let s = Shape {
+        axes: axes,
+        degree: degree,
+        counts: counts,
+    };
+    estimate::estimate(s, samples, records);
+    lattice::table_entries(s)
+}
+
+// Puts the lines of a table: estimates of both degrees, then its cells.
+fn put_table(axes: u32, counts: [u32; 3], samples: &[i32], out: &mut [u8]) -> usize
+    requires { ⌜ Held (header axes counts) (now samples) × (heldNodes * lineLimit ≤ length (now out)) ⌝ }
+    ensures { λ r. ⌜ (r ≡ length (cellLines (header axes counts) (now (samples .entry)))) × (r ≤ heldNodes * lineLimit) ⌝ }
+    ensures { λ _. ⌜ now (out .exit) ≡ sets (now (out .entry)) 0 (cellLines (header axes counts) (now (samples .entry))) ⌝ }
+{
+    let mut cubic = [0i32; 4096];
+    let mut quintic = [0i32; 13824];
+    let low = estimate_degree(axes, counts, 3, samples, &mut cubic);
+    let high = estimate_degree(axes, counts, 5, samples, &mut quintic);
+    put_lines(axes, counts, &cubic[..low], &quintic[..high], out)
+}
+
+// Puts the whole text for an input at the front of `out`, and gives its length.
+pub fn report(input: &[u8], out: &mut [u8; 16896]) -> usize
+    ensures { λ r. ⌜ (r ≡ length (reportText (now (input .entry)))) × (r ≤ 16896) ⌝ }
+    ensures { λ _. ⌜ now (out .exit) ≡ overwrite (reportText (now (input .entry))) (now (out .entry)) ⌝ }
+{
+    if 4096 < input.len() {
+        return text::put_refused_line(out, 9);
+    }
+    let mut samples = [0i32; 512];
+    let table = table_file::read(input, &mut samples);
+    match table {
+        TableAnswer::Refused(r) => text::put_refused_line(out, r.number),
+        TableAnswer::Table { axes, x, y, z } => {
+            let counts = [x, y, z];
+            // The number of nodes is the same for both degrees.
+            let nodes = lattice::node_count(Shape {
+                axes: axes,
+                degree: 3,
+                counts: counts,
+            });
+            put_table(axes, counts, &samples[..nodes], out)
+        }
+    }
+}
