@@ -1,10 +1,10 @@
--- What a choice is, by its test; and a fact for both degrees from one for each.
+-- What a choice is, by its test; and facts by cases: of both degrees, of the axes, of the orders, of the numbers of two ends.
 use mathlib.Core.Path.{_≡_, refl, sym, subst}
 use mathlib.Core.Bool.{Bool, true, false, _&&_, _||_}
 use mathlib.Core.Logic.{_⊎_, inl, inr}
-use Prim.Native.Nat.{ℕ, zero, suc, _≤_, _<_}
+use Prim.Native.Nat.{ℕ, zero, suc, _+_, _*_, _-_, _≤_, _<_}
 use native.Mathlib.Nat.{not-suc-le-zero}
-use native.Mathlib.Decide.{ℕ-discrete}
+use native.Mathlib.Decide.{ℕ-discrete, decLt}
 use native.Mathlib.Omega.{arith}
 use lib.Dec.{T}
 use Rattle.arith.specs.Choice.{pick}
@@ -23,9 +23,18 @@ unfolding pick
 on-pick P true x y f g = f refl
 on-pick P false x y f g = g refl
 
+-- by a test
+pub split : {P : Type 0} (b : Bool) → (b ≡ true → P) → (b ≡ false → P) → P
+split true f g = f refl
+split false f g = g refl
+
 pub and-true : (a b : Bool) → (a && b) ≡ true → (a ≡ true) × (b ≡ true)
 and-true true b h = (refl, h)
 and-true false b h = let z : _≡_ {A = ℕ} 0 1 = cc in absurd (omega arith)
+
+pub and-T : (x y : Bool) → T (x && y) → T x × T y
+and-T true y t = (tt, t)
+and-T false y t = absurd t
 
 pub true-and : (a b : Bool) → a ≡ true → b ≡ true → (a && b) ≡ true
 true-and a b e f = rw e f
@@ -39,17 +48,13 @@ unfoldable pub all : ℕ → (ℕ → Bool) → Bool
 all zero p = true
 all (suc n) p = p n && all n p
 
-both : (x y : Bool) → T (x && y) → T x × T y
-both true y t = (tt, t)
-both false y t = absurd t
-
 pub all-at : (n : ℕ) (p : ℕ → Bool) → T (all n p) → (i : ℕ) → i < n → T (p i)
 unfolding all
 all-at zero p t i l = absurd (not-suc-le-zero l)
-all-at (suc n) p t i l = go (λ h. all-at n p (both (p n) (all n p) t .1) i h) (ℕ-discrete i n)
+all-at (suc n) p t i l = go (λ h. all-at n p (and-T (p n) (all n p) t .1) i h) (ℕ-discrete i n)
   where
     go : (i < n → T (p i)) → Dec (i ≡ n) → T (p i)
-    go r (yes e) = subst (λ (k : ℕ). T (p k)) (sym e) (both (p n) (all n p) t .0)
+    go r (yes e) = subst (λ (k : ℕ). T (p k)) (sym e) (and-T (p n) (all n p) t .0)
     go r (no k) = r (omega arith)
 
 -- m is 2 for degree 3 and 3 for degree 5
@@ -71,3 +76,42 @@ pub by-n : (P : ℕ → Type 0) → P 1 → P 2 → P 3 → (n : ℕ) → 1 ≤ 
 by-n P p q r zero a b = absurd (not-suc-le-zero a)
 by-n P p q r (suc zero) a b = p
 by-n P p q r (suc (suc n)) a b = by-m P q r (suc (suc n)) (omega arith) b
+
+-- a fact of 0 and 1
+pub by-2 : (P : ℕ → Type 0) → P 0 → P 1 → (k : ℕ) → k < 2 → P k
+by-2 P p q zero l = p
+by-2 P p q (suc zero) l = q
+by-2 P p q (suc (suc k)) l = absurd (none k l)
+  where
+    none : (k : ℕ) → suc (suc k) < 2 → ⊥
+    none k l = omega arith
+
+-- of 0, 1 and 2
+pub by-3 : (P : ℕ → Type 0) → P 0 → P 1 → P 2 → (k : ℕ) → k < 3 → P k
+by-3 P p q r zero l = p
+by-3 P p q r (suc zero) l = q
+by-3 P p q r (suc (suc zero)) l = r
+by-3 P p q r (suc (suc (suc k))) l = absurd (none k l)
+  where
+    none : (k : ℕ) → suc (suc (suc k)) < 3 → ⊥
+    none k l = omega arith
+
+-- of the orders below m
+pub by-order : (P : ℕ → ℕ → Type 0) → P 2 0 → P 2 1 → P 3 0 → P 3 1 → P 3 2 → (m : ℕ) → 2 ≤ m → m ≤ 3 → (o : ℕ) → o < m → P m o
+by-order P p q r s t = by-m (λ m. (o : ℕ) → o < m → P m o) (by-2 (P 2) p q) (by-3 (P 3) r s t)
+
+-- of the numbers of both ends, and of the coefficients, the high ones counted from their end
+module _ (m : ℕ) where
+  pub by-place : (P : ℕ → Type 0) → ((o : ℕ) → o < m → P o) → ((o : ℕ) → o < m → P (m + o)) → (t : ℕ) → t < 2 * m → P t
+  by-place P f g t l = go (decLt t m)
+    where
+      go : Dec (t < m) → P t
+      go (yes h) = f t h
+      go (no h) = subst P (omega arith) (g (t - m) (omega arith))
+
+  pub by-count : (P : ℕ → Type 0) → ((k : ℕ) → k < m → P k) → ((k : ℕ) → k < m → P (2 * m - 1 - k)) → (i : ℕ) → i < 2 * m → P i
+  by-count P f g i l = go (decLt i m)
+    where
+      go : Dec (i < m) → P i
+      go (yes h) = f i h
+      go (no h) = subst P (omega arith) (g (2 * m - 1 - i) (omega arith))

@@ -4,11 +4,12 @@
 --     value? (search (sizes, sized ..)) (omega arith)      that u is v
 --     bounded? u (search (sizes, sized ..)) (omega arith)  that u is within a bound
 use mathlib.Core.Path.{_≡_, refl, sym, _∙_, ap, ap₂, subst}
-use Prim.Native.Nat.{ℕ, suc, _+_, _*_, _/_, _^_, _≤_, _<_}
-use native.Mathlib.Nat.{le-refl, le-trans, lt-of-le-of-lt, add-le-add, div-lt-iff-lt-mul, div-add-mod, mod-lt}
+use Prim.Native.Nat.{ℕ, suc, _+_, _*_, _/_, _%_, _^_, _≤_, _<_}
+use native.Mathlib.Nat.{le-refl, le-trans, lt-of-le-of-lt, add-le-add, div-lt-iff-lt-mul, div-add-mod, mod-lt, mod-eq-of-lt, one-mul}
 use native.Mathlib.Omega.{arith}
-use lib.Dec.{T, leb}
+use lib.Dec.{T, leb, lit<}
 use lib.IntN.{ℤ, pos, negsuc, negℤ, natAbs, _+ℤ_, _-ℤ_, _*ℤ_}
+use lib.Pow.{pow-mono}
 use lib.Signed.{mag, quotZ, shrZ}
 use mir.Syntax.{Width, w32, w64}
 use mir.Val.{SFits, hbits, toZ, ofZ}
@@ -145,6 +146,25 @@ widen-fits x h = rw (element x h) (sfits-widen {w = w32} tt (record { sfits = h 
 
 pub widened : (x : ℤ) → mag x < 2 ^ 31 → toZ w64 (ofZ w64 (toZ w32 (ofZ w32 x))) ≡ x
 widened x h = toZ-ofZ {w = w64} (widen-fits x h) ∙ element x h
+
+pub near : (x : ℤ) → mag x < 2 ^ 31 → natAbs x ≤ 2 ^ 31
+near (pos n) h = omega arith
+near (negsuc n) h = omega arith
+
+-- a 64-bit number, read
+pub read : (z : ℤ) → mag z < 2 ^ 63 → toZ w64 (ofZ w64 z) ≡ z
+read z h = toZ-ofZ {w = w64} (record { sfits = h })
+
+-- a small number, as the machine holds it
+pub kept : (x : ℤ) (B : ℕ) → natAbs x ≤ B → B < 2 ^ 63 → toZ w64 (ofZ w64 x) ≡ x
+kept x B h l = toZ-ofZ (sfits-abs {w = w64} x (omega arith))
+
+pub kept-low : (x : ℤ) (B : ℕ) → natAbs x ≤ B → B < 2 ^ 63 → natAbs (toZ w64 (ofZ w64 x)) ≤ B
+kept-low x B h l = rw (kept x B h l) h
+
+-- 1 shifted by the number of axes
+pub shifted : (n : ℕ) → n ≤ 3 → 1 * 2 ^ n % 18446744073709551616 ≡ 2 ^ n
+shifted n h = rw (one-mul (2 ^ n)) (mod-eq-of-lt (lt-of-le-of-lt (pow-mono h) (lit< tt)))
 
 -- ---- the answers
 

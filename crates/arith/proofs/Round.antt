@@ -1,18 +1,19 @@
--- Division of ℤ by a positive natural, rounded down and to the nearest with halves up: what characterises each, and that it is unique.
-use mathlib.Core.Path.{_≡_, refl, sym, _∙_, ap, subst}
+-- Division of ℤ by a positive natural, rounded down and to the nearest with halves up: what characterises each, that it is unique, and what it gives of a multiple.
+use mathlib.Core.Path.{_≡_, refl, sym, _∙_, ap, ap₂, subst}
 use mathlib.Core.List.{[], _∷_}
 use mathlib.Core.Logic.{_⊎_, inl, inr}
-use Prim.Native.Nat.{ℕ, zero, suc, _+_, _*_, _-_, _/_, _%_, _≤_, _<_}
-use native.Mathlib.Nat.{div-add-mod, mod-lt, mul-lt-mul-of-pos-left, not-suc-le-zero}
+use Prim.Native.Nat.{ℕ, zero, suc, _+_, _*_, _-_, _/_, _%_, _^_, _≤_, _<_}
+use native.Mathlib.Nat.{div-add-mod, mod-lt, mul-lt-mul-of-pos-left, not-suc-le-zero, mul-comm, pow-zero, pow-succ', mul-mod-right, mul-div-cancel-left}
 use native.Mathlib.Omega.{arith}
 use lib.IntN.{ℤ, pos, negsuc, negℤ, natAbs, _+ℤ_, _-ℤ_, _*ℤ_, +ℤ-idr, -ℤ-+ℤ-cancel}
 use lib.Signed.{_≤ℤ_, _<ℤ_, ltZ-yes}
 use lib.Dec.{ltb→lt, lt→ltb}
-use Rattle.arith.specs.Int.{floorDiv, roundHalfUp, Rounding}
+use Rattle.arith.specs.Int.{_^ℤ_, floorDiv, roundHalfUp, Rounding}
+use Rattle.arith.proofs.Laws.{*ℤ-negℤ}
 use Rattle.arith.proofs.Quote.{quotes, ring! }
 use Rattle.arith.proofs.Order.{le-elim, le-intro, pos-inj, ≤ℤ-total, <ℤ→≤ℤ}
 use Rattle.arith.proofs.Abs.{abs-mul, abs-add, abs≤}
-use Rattle.arith.proofs.Linear.{eq→ℕ, lt→ℕ, ℕ→lt}
+use Rattle.arith.proofs.Linear.{eq→ℕ, le→ℕ, lt→ℕ, ℕ→le, ℕ→lt}
 
 shift : (A B r : ℤ) → A ≡ B +ℤ r → negℤ B ≡ negℤ A +ℤ r
 shift A B r e = rw e (ring! (B ∷ r ∷ []) (search quotes depth 40) (search quotes depth 40) tt)
@@ -151,6 +152,76 @@ round-common k x y h l =
 
     out : (k x y : ℤ) → pos 2 *ℤ (k *ℤ x) +ℤ k *ℤ y ≡ k *ℤ (pos 2 *ℤ x +ℤ y)
     out k x y = ring! (k ∷ x ∷ y ∷ []) (search quotes depth 40) (search quotes depth 40) tt
+
+-- ---- multiples, and their quotients
+
+pub two-power : (n : ℕ) → pos 2 ^ℤ n ≡ pos (2 ^ n)
+two-power zero = ap pos (sym (pow-zero 2))
+two-power (suc n) = ap (λ z. pos 2 *ℤ z) (two-power n) ∙ ap pos (sym (pow-succ' 2 n))
+
+module _ (d : ℕ) (some : 0 < d) where
+  -- a multiple and its quotient
+  pub floor-multiple : (q : ℤ) → floorDiv (pos d *ℤ q) d ≡ q
+  floor-multiple q = floor-unique (floor-is (pos d *ℤ q) d some) (record { rest = 0; below = some; is = sym (+ℤ-idr (pos d *ℤ q)) })
+
+  quotient : (z : ℤ) → natAbs z % d ≡ 0 → (q : ℤ) × (z ≡ pos d *ℤ q)
+  quotient (pos a) h = (pos (a / d), ap pos (omega (arith, div-add-mod a d)))
+  quotient (negsuc a) h = (negℤ (pos (suc a / d)), ap (λ (k : ℕ). negℤ (pos k)) (back (suc a) (suc a / d) (suc a % d) (div-add-mod (suc a) d) h) ∙ sym (*ℤ-negℤ (pos d) (pos (suc a / d))))
+    where
+      back : (s q r : ℕ) → d * q + r ≡ s → r ≡ 0 → s ≡ d * q
+      back s q r e h = omega arith
+
+  -- a number that leaves no rest is the multiple of its quotient
+  pub whole-is : (z : ℤ) → natAbs z % d ≡ 0 → z ≡ pos d *ℤ floorDiv z d
+  whole-is z h = let q = quotient z h in q .1 ∙ ap (λ y. pos d *ℤ y) (sym (ap (λ y. floorDiv y d) (q .1) ∙ floor-multiple (q .0)))
+
+  pub rest-none : (z q : ℤ) → z ≡ pos d *ℤ q → natAbs z % d ≡ 0
+  rest-none z q e = ap (λ (k : ℕ). k % d) (ap natAbs e ∙ abs-mul (pos d) q) ∙ mul-mod-right d (natAbs q)
+
+  pub size-of : (z q : ℤ) → z ≡ pos d *ℤ q → natAbs z / d ≡ natAbs q
+  size-of z q e = ap (λ (k : ℕ). k / d) (ap natAbs e ∙ abs-mul (pos d) q) ∙ mul-div-cancel-left (natAbs q) some
+
+-- ---- fractions
+
+-- equal fractions round alike
+pub round-same : (x z : ℤ) (y w : ℕ) → 0 < y → 0 < w → x *ℤ pos w ≡ z *ℤ pos y → roundHalfUp x y ≡ roundHalfUp z w
+round-same x z y w hy hw e =
+    sym (round-common w x y hw hy) ∙ ap₂ roundHalfUp (turn x (pos w) ∙ e ∙ sym (turn z (pos y))) (mul-comm w y) ∙ round-common y z w hy hw
+  where
+    turn : (x w : ℤ) → w *ℤ x ≡ x *ℤ w
+    turn x w = ring! (x ∷ w ∷ []) (search quotes depth 40) (search quotes depth 40) tt
+
+-- a larger numerator rounds to no less
+less : (p y x z : ℤ) (k : ℕ) → (pos 2 *ℤ ((p +ℤ pos k) *ℤ y -ℤ x)) ≤ℤ y → negℤ y <ℤ (pos 2 *ℤ (p *ℤ y -ℤ z)) → x ≤ℤ z → (pos k *ℤ y) <ℤ y
+less p y x z k u a l =
+    let ρ = p ∷ pos k ∷ y ∷ x ∷ z ∷ [] in
+    ℕ→lt ρ (search quotes depth 40) (search quotes depth 40)
+    (omega (arith, le→ℕ ρ (search quotes depth 40) (search quotes depth 40) u, lt→ℕ ρ (search quotes depth 40) (search quotes depth 40) a, le→ℕ ρ (search quotes depth 40) (search quotes depth 40) l))
+
+near-mono : (x z : ℤ) (y : ℕ) (q p : ℤ) → Nearest x y q → Nearest z y p → x ≤ℤ z → (q ≤ℤ p) ⊎ (p ≤ℤ q) → q ≤ℤ p
+near-mono x z y q p f g l (inl a) = a
+near-mono x z y q p f g l (inr a) =
+    let k = le-elim a in
+    let h = less p (pos y) x z (k .0) (subst (λ t. (pos 2 *ℤ (t *ℤ pos y -ℤ x)) ≤ℤ pos y) (k .1) (f .upto)) (g .above) l in
+    le-intro 0 (sym (k .1 ∙ ap (λ (i : ℕ). p +ℤ pos i) (none (k .0) y (ltb→lt (k .0 * y) y (h .lt))) ∙ +ℤ-idr p) ∙ sym (+ℤ-idr q))
+  where
+    none : (k y : ℕ) → k * y < y → k ≡ 0
+    none zero y h = refl
+    none (suc k) y h = absurd (omega arith)
+
+pub round-mono : (x z : ℤ) (y : ℕ) → 0 < y → x ≤ℤ z → roundHalfUp x y ≤ℤ roundHalfUp z y
+round-mono x z y h l = near-mono x z y (roundHalfUp x y) (roundHalfUp z y) (round-near x y h) (round-near z y h) l (≤ℤ-total (roundHalfUp x y) (roundHalfUp z y))
+
+-- a fraction below a half, whatever its sign
+pub round-small : (x : ℤ) (y : ℕ) → 0 < y → 2 * natAbs x < y → roundHalfUp x y ≡ pos 0
+round-small (pos k) y h l =
+    let ρ = pos k ∷ pos y ∷ [] in
+    sym (round-unique (pos k) y (pos 0) h
+    (record { above = ℕ→lt ρ (search quotes depth 40) (search quotes depth 40) (omega arith); upto = ℕ→le ρ (search quotes depth 40) (search quotes depth 40) (omega arith) }))
+round-small (negsuc k) y h l =
+    let ρ = negsuc k ∷ pos y ∷ [] in
+    sym (round-unique (negsuc k) y (pos 0) h
+    (record { above = ℕ→lt ρ (search quotes depth 40) (search quotes depth 40) (omega arith); upto = ℕ→le ρ (search quotes depth 40) (search quotes depth 40) (omega arith) }))
 
 -- ---- any rounding that is off by at most half
 

@@ -155,3 +155,22 @@ laid-small s cell l ok here laid =
     let y = laid .far-y in
     let z = laid .far-z in
     record { base-low = omega arith; x-low = omega arith; y-low = omega arith; z-low = omega arith }
+
+-- and so are the steps from the low corner to corner c
+pub record Steps (l : Layout) (c : ℕ) : Type 0 where
+  pub x-step : c % 2 * getD (l .far) 0 0 ≤ 8 * 2 ^ 32
+  pub y-step : c / 2 % 2 * getD (l .far) 1 0 ≤ 8 * 2 ^ 32
+  pub z-step : c / 2 / 2 * getD (l .far) 2 0 ≤ 8 * 2 ^ 32
+
+pub small-steps : (l : Layout) (c : ℕ) → (c < 8) × Small l → Steps l c
+small-steps l c h =
+    let q = h .0 in
+    record {
+      x-step = small (c % 2) (getD (l .far) 0 0) (omega arith) (h .1 .x-low);
+      y-step = small (c / 2 % 2) (getD (l .far) 1 0) (omega arith) (h .1 .y-low);
+      z-step = small (c / 2 / 2) (getD (l .far) 2 0) (omega arith) (h .1 .z-low);
+    }
+  where
+    -- a digit below 8 times a stride
+    small : (d f : ℕ) → d < 8 → f ≤ 2 ^ 32 → d * f ≤ 8 * 2 ^ 32
+    small d f h k = mul-le-mul (le-of-lt h) k

@@ -1,8 +1,8 @@
 -- The corners of a cell: entry e of corner c stands at `cornerStart` + e, its limit is that of its number, and what the limit test says of each.
 use mathlib.Core.Path.{_≡_, refl, sym, ap, subst, _∙_, fun-ext}
 use mathlib.Core.List.{List}
-use Prim.Native.Nat.{ℕ, zero, suc, _+_, _*_, _/_, _%_, _^_, _≤_, _<_}
-use native.Mathlib.Nat.{mul-comm, mod-lt, div-lt-iff-lt-mul, div-add-mod, mul-le-mul-left, zero-div, mul-add-div, mul-add-mod-self-left, mod-eq-of-lt, div-eq-of-lt, add-zero, mul-zero, zero-mod, pow-zero}
+use Prim.Native.Nat.{ℕ, _+_, _*_, _/_, _%_, _^_, _≤_, _<_}
+use native.Mathlib.Nat.{mul-comm, mod-lt, div-lt-iff-lt-mul, div-add-mod, mul-le-mul-left, zero-div, mul-add-mod-self-left, mul-zero, zero-mod, pow-zero}
 use native.Mathlib.Decide.{decLt}
 use native.Mathlib.Omega.{arith}
 use lib.Dec.{leb, ltb, lit<}
@@ -20,32 +20,10 @@ use Rattle.lattice.specs.Shape.{orders, entries, size, Shaped}
 use Rattle.lattice.specs.Axes.{Place}
 use Rattle.lattice.specs.Records.{entryIndex, recordsField, totalOrder, sampleLimit, entryLimit}
 use Rattle.lattice.proofs.OutcomeLaws.{refuse-done, passes, firstOf-each, firstOf-passes, firstOf-same, firstOf-rows}
-use Rattle.lattice.proofs.DigitsLaws.{digit-below, digit-beyond, digit-number, number-below, number-digit, span-power}
+use Rattle.lattice.proofs.DigitsLaws.{digit-below, digit-beyond, digit-number, number-below, number-digit, span-power, high-digit, low-digit, pair-in}
 use Rattle.lattice.proofs.ShapeLaws.{orders-range, entries-pos, pow-one, pow-two}
 use Rattle.cell.specs.Cell.{cornerPlace, cornerEntries, entryOutcome, cornersOutcome, Accepted, base, far, near, offset, cornerStart, limitOf, recordOutcome, InCorners}
 use Rattle.cell.proofs.CellLaws.{Numbers, placed, placed-none, entry-at, entry-below, number-is}
-
--- number t of corner digit d and order digit o
-module _ (m d o : ℕ) (ho : o < m) where
-  joined-end : (m * d + o) / m ≡ d
-  joined-end = mul-add-div (some ho) d o ∙ ap (λ (k : ℕ). d + k) (div-eq-of-lt ho) ∙ add-zero d
-    where
-      some : {a b : ℕ} → a < b → 0 < b
-      some h = omega arith
-
-  joined-order : (m * d + o) % m ≡ o
-  joined-order = mul-add-mod-self-left m d o ∙ mod-eq-of-lt ho
-
-  joined-below : d < 2 → m * d + o < 2 * m
-  joined-below zero-or-one = go d zero-or-one
-    where
-      go : (d : ℕ) → d < 2 → m * d + o < 2 * m
-      go zero l = omega arith
-      go (suc zero) l = omega arith
-      go (suc (suc d)) l = absurd (none l)
-        where
-          none : {d : ℕ} → suc (suc d) < 2 → ⊥
-          none h = omega arith
 
 -- the orders of an entry
 digits-total : (m n e : ℕ) → 2 ≤ m → m ≤ 3 → 1 ≤ n → n ≤ 3 → e < m ^ n → total n (digit (λ b. m) e) ≡ e % m + (e / m % m + e / m / m)
@@ -86,16 +64,16 @@ module _ (s : Shape) (ok : Shaped s) (cell : Place) (here : Accepted s cell) (c 
 
   t-end : (a : ℕ) → both a / orders s ≡ end a
   unfolding both
-  t-end a = joined-end (orders s) (end a) (order a) (order-low a)
+  t-end a = high-digit (orders s) (end a) (order a) (order-low a)
 
   t-order : (a : ℕ) → both a % orders s ≡ order a
   unfolding both
-  t-order a = joined-order (orders s) (end a) (order a) (order-low a)
+  t-order a = low-digit (orders s) (end a) (order a) (order-low a)
 
   corner-numbers : Numbers s both
   unfolding both end order
   corner-numbers = record {
-    used = λ a l. joined-below (orders s) (end a) (order a) (order-low a) (end-low a);
+    used = λ a l. pair-in (orders s) (end a) (order a) (order-low a) 2 (end-low a);
     unused = λ a l. rw (digit-beyond (s .axes) (λ b. 2) c end-in a l, digit-beyond (s .axes) (λ b. orders s) e order-in a l, mul-zero (orders s)) refl;
   }
 
@@ -105,11 +83,11 @@ module _ (s : Shape) (ok : Shaped s) (cell : Place) (here : Accepted s cell) (c 
 
   index-corner : index / entries s ≡ c
   unfolding index
-  index-corner = mul-add-div (entries-pos s) c e ∙ ap (λ (k : ℕ). c + k) (div-eq-of-lt he) ∙ add-zero c
+  index-corner = high-digit (entries s) c e he
 
   index-entry : index % entries s ≡ e
   unfolding index
-  index-entry = mul-add-mod-self-left (entries s) c e ∙ mod-eq-of-lt he
+  index-entry = low-digit (entries s) c e he
 
   corner-placed : cornerPlace s cell (entries s * c + e) ≡ placed s cell both
   unfolding cornerPlace both end order index

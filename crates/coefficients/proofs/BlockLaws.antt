@@ -18,7 +18,7 @@ use Rattle.lattice.proofs.ShapeLaws.{pow-range}
 use Rattle.coefficients.specs.declared.Block.{Block}
 use Rattle.coefficients.specs.Corners.{coefficientCount}
 use Rattle.coefficients.specs.Blocks.{Sized, seen, signed, tabled, passed, converted, Within, Modest}
-use Rattle.coefficients.proofs.PassesLaws.{passes, passes-sweep, pass-same, passes-size}
+use Rattle.lattice.proofs.PassesLaws.{passes, passes-sweep, pass-same, passes-size}
 
 -- ---- sizes
 

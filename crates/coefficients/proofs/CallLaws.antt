@@ -23,8 +23,8 @@ use Rattle.cell.proofs.CellLaws.{accepted}
 use Rattle.coefficients.specs.declared.Block.{Block}
 use Rattle.coefficients.specs.Corners.{coefficientCount, coefficientList, askedOutcome, cornerEntry, numbersOutcome}
 use Rattle.coefficients.specs.Blocks.{Sized, gathered}
-use Rattle.coefficients.proofs.General.{tabulate-same}
-use Rattle.coefficients.proofs.NumberLaws.{digits-in}
+use Rattle.lattice.proofs.BufferLaws.{tabulate-same}
+use Rattle.lattice.proofs.DigitsLaws.{digits-in}
 use Rattle.coefficients.proofs.TableCell.{cell-same, gathered-is}
 
 pub record Asked (s : Shape) (given : ℕ) (cell : Place) (room : ℕ) : Type 0 where

@@ -16,17 +16,15 @@ use Rattle.arith.proofs.Sums.{sum-ext}
 use Rattle.lattice.specs.Buffer.{at}
 use Rattle.lattice.specs.Digits.{number, digit}
 use Rattle.lattice.specs.Axes.{Place, Field, Rule, origin, sweep, axes}
-use Rattle.lattice.proofs.Along.{Linear, Fresh, distinct-axes, each-axes, sweep-fuse}
-use Rattle.lattice.proofs.Local.{used}
-use Rattle.lattice.proofs.DigitsLaws.{digit-below}
+use Rattle.lattice.proofs.Along.{Linear, Fresh, distinct-axes, each-axes, sweep-fuse, put-same}
+use Rattle.lattice.proofs.Local.{used, Paired, sweep-carries}
+use Rattle.lattice.proofs.DigitsLaws.{digit-below, Digits, digits-in, number-in, of-digits, of-number, high-digit, low-digit}
 use Rattle.hermite.specs.Hermite.{multiplier, turned, forward, backward}
 use Rattle.hermite.proofs.HermiteLaws.{forward-low, forward-high, turned-mul}
 use Rattle.hermite.proofs.BackLaws.{backward-low, backward-high}
 use Rattle.cell.specs.Coefficients.{coefficients}
 use Rattle.coefficients.specs.Corners.{cornerEntry, coefficientsField, doubledEntry}
 use Rattle.coefficients.specs.Blocks.{mirror, blockNumbers, spot, seen, signed, tabled, converted, Forth, Back}
-use Rattle.coefficients.proofs.General.{Paired, sweep-carries, put-same}
-use Rattle.coefficients.proofs.NumberLaws.{Digits, digits-in, number-in, of-digits, of-number, pair-high, pair-low}
 use Rattle.coefficients.proofs.Inverse.{linear-carries, agree}
 use Rattle.coefficients.proofs.BlockLaws.{tabled-linear}
 use Rattle.coefficients.proofs.SpotLaws.{mirror-low, mirror-high, numbers-are, block-in, spot-number}
@@ -218,8 +216,8 @@ module _ (m n : ℕ) (m2 : 2 ≤ m) (m3 : m ≤ 3) (low : 1 ≤ n) (high : n ≤
     unfolding cornerEntry
     entries-are p q h =
         ap r
-        (ap (λ (e : Place). m ^ n * number n (λ b. 2) e + number n (λ b. m) (λ a. p a % m)) (fun-ext (λ a. ap (λ (k : ℕ). k / m) (h a .is) ∙ pair-high m (end a) (q a) (h a .below)))
-        ∙ ap (λ (o : Place). m ^ n * number n (λ b. 2) end + number n (λ b. m) o) (fun-ext (λ a. ap (λ (k : ℕ). k % m) (h a .is) ∙ pair-low m (end a) (q a) (h a .below)))
+        (ap (λ (e : Place). m ^ n * number n (λ b. 2) e + number n (λ b. m) (λ a. p a % m)) (fun-ext (λ a. ap (λ (k : ℕ). k / m) (h a .is) ∙ high-digit m (end a) (q a) (h a .below)))
+        ∙ ap (λ (o : Place). m ^ n * number n (λ b. 2) end + number n (λ b. m) o) (fun-ext (λ a. ap (λ (k : ℕ). k % m) (h a .is) ∙ low-digit m (end a) (q a) (h a .below)))
         ∙ ap (λ (k : ℕ). m ^ n * k + number n (λ b. m) q) (of-digits n 2 c hc))
 
     pub forward-block : (k : ℕ) → k < m ^ n → converted m n T (λ j. signed m c j (r (m ^ n * c + j))) k ≡ coefficients m n origin (λ t. r (cornerEntry m n t)) (λ a. mirror m (blockNumbers m c k a))

@@ -13,7 +13,7 @@ use Rattle.lattice.specs.Records.{recordsField}
 use Rattle.lattice.proofs.ShapeLaws.{orders-range}
 use Rattle.cell.specs.Cell.{placeAt}
 use Rattle.coefficients.specs.Corners.{coefficientCount, coefficientList, coefficientsOutcome, Permitted, HasCoefficients, cornerRecords, doubledEntry, allowed, possibleOutcome, entryList, backOutcome, oneCell}
-use Rattle.coefficients.proofs.General.{done-refused}
+use Rattle.lattice.proofs.OutcomeLaws.{done-refused}
 use Rattle.coefficients.proofs.Possible.{within, back-of-forward, possible-of, back-permitted, forward-of-back, firstOf-either, only-13}
 use Rattle.coefficients.proofs.Calls.{written-within, back-of-written, forward-of-written}
 use Rattle.coefficients.proofs.OneCell.{onlyCell}

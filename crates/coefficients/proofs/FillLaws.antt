@@ -12,7 +12,7 @@ use Rattle.cell.specs.Coefficients.{coefficients}
 use Rattle.coefficients.specs.declared.Block.{Block}
 use Rattle.coefficients.specs.Corners.{cornerEntry}
 use Rattle.coefficients.specs.Blocks.{Sized, mirror, blockNumbers, spot, startOf, gathered, signed, blockNumber, Forth, Gathered}
-use Rattle.coefficients.proofs.NumberLaws.{Digits, of-number, pair-high, pair-low}
+use Rattle.lattice.proofs.DigitsLaws.{Digits, of-number, high-digit, low-digit}
 use Rattle.coefficients.proofs.Sizes.{coefficient-within}
 use Rattle.coefficients.proofs.BlockLaws.{orders-some}
 use Rattle.coefficients.proofs.SpotLaws.{mirror-digits, block-in, spot-number}
@@ -31,8 +31,8 @@ module _ (b : Block) (ok : Sized b) (l : Layout) (rs : List ℤ) (g : Gathered b
     unfolding gathered
     entry-is j h =
         sym (ap (λ (e : ℕ). at rs (startOf l ((b .orders ^ b .axes * c + j) / e) + (b .orders ^ b .axes * c + j) % e)) (ok .entries-are)
-        ∙ ap (λ (i : ℕ). at rs (startOf l i + (b .orders ^ b .axes * c + j) % b .orders ^ b .axes)) (pair-high (b .orders ^ b .axes) c j h)
-        ∙ ap (λ (i : ℕ). at rs (startOf l c + i)) (pair-low (b .orders ^ b .axes) c j h))
+        ∙ ap (λ (i : ℕ). at rs (startOf l i + (b .orders ^ b .axes * c + j) % b .orders ^ b .axes)) (high-digit (b .orders ^ b .axes) c j h)
+        ∙ ap (λ (i : ℕ). at rs (startOf l c + i)) (low-digit (b .orders ^ b .axes) c j h))
 
     module _ (k : ℕ) (hk : k < b .entries) where
       inside : k < b .orders ^ b .axes

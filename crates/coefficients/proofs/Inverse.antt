@@ -15,15 +15,16 @@ use Rattle.arith.proofs.Quote.{quotes}
 use Rattle.lattice.specs.Buffer.{at}
 use Rattle.lattice.specs.Digits.{number, digit}
 use Rattle.lattice.specs.Axes.{Place, Field, Rule, origin, sweep, axes}
-use Rattle.lattice.proofs.Along.{Linear, reads-only, Each, each-axes, distinct-axes, sweep-fuse}
+use Rattle.lattice.proofs.Along.{Linear, reads-only, Each, each-axes, distinct-axes, sweep-fuse, multiply, sweep-multiply}
 use Rattle.lattice.proofs.BufferLaws.{length-tabulate, getD-tabulate}
 use Rattle.hermite.specs.Hermite.{forward, backward}
 use Rattle.hermite.proofs.HermiteLaws.{forward-linear}
 use Rattle.hermite.proofs.BackLaws.{backward-linear, back-forth, forth-back}
 use Rattle.cell.specs.Coefficients.{coefficients}
 use Rattle.coefficients.specs.Corners.{coefficientCount, coefficientList, cornerNumbers, cornerEntry, cornersField, HasCoefficients, coefficientsField, doubledEntry}
-use Rattle.coefficients.proofs.General.{Carries, Paired, sweep-carries, multiply, sweep-multiply}
-use Rattle.coefficients.proofs.NumberLaws.{Digits, digits-in, number-in, of-digits, of-number, numbers-in, entry-in, numbers-entry, entry-numbers}
+use Rattle.lattice.proofs.Local.{Carries, Paired, sweep-carries}
+use Rattle.lattice.proofs.DigitsLaws.{Digits, digits-in, number-in, of-digits, of-number}
+use Rattle.coefficients.proofs.NumberLaws.{numbers-in, entry-in, numbers-entry, entry-numbers}
 
 -- ---- fields that agree where the digits are below w
 

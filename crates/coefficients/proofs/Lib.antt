@@ -1,9 +1,7 @@
-pub mod General
 pub mod NumberLaws
 pub mod Inverse
 pub mod Sizes
 pub mod Whole
-pub mod PassesLaws
 pub mod BlockLaws
 pub mod TableLaws
 pub mod SpotLaws

@@ -1,47 +1,13 @@
 -- The entries of corner records and their numbers along the axes: each is found again by the other.
-use mathlib.Core.Path.{_≡_, refl, sym, ap, subst, _∙_, fun-ext}
+use mathlib.Core.Path.{_≡_, refl, sym, ap, _∙_, fun-ext}
 use Prim.Native.Nat.{ℕ, zero, suc, _+_, _*_, _/_, _%_, _^_, _<_}
-use native.Mathlib.Nat.{mod-lt, mod-eq-of-lt, div-eq-of-lt, div-add-mod, div-lt-iff-lt-mul, mul-add-div, mul-add-mod-self-left, mul-zero, mul-comm, mul-le-mul-left, add-zero, zero-div, zero-mod, pow-zero, pow-suc, one-le-pow}
+use native.Mathlib.Nat.{mod-lt, div-add-mod, div-lt-iff-lt-mul, mul-zero, zero-div, zero-mod, pow-zero, pow-suc, one-le-pow}
 use native.Mathlib.Omega.{arith}
 use lib.Dec.{lit<}
 use Rattle.lattice.specs.Digits.{number, digit}
-use Rattle.lattice.specs.Axes.{Place, OnUsed}
-use Rattle.lattice.proofs.DigitsLaws.{digit-below, digit-beyond, digit-number, number-below, number-digit, span-power}
+use Rattle.lattice.specs.Axes.{Place}
+use Rattle.lattice.proofs.DigitsLaws.{digit-below, high-digit, low-digit, pair-in, Digits, digits-in, number-in, of-digits, of-number}
 use Rattle.coefficients.specs.Corners.{coefficientCount, cornerNumbers, cornerEntry}
-
--- digits below w on the used axes, 0 on the others
-abbrev pub Digits : ℕ → ℕ → Place → Type 0
-Digits n w p = OnUsed n (λ a i. i < w) p
-
-module _ (n w : ℕ) where
-  pub digits-in : (v : ℕ) → 0 < w → v < w ^ n → Digits n w (digit (λ b. w) v)
-  digits-in v some h = record {
-    used = λ a l. digit-below (λ b. w) v a some;
-    unused = λ a l. digit-beyond n (λ b. w) v (rw (span-power w n) h) a l;
-  }
-
-  pub number-in : (p : Place) → Digits n w p → number n (λ b. w) p < w ^ n
-  number-in p d = subst (λ (k : ℕ). number n (λ b. w) p < k) (span-power w n) (number-below n (λ b. w) p (d .used))
-
-  pub of-digits : (v : ℕ) → v < w ^ n → number n (λ b. w) (digit (λ b. w) v) ≡ v
-  of-digits v h = number-digit n (λ b. w) v (rw (span-power w n) h)
-
-  pub of-number : (p : Place) → Digits n w p → digit (λ b. w) (number n (λ b. w) p) ≡ p
-  of-number p d = fun-ext (λ a. digit-number n (λ b. w) p (d .used) (d .unused) a)
-
--- a pair of digits as one
-module _ (m d o : ℕ) (ho : o < m) where
-  some : 0 < m
-  some = omega arith
-
-  pub pair-high : (m * d + o) / m ≡ d
-  pair-high = mul-add-div some d o ∙ ap (λ (k : ℕ). d + k) (div-eq-of-lt ho) ∙ add-zero d
-
-  pub pair-low : (m * d + o) % m ≡ o
-  pair-low = mul-add-mod-self-left m d o ∙ mod-eq-of-lt ho
-
-  pub pair-in : (k : ℕ) → d < k → m * d + o < k * m
-  pair-in k l = let z = mul-le-mul-left m l in omega (arith, mul-comm m k)
 
 pub count-split : (m n : ℕ) → coefficientCount m n ≡ 2 ^ n * m ^ n
 count-split m zero = omega (arith, pow-zero (2 * m), pow-zero m, pow-zero 2)
@@ -87,8 +53,8 @@ module _ (m n : ℕ) (some : 0 < m) where
     pub numbers-entry : cornerNumbers m n (cornerEntry m n t) ≡ t
     unfolding cornerNumbers cornerEntry
     numbers-entry = fun-ext (λ a.
-        ap (λ (k : ℕ). m * digit (λ b. 2) k a + digit (λ b. m) ((m ^ n * ends + orders) % m ^ n) a) (pair-high (m ^ n) ends orders low)
-        ∙ ap (λ (k : ℕ). m * digit (λ b. 2) ends a + digit (λ b. m) k a) (pair-low (m ^ n) ends orders low)
+        ap (λ (k : ℕ). m * digit (λ b. 2) k a + digit (λ b. m) ((m ^ n * ends + orders) % m ^ n) a) (high-digit (m ^ n) ends orders low)
+        ∙ ap (λ (k : ℕ). m * digit (λ b. 2) ends a + digit (λ b. m) k a) (low-digit (m ^ n) ends orders low)
         ∙ ap (λ (p : Place). m * p a + digit (λ b. m) orders a) (of-number n 2 (λ a. t a / m) ends-in)
         ∙ ap (λ (p : Place). m * (t a / m) + p a) (of-number n m (λ a. t a % m) orders-in) ∙ div-add-mod (t a) m)
       where
@@ -106,8 +72,8 @@ module _ (m n : ℕ) (some : 0 < m) where
   entry-numbers i h =
       let e = digits-in n 2 (i / m ^ n) (lit< tt) (corner-low i h) in
       let order : (a : ℕ) → digit (λ b. m) (i % m ^ n) a < m = (λ a. digit-below (λ b. m) (i % m ^ n) a some) in
-      ap (λ (p : Place). m ^ n * number n (λ a. 2) p + number n (λ a. m) (λ a. cornerNumbers m n i a % m)) (fun-ext (λ a. pair-high m (digit (λ b. 2) (i / m ^ n) a) (digit (λ b. m) (i % m ^ n) a) (order a)))
-      ∙ ap (λ (p : Place). m ^ n * number n (λ a. 2) (digit (λ b. 2) (i / m ^ n)) + number n (λ a. m) p) (fun-ext (λ a. pair-low m (digit (λ b. 2) (i / m ^ n) a) (digit (λ b. m) (i % m ^ n) a) (order a)))
+      ap (λ (p : Place). m ^ n * number n (λ a. 2) p + number n (λ a. m) (λ a. cornerNumbers m n i a % m)) (fun-ext (λ a. high-digit m (digit (λ b. 2) (i / m ^ n) a) (digit (λ b. m) (i % m ^ n) a) (order a)))
+      ∙ ap (λ (p : Place). m ^ n * number n (λ a. 2) (digit (λ b. 2) (i / m ^ n)) + number n (λ a. m) p) (fun-ext (λ a. low-digit m (digit (λ b. 2) (i / m ^ n) a) (digit (λ b. m) (i % m ^ n) a) (order a)))
       ∙ ap (λ (k : ℕ). m ^ n * k + number n (λ a. m) (digit (λ b. m) (i % m ^ n))) (of-digits n 2 (i / m ^ n) (corner-low i h))
       ∙ ap (λ (k : ℕ). m ^ n * (i / m ^ n) + k) (of-digits n m (i % m ^ n) (order-low i))
       ∙ div-add-mod i (m ^ n)

@@ -22,10 +22,11 @@ use Rattle.lattice.proofs.BufferLaws.{length-tabulate, getD-tabulate}
 use Rattle.lattice.proofs.OutcomeLaws.{first-passed, refuse-done, passes, firstOf-each, firstOf-passes}
 use Rattle.cell.specs.Coefficients.{coefficients}
 use Rattle.coefficients.specs.Corners.{coefficientCount, coefficientList, cornerNumbers, cornersField, Permitted, HasCoefficients, doubledEntry, allowed, possibleOutcome, entryList, numbersOutcome, backOutcome}
-use Rattle.coefficients.proofs.NumberLaws.{digits-in}
+use Rattle.lattice.proofs.DigitsLaws.{digits-in}
 use Rattle.coefficients.proofs.Inverse.{doubled-of, has-of}
 use Rattle.coefficients.proofs.Sizes.{coefficient-within}
-use Rattle.coefficients.proofs.Whole.{two-power, floor-multiple, allowed-of, allowed-parts}
+use Rattle.arith.proofs.Round.{two-power, floor-multiple}
+use Rattle.coefficients.proofs.Whole.{allowed-of, allowed-parts}
 
 module _ (m n : ℕ) (m2 : 2 ≤ m) (m3 : m ≤ 3) (cs : List ℤ) where
   entry : ℕ → ℤ

@@ -17,7 +17,8 @@ use Rattle.hermite.specs.Hermite.{forward}
 use Rattle.hermite.proofs.BackLaws.{forward-size}
 use Rattle.cell.specs.Coefficients.{coefficients}
 use Rattle.coefficients.specs.Corners.{coefficientCount, cornerNumbers, cornerEntry}
-use Rattle.coefficients.proofs.NumberLaws.{Digits, entry-in, numbers-entry}
+use Rattle.lattice.proofs.DigitsLaws.{Digits}
+use Rattle.coefficients.proofs.NumberLaws.{entry-in, numbers-entry}
 
 module _ (m : ℕ) (m2 : 2 ≤ m) (m3 : m ≤ 3) where
   low-put : (a t : ℕ) (p : Place) → t < 2 * m → ((b : ℕ) → p b < 2 * m) → (b : ℕ) → put a t p b < 2 * m

@@ -19,7 +19,8 @@ use Rattle.lattice.specs.Axes.{Place}
 use Rattle.cell.proofs.CellLaws.{number-is}
 use Rattle.coefficients.specs.Corners.{coefficientCount, cornerNumbers, cornerEntry}
 use Rattle.coefficients.specs.Blocks.{mirror, blockNumbers, spot, scatter, turnOf, Stands}
-use Rattle.coefficients.proofs.NumberLaws.{Digits, digits-in, number-in, of-digits, of-number, pair-high, pair-low, pair-in, count-split, numbers-in, numbers-entry, entry-numbers, entry-in}
+use Rattle.lattice.proofs.DigitsLaws.{Digits, digits-in, number-in, of-digits, of-number, high-digit, low-digit, pair-in}
+use Rattle.coefficients.proofs.NumberLaws.{count-split, numbers-in, numbers-entry, entry-numbers, entry-in}
 
 -- ---- counting from an end
 
@@ -95,8 +96,8 @@ module _ (m n : ℕ) (some : 0 < m) where
     pub numbers-are : cornerNumbers m n (m ^ n * c + k) ≡ blockNumbers m c k
     unfolding cornerNumbers blockNumbers
     numbers-are = fun-ext (λ a.
-        ap (λ (i : ℕ). m * digit (λ b. 2) i a + digit (λ b. m) ((m ^ n * c + k) % m ^ n) a) (pair-high (m ^ n) c k hk)
-        ∙ ap (λ (i : ℕ). m * digit (λ b. 2) c a + digit (λ b. m) i a) (pair-low (m ^ n) c k hk))
+        ap (λ (i : ℕ). m * digit (λ b. 2) i a + digit (λ b. m) ((m ^ n * c + k) % m ^ n) a) (high-digit (m ^ n) c k hk)
+        ∙ ap (λ (i : ℕ). m * digit (λ b. 2) c a + digit (λ b. m) i a) (low-digit (m ^ n) c k hk))
 
     pub block-in : Digits n (2 * m) (blockNumbers m c k)
     block-in = subst (λ (p : Place). Digits n (2 * m) p) numbers-are (numbers-in m n some (m ^ n * c + k) entry-of)

@@ -20,7 +20,7 @@ use Rattle.lattice.specs.Shape.{orders, entries, size, Shaped}
 use Rattle.lattice.specs.Axes.{Place, Field, origin, axes}
 use Rattle.lattice.specs.Records.{entryIndex, recordsField, totalOrder, sampleLimit, entryLimit}
 use Rattle.lattice.proofs.Along.{Fresh, distinct-axes, each-axes}
-use Rattle.lattice.proofs.Local.{used}
+use Rattle.lattice.proofs.Local.{used, sweep-carries}
 use Rattle.lattice.proofs.OutcomeLaws.{passes, firstOf-passes}
 use Rattle.lattice.proofs.ShapeLaws.{orders-range, entries-pos}
 use Rattle.hermite.specs.Hermite.{share, forward}
@@ -32,8 +32,9 @@ use Rattle.cell.proofs.CornerLaws.{corner-index, corner-below, corners-within}
 use Rattle.coefficients.specs.declared.Block.{Block}
 use Rattle.coefficients.specs.Corners.{coefficientCount, coefficientList, cornersField, cornerNumbers, cornerEntry}
 use Rattle.coefficients.specs.Blocks.{Sized, startOf, gathered, Gathered}
-use Rattle.coefficients.proofs.General.{sweep-carries, tabulate-same}
-use Rattle.coefficients.proofs.NumberLaws.{Digits, digits-in, count-split, corner-low, numbers-in, numbers-entry, entry-in}
+use Rattle.lattice.proofs.BufferLaws.{tabulate-same}
+use Rattle.lattice.proofs.DigitsLaws.{Digits, digits-in}
+use Rattle.coefficients.proofs.NumberLaws.{count-split, corner-low, numbers-in, numbers-entry, entry-in}
 
 module _ (s : Shape) (ok : Shaped s) (cell : Place) (here : Accepted s cell) where
   some : 0 < orders s

@@ -6,11 +6,10 @@ use native.Mathlib.Omega.{arith}
 use lib.Dec.{T, leb, leb→le}
 use lib.IntN.{ℤ, pos, _-ℤ_, _*ℤ_, natAbs}
 use Rattle.arith.specs.Sum.{sum}
-use Rattle.arith.proofs.Choices.{by-m, all, all-at}
+use Rattle.arith.proofs.Choices.{by-m, all, all-at, by-order, by-2}
 use Rattle.arith.proofs.Quote.{quotes, ring! }
 use Rattle.lattice.specs.Buffer.{at}
 use Rattle.hermite.specs.Hermite.{multiplier, solved}
-use Rattle.hermite.proofs.General.{by-order}
 use Rattle.coefficients.specs.Blocks.{tabled, Modest, Forth, Back}
 
 -- the rows of the low end
@@ -31,14 +30,6 @@ backList m =
 small-by : (f : ℕ → ℤ) → T (all 9 (λ i. leb (natAbs (f i)) 32)) → (i : ℕ) → i < 9 → natAbs (f i) ≤ 32
 small-by f t i l = leb→le (natAbs (f i)) 32 (all-at 9 (λ i. leb (natAbs (f i)) 32) t i l)
 
-two-rows : (P : ℕ → Type 0) → P 0 → P 1 → (k : ℕ) → k < 2 → P k
-two-rows P p q zero l = p
-two-rows P p q (suc zero) l = q
-two-rows P p q (suc (suc k)) l = absurd (none k l)
-  where
-    none : (k : ℕ) → suc (suc k) < 2 → ⊥
-    none k l = omega arith
-
 apart : _≡_ {A = ℕ} 3 2 → ⊥
 apart e = omega arith
 
@@ -46,7 +37,7 @@ pub forth-is : (m : ℕ) → 2 ≤ m → m ≤ 3 → Forth m (at (forthList m))
 unfolding multiplier all tabled sum
 forth-is m m2 m3 = record {
   modest = by-m (λ m. Modest m (at (forthList m)))
-      (record { small = small-by (at (forthList 2)) tt; third = λ e. two-rows (λ k. at (forthList 2) (3 * k + 2) ≡ pos 0) refl refl })
+      (record { small = small-by (at (forthList 2)) tt; third = λ e. by-2 (λ k. at (forthList 2) (3 * k + 2) ≡ pos 0) refl refl })
       (record { small = small-by (at (forthList 3)) tt; third = λ e. absurd (apart e) }) m m2 m3;
   is = λ x k l. by-order (λ m k. tabled m (at (forthList m)) x k ≡ sum m (λ o. multiplier m k o *ℤ x o)) refl refl refl refl refl m m2 m3 k l;
 }
@@ -55,7 +46,7 @@ pub back-is : (m : ℕ) → 2 ≤ m → m ≤ 3 → Back m (at (backList m))
 unfolding multiplier all tabled sum solved
 back-is m m2 m3 = record {
   modest = by-m (λ m. Modest m (at (backList m)))
-      (record { small = small-by (at (backList 2)) tt; third = λ e. two-rows (λ k. at (backList 2) (3 * k + 2) ≡ pos 0) refl refl })
+      (record { small = small-by (at (backList 2)) tt; third = λ e. by-2 (λ k. at (backList 2) (3 * k + 2) ≡ pos 0) refl refl })
       (record { small = small-by (at (backList 3)) tt; third = λ e. absurd (apart e) }) m m2 m3;
   is = λ y o l. by-order (λ m o. tabled m (at (backList m)) y o ≡ solved m y o)
       (ring! (y 0 ∷ y 1 ∷ []) (search quotes depth 40) (search quotes depth 40) tt)

@@ -16,13 +16,13 @@ use Rattle.lattice.specs.Buffer.{at}
 use Rattle.lattice.specs.Digits.{digit}
 use Rattle.lattice.specs.Axes.{Place}
 use Rattle.lattice.specs.Records.{totalOrder, sampleLimit, entryLimit}
-use Rattle.lattice.proofs.DigitsLaws.{digit-below}
+use Rattle.lattice.proofs.DigitsLaws.{digit-below, digits-in, low-digit}
 use Rattle.lattice.proofs.OutcomeLaws.{firstOf-same, firstOf-rows}
 use Rattle.coefficients.specs.declared.Block.{Block}
 use Rattle.coefficients.specs.Corners.{coefficientCount, cornerNumbers, doubledEntry, allowed, possibleOutcome}
 use Rattle.coefficients.specs.Blocks.{Sized, blockNumbers, spot, signed, converted, Back, scatter}
-use Rattle.coefficients.proofs.General.{fill}
-use Rattle.coefficients.proofs.NumberLaws.{digits-in, pair-low, count-split}
+use Rattle.lattice.proofs.BufferLaws.{fill}
+use Rattle.coefficients.proofs.NumberLaws.{count-split}
 use Rattle.coefficients.proofs.BlockLaws.{orders-some}
 use Rattle.coefficients.proofs.SpotLaws.{numbers-are, entry-of, scatter-length}
 use Rattle.coefficients.proofs.ConvertLaws.{backward-block}
@@ -45,7 +45,7 @@ module _ (b : Block) (ok : Sized b) (cs : List ℤ) (c : ℕ) (hc : c < 2 ^ b .a
   limit-is k hk =
       sym (ap (λ (p : Place). sampleLimit * 2 ^ total (b .axes) (λ a. p a % b .orders)) (numbers-are (b .orders) (b .axes) some c k hc hk)
       ∙ ap (λ (i : ℕ). sampleLimit * 2 ^ i)
-      (total-ext (b .axes) (λ a. (b .orders * digit (λ b. 2) c a + digit (λ a. b .orders) k a) % b .orders) (digit (λ a. b .orders) k) (λ a l. pair-low (b .orders) (digit (λ b. 2) c a) (digit (λ a. b .orders) k a) (digit-below (λ a. b .orders) k a some))
+      (total-ext (b .axes) (λ a. (b .orders * digit (λ b. 2) c a + digit (λ a. b .orders) k a) % b .orders) (digit (λ a. b .orders) k) (λ a l. low-digit (b .orders) (digit (λ b. 2) c a) (digit (λ a. b .orders) k a) (digit-below (λ a. b .orders) k a some))
       ∙ total-is (b .axes) (digit (λ a. b .orders) k) (ok .axes-low) (ok .axes-high) (digits-in (b .axes) (b .orders) k some hk .unused)))
 
   module _ (T : ℕ → ℤ) (back : Back (b .orders) T) (zs : ℕ → ℤ) (hz : (k : ℕ) → k < b .entries → zs k ≡ converted (b .orders) (b .axes) T (λ j. at cs (spot (b .orders) c j)) k) where

@@ -8,7 +8,7 @@ use Rattle.lattice.specs.Buffer.{at, tabulate}
 use Rattle.lattice.specs.Shape.{ordersOf}
 use Rattle.coefficients.specs.declared.Block.{Block}
 use Rattle.coefficients.specs.Corners.{coefficientCount, doubledEntry, entryList}
-use Rattle.coefficients.proofs.General.{tabulate-same}
+use Rattle.lattice.proofs.BufferLaws.{tabulate-same}
 use Rattle.corners.specs.Back.{entryOf}
 
 -- an entry by the sizes of a block

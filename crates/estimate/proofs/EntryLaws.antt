@@ -18,14 +18,13 @@ use Rattle.lattice.specs.Digits.{digit}
 use Rattle.lattice.specs.Shape.{count, orders, entries, Shaped}
 use Rattle.lattice.specs.Axes.{Place, Field, Rule, put, along, sweep, axes}
 use Rattle.lattice.specs.Records.{nodeNumber, samplesField, entryPlace}
-use Rattle.lattice.proofs.Along.{each-axes, Linear, sweep-rules, Reordered, under, swapped, andThen, sweep-order}
-use Rattle.lattice.proofs.DigitsLaws.{digit-number, digit-below, span-power}
+use Rattle.lattice.proofs.Along.{each-axes, Linear, sweep-rules, Reordered, under, swapped, andThen, sweep-order, put-same}
+use Rattle.lattice.proofs.DigitsLaws.{digit-number, digit-below, span-power, digit-beyond, digit-same, high-below, high-digit, low-digit}
 use Rattle.lattice.proofs.ShapeLaws.{orders-range, pow-one, pow-two, pow-three, entries-pos}
 use Rattle.lattice.proofs.RecordsLaws.{node-is}
 use Rattle.estimate.specs.declared.Grid.{Grid}
 use Rattle.estimate.specs.Estimate.{left, right, byOrder, estimate, records, tableRecords}
 use Rattle.estimate.specs.Passes.{passOf, ordersOn, gridOf, rowStart, rowZ, rowYZ, nodeOf, recordSize}
-use Rattle.estimate.proofs.General.{digit-beyond, digit-same, high-below, high-digit, low-digit, put-self}
 use Rattle.estimate.proofs.EstimateLaws.{estimate-linear}
 
 -- ---- a single order
@@ -33,7 +32,7 @@ use Rattle.estimate.proofs.EstimateLaws.{estimate-linear}
 -- the rule of a single order leaves a field as it is
 single : (a c : ℕ) (g : Field) → along a (estimate 1 c) g ≡ g
 unfolding estimate byOrder
-single a c g = fun-ext (λ p. rw (mod-one (p a), div-one (p a)) (ap g (put-self a p)))
+single a c g = fun-ext (λ p. rw (mod-one (p a), div-one (p a)) (ap g (put-same a p)))
 
 module _ (s : Shape) where
   pub orders-used : (a : ℕ) → a < s .axes → ordersOn s a ≡ orders s
@@ -214,7 +213,7 @@ module _ (s : Shape) (ok : Shaped s) where
           let h = inside a l3 in
           let c = ok .unused a l3 k in
           let v : node x y z a ≡ 0 = omega arith in
-          (v, place-is a ∙ rw (v, digit-beyond (s .axes) (λ b. orders s) e (rw (span-power (orders s) (s .axes)) l) (λ b. some-order s) a k) (omega arith))
+          (v, place-is a ∙ rw (v, digit-beyond (s .axes) (λ b. orders s) e (rw (span-power (orders s) (s .axes)) l) a k) (omega arith))
 
       unused-order : s .axes ≤ a → digit (ordersOn s) e a ≡ 0
       unused-order k = let h = digit-below (ordersOn s) e a (orders-some a) in let u = orders-unused s a k in omega arith

@@ -1,5 +1,4 @@
 -- Laws of the definitions, for the crates above, and of what the inner functions write.
-pub mod General
 pub mod EstimateLaws
 pub mod PlacedLaws
 pub mod PassesLaws

@@ -17,7 +17,7 @@ use Rattle.lattice.specs.Buffer.{at}
 use Rattle.estimate.specs.declared.Grid.{Grid}
 use Rattle.estimate.specs.Estimate.{left, right, byOrder}
 use Rattle.estimate.specs.Passes.{passLimit, passOf, rowStart, rowZ, rowYZ, recordSize, rowSize, Read, Grids, Samples}
-use Rattle.estimate.proofs.General.{group-room, high-digit, low-digit, pair-below}
+use Rattle.lattice.proofs.DigitsLaws.{group-room, high-digit, low-digit, pair-in}
 
 -- a number read from its bits
 pub bits : (x : ℤ) → natAbs x ≤ passLimit → toZ w32 (ofZ w32 x) ≡ x
@@ -70,7 +70,7 @@ module _ (g : Grid) (ok : Grids g) where
 
 row-in : (g : Grid) (xs : List ℤ) (y z : ℕ) → Samples g xs → y < g .cy → z < g .cz → rowStart g y z + g .cx ≤ length xs
 unfolding rowStart
-row-in g xs y z ok h k = rw (ok .whole) (group-room (g .cx) (y + g .cy * z) (g .cy * g .cz) (pair-below (g .cy) (g .cz) y z h k))
+row-in g xs y z ok h k = rw (ok .whole) (group-room (g .cx) (y + g .cy * z) (g .cy * g .cz) (omega (arith, pair-in (g .cy) z y h (g .cz) k)))
 
 pub row-read : (g : Grid) (xs : List ℤ) (y z : ℕ) → Samples g xs → y < g .cy → z < g .cz → Read xs (rowStart g y z) (g .cx)
 row-read g xs y z ok h k = record { inside = row-in g xs y z ok h k; small = λ t l. le-trans (ok .small (rowStart g y z + t)) (omega arith) }

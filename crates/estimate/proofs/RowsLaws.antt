@@ -14,7 +14,7 @@ use Rattle.lattice.proofs.ShapeLaws.{nodes-is}
 use Rattle.estimate.specs.declared.Grid.{Grid}
 use Rattle.estimate.specs.Estimate.{left, right, tableRecords}
 use Rattle.estimate.specs.Passes.{passOf, gridOf, rowYZ, nodeOf, recordSize, rowSize, rowOf, rowsOf, Grids}
-use Rattle.estimate.proofs.General.{group-room, high-below, high-digit, low-digit}
+use Rattle.lattice.proofs.DigitsLaws.{group-room, high-below, high-digit, low-digit}
 use Rattle.estimate.proofs.PassesLaws.{left-below, right-below}
 use Rattle.estimate.proofs.EntryLaws.{record-size, entry-is}
 

@@ -12,10 +12,9 @@ use lib.Ieee.{Float, nan, inf, binary32, isNan, odd, ofFields, ofBits}
 use lib.Ieee.Bits.{cond-no}
 use lib.Ieee.Exact.{HasValue, odd-sign}
 use Rattle.arith.specs.Int.{roundHalfUp}
-use Rattle.arith.proofs.Round.{nearly-size, half-up-nearly}
+use Rattle.arith.proofs.Round.{nearly-size, half-up-nearly, round-same, round-small}
 use Rattle.floats.specs.Step.{signed, clamped}
 use Rattle.floats.specs.Bits.{exponent, digits, nearestHeld}
-use Rattle.floats.proofs.General.{round-same, round-small}
 use Rattle.floats.proofs.StepLaws.{clamped-fits, abs-signed, signed-mul, clamped-far, held-value}
 
 -- a field above 0 and below 255 is that of (8388608 + t) · 2^(x − 150)

@@ -1,5 +1,4 @@
 -- Reading order: General, StepLaws, Scaled, Bits, WholeLaws, Examples.
-pub mod General
 pub mod StepLaws
 pub mod Scaled
 pub mod Bits

@@ -8,14 +8,13 @@ use native.Mathlib.Omega.{arith}
 use borrow.Author.Tests.{lt-ltb, le-ltb}
 use lib.Dec.{ltb, eqb, lit≤}
 use lib.IntN.{ℤ, pos, _*ℤ_, natAbs}
-use Rattle.arith.proofs.Choices.{pick-true, pick-false}
+use Rattle.arith.proofs.Choices.{pick-true, pick-false, by-order, by-place, by-count}
 use Rattle.arith.proofs.Quote.{quotes, ring! }
-use Rattle.arith.proofs.Sums.{sum-ext, abs-weighted}
+use Rattle.arith.proofs.Sums.{sum-ext, abs-weighted, graded-sum}
 use Rattle.arith.specs.Choice.{pick}
 use Rattle.arith.specs.Sum.{sum, total}
 use Rattle.lattice.proofs.Along.{Linear}
 use Rattle.hermite.specs.Hermite.{multiplier, turned, forward, solved, backward}
-use Rattle.hermite.proofs.General.{by-order, by-place, by-count, graded-sum}
 use Rattle.hermite.proofs.HermiteLaws.{turned-mul, mul-turned, sum-turned, turned-size, forward-low, forward-high}
 
 -- ---- back is linear

@@ -8,15 +8,14 @@ use native.Mathlib.Omega.{arith}
 use borrow.Author.Tests.{ltb-true, ltb-false}
 use lib.Dec.{ltb, lit≤, lit<}
 use lib.IntN.{ℤ, pos, negℤ, _+ℤ_, _-ℤ_, _*ℤ_, natAbs, negℤ-negℤ, +ℤ-idl, zero-*ℤ}
-use Rattle.arith.proofs.Choices.{by-m, pick-true, pick-false, on-pick}
-use Rattle.arith.proofs.Sums.{abs-weighted}
+use Rattle.arith.proofs.Choices.{by-m, pick-true, pick-false, on-pick, by-3}
+use Rattle.arith.proofs.Sums.{abs-weighted, sum-three, sum-zero}
 use Rattle.arith.specs.Choice.{pick}
 use Rattle.arith.specs.Sum.{sum, total}
 use Rattle.lattice.specs.Buffer.{at}
 use Rattle.hermite.specs.declared.Basis.{Basis}
 use Rattle.hermite.specs.Hermite.{multiplier, turned, Kind, kindOf, weight, basis}
 use Rattle.hermite.specs.Stage.{steps, Folds}
-use Rattle.hermite.proofs.General.{by-3, sum-three, sum-zero}
 use Rattle.hermite.proofs.Ends.{nothing-turned}
 use Rattle.hermite.proofs.HermiteLaws.{endBasis, facing, basis-low, basis-high}
 use Rattle.hermite.proofs.WeightLaws.{weight-size}

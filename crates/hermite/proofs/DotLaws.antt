@@ -10,17 +10,14 @@ use mir.Syntax.{w64}
 use mir.Val.{SFits, toZ, ofZ}
 use mir.Facts.{toZ-ofZ}
 use Rattle.arith.proofs.Abs.{sfits-abs}
-use Rattle.arith.proofs.Machine.{Size, held as known}
+use Rattle.arith.proofs.Machine.{Size, held as known, read}
 use Rattle.arith.proofs.Sums.{dot-sum, dot-term}
 use Rattle.arith.specs.Sum.{sum, total}
 use Rattle.lattice.specs.Buffer.{at}
 
--- an integer as the machine holds it, and read back
+-- an integer as the machine holds it
 abbrev pub held : ℤ → ℤ
 held z = toZ w64 (ofZ w64 z)
-
-pub read : (z : ℤ) → mag z < 2 ^ 63 → held z ≡ z
-read z h = toZ-ofZ {w = w64} (record { sfits = h })
 
 -- an element of an array, its size known
 abbrev pub element : (xs : List ℤ) (i B : ℕ) → natAbs (at xs i) ≤ B → B < 2 ^ 63 → Size (held (at xs i))

@@ -7,15 +7,14 @@ use native.Mathlib.Nat.{sub-zero, mul-le-mul-right, not-suc-le-zero}
 use native.Mathlib.Omega.{arith}
 use native.Mathlib.Decide.{decLt}
 use lib.IntN.{ℤ, pos, _+ℤ_, _-ℤ_, _*ℤ_, zero-*ℤ, *ℤ-zero, +ℤ-idl, +ℤ-idr}
-use Rattle.arith.proofs.Choices.{by-m}
+use Rattle.arith.proofs.Choices.{by-m, by-order}
 use Rattle.arith.proofs.Laws.{*ℤ-pos-one}
 use Rattle.arith.proofs.Quote.{quotes, ring! }
-use Rattle.arith.proofs.Sums.{sum-ext}
+use Rattle.arith.proofs.Sums.{sum-ext, sum-zero, sum-first, sum-ends}
 use Rattle.arith.specs.Choice.{pick}
 use Rattle.arith.specs.Int.{_^ℤ_}
 use Rattle.arith.specs.Sum.{sum}
 use Rattle.hermite.specs.Hermite.{multiplier, turned, share, forward, Kind, value, slope, weight, stageSum, basis}
-use Rattle.hermite.proofs.General.{by-order, sum-zero, sum-first, sum-ends}
 use Rattle.hermite.proofs.HermiteLaws.{stage-linear, turned-mul, endBasis, facing, facing-mul, basis-low, basis-high}
 
 -- ---- the table of document 01: f, D, S of the low end, then f, D, S of the high end

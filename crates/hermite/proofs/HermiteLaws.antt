@@ -7,15 +7,14 @@ use borrow.Author.Tests.{lt-ltb, le-ltb}
 use lib.IntN.{ℤ, pos, negsuc, negℤ, _+ℤ_, _-ℤ_, _*ℤ_, *ℤ-comm, zero-*ℤ, +ℤ-idl, +ℤ-idr, natAbs}
 use Rattle.arith.proofs.Abs.{abs-neg}
 use Rattle.arith.proofs.Choices.{pick-true, pick-false}
-use Rattle.arith.proofs.Laws.{negℤ-*ℤ, *ℤ-negℤ}
+use Rattle.arith.proofs.Laws.{negℤ-*ℤ, *ℤ-negℤ, *ℤ-left-comm}
 use Rattle.arith.proofs.Quote.{quotes, ring! }
-use Rattle.arith.proofs.Sums.{sum-ext, sum-left, sum-right, sum-swap}
+use Rattle.arith.proofs.Sums.{sum-ext, sum-left, sum-right, sum-swap, sum-zero, sum-neg, sum-ends, sum-halves}
 use Rattle.arith.specs.Int.{_^ℤ_}
 use Rattle.arith.specs.Sum.{sum}
 use Rattle.lattice.specs.Axes.{Rule}
 use Rattle.lattice.proofs.Along.{Linear}
 use Rattle.hermite.specs.Hermite.{multiplier, turned, share, forward, Kind, value, slope, weight, weightAt, stageSum, basis}
-use Rattle.hermite.proofs.General.{sum-zero, sum-neg, sum-ends, sum-halves}
 
 -- ---- linear
 
@@ -54,12 +53,9 @@ pub stage-multiple : (k : Kind) (m N c u : ℕ) (z : ℤ) (x : ℕ → ℤ) (j :
 unfolding stage-linear
 stage-multiple k m N c u z x j =
     stage-linear k m N c u .is (λ t. z *ℤ x t) j
-    ∙ sum-ext (2 * m) (λ t. basis k m N u t *ℤ (z *ℤ x (m * c + t))) (λ t. z *ℤ (basis k m N u t *ℤ x (m * c + t))) (λ t l. turn (basis k m N u t) z (x (m * c + t)))
+    ∙ sum-ext (2 * m) (λ t. basis k m N u t *ℤ (z *ℤ x (m * c + t))) (λ t. z *ℤ (basis k m N u t *ℤ x (m * c + t))) (λ t l. *ℤ-left-comm (basis k m N u t) z (x (m * c + t)))
     ∙ sum-left (2 * m) z (λ t. basis k m N u t *ℤ x (m * c + t))
     ∙ ap (λ y. z *ℤ y) (sym (stage-linear k m N c u .is x j))
-  where
-    turn : (b z x : ℤ) → b *ℤ (z *ℤ x) ≡ z *ℤ (b *ℤ x)
-    turn b z x = ring! (b ∷ z ∷ x ∷ []) (search quotes depth 40) (search quotes depth 40) tt
 
 -- ---- a number seen from the high end
 

@@ -11,11 +11,10 @@ use lib.IntN.{ℤ, pos, negℤ, _+ℤ_, _-ℤ_, _*ℤ_, natAbs}
 use Rattle.arith.proofs.Abs.{abs-mul, abs-add, abs-neg}
 use Rattle.arith.proofs.Choices.{by-m}
 use Rattle.arith.proofs.Quote.{quotes, ring! }
-use Rattle.arith.proofs.Sums.{abs-sum, total-ext, total-mono}
+use Rattle.arith.proofs.Sums.{abs-sum, total-ext, total-mono, total-ends}
 use Rattle.arith.specs.Int.{_^ℤ_}
 use Rattle.arith.specs.Sum.{sum, total}
 use Rattle.hermite.specs.Hermite.{multiplier, Kind, value, slope, weight, divisor, basis}
-use Rattle.hermite.proofs.General.{total-ends}
 use Rattle.hermite.proofs.HermiteLaws.{endBasis, facing, basis-low, basis-high, turned-size, facing-size}
 use Rattle.hermite.proofs.Ends.{row, top, end-form}
 

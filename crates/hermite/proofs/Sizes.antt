@@ -9,7 +9,7 @@ use Rattle.arith.specs.Int.{Rounding}
 use Rattle.arith.specs.Sum.{total}
 use Rattle.arith.proofs.Round.{Nearly, nearly-size}
 use Rattle.hermite.specs.Hermite.{Kind, value, slope, divisor, basis, stageSum}
-use Rattle.hermite.proofs.General.{graded-total, graded-sum}
+use Rattle.arith.proofs.Sums.{graded-total, graded-sum}
 use Rattle.hermite.proofs.HermiteLaws.{stage-linear}
 use Rattle.hermite.proofs.Reach.{coarse, growth, coarse-growth}
 

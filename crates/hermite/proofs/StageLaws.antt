@@ -13,9 +13,9 @@ use mir.Syntax.{w64}
 use mir.Val.{SFits}
 use mir.Facts.{toZ-ofZ}
 use Rattle.arith.proofs.Abs.{abs-add, sfits-abs}
-use Rattle.arith.proofs.Choices.{pick-true, pick-false, by-m}
+use Rattle.arith.proofs.Choices.{pick-true, pick-false, by-m, by-place}
 use Rattle.arith.proofs.Round.{round-common}
-use Rattle.arith.proofs.Sums.{sum-ext, total-ext, dot-sum}
+use Rattle.arith.proofs.Sums.{sum-ext, total-ext, dot-sum, sum-three, total-three, total-ends}
 use Rattle.arith.specs.Choice.{pick}
 use Rattle.arith.specs.Int.{roundHalfUp}
 use Rattle.arith.specs.Sum.{sum, total}
@@ -23,8 +23,8 @@ use Rattle.lattice.specs.Buffer.{at}
 use Rattle.hermite.specs.declared.Basis.{Basis}
 use Rattle.hermite.specs.Hermite.{Kind, value, slope, divisor, basis, stageSum}
 use Rattle.hermite.specs.Stage.{steps, Folds, bothEnds, load, worth}
-use Rattle.hermite.proofs.General.{by-place, sum-three, total-three, total-ends}
-use Rattle.hermite.proofs.DotLaws.{held, read}
+use Rattle.hermite.proofs.DotLaws.{held}
+use Rattle.arith.proofs.Machine.{read}
 use Rattle.hermite.proofs.Ends.{by-ends}
 use Rattle.hermite.proofs.HermiteLaws.{stage-multiple}
 use Rattle.hermite.proofs.Reach.{coarse, growth, coarse-growth}

@@ -16,7 +16,7 @@ use Rattle.arith.proofs.Abs.{abs-mul-le, abs-minus}
 use Rattle.arith.proofs.Quote.{quotes, ring! }
 use Rattle.lattice.specs.Buffer.{at}
 use Rattle.hermite.specs.Hermite.{Kind, value, slope, kindOf, weight}
-use Rattle.hermite.proofs.General.{by-3}
+use Rattle.arith.proofs.Choices.{by-3}
 use Rattle.hermite.proofs.DotLaws.{held}
 
 -- ---- as the code writes them

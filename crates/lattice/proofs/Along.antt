@@ -9,8 +9,9 @@ use native.Mathlib.Decide.{ℕ-discrete}
 use lib.Dec.{eqb}
 use borrow.Author.Tests.{eq-eqb, ne-eqb}
 use lib.IntN.{ℤ, _*ℤ_, natAbs}
+use Rattle.arith.specs.Int.{_^ℤ_}
 use Rattle.arith.proofs.Choices.{pick-true, pick-false}
-use Rattle.arith.proofs.Laws.{*ℤ-left-comm}
+use Rattle.arith.proofs.Laws.{*ℤ-left-comm, *ℤ-assoc, pos-one-*ℤ}
 use Rattle.arith.proofs.Sums.{sum-ext, sum-left, sum-swap, abs-weighted}
 use Rattle.arith.specs.Choice.{pick}
 use Rattle.arith.specs.Sum.{sum, total, times}
@@ -34,6 +35,9 @@ by-axis a p q h k = fun-ext (λ b. go b (ℕ-discrete b a))
     go : (b : ℕ) → Dec (b ≡ a) → p b ≡ q b
     go b (yes e) = subst (λ (c : ℕ). p c ≡ q c) (sym e) h
     go b (no n) = k b n
+
+pub put-same : (a : ℕ) (p : Place) → put a (p a) p ≡ p
+put-same a p = by-axis a (put a (p a) p) p (put-at a (p a) p) (λ b n. put-off a (p a) b p n)
 
 pub put-put : (a s t : ℕ) (p : Place) → put a s (put a t p) ≡ put a s p
 put-put a s t p =
@@ -145,6 +149,16 @@ pub sweep-rules : (ls : List ℕ) (r s : ℕ → Rule) (g : Field) → Each (λ 
 unfolding sweep
 sweep-rules [] r s g h = refl
 sweep-rules (a ∷ ls) r s g h = ap (λ (R : Rule). along a R (sweep ls r g)) (h .0) ∙ ap (along a (s a)) (sweep-rules ls r s g (h .1))
+
+-- a rule that multiplies
+abbrev pub multiply : ℤ → Rule
+multiply z x t = z *ℤ x t
+
+pub sweep-multiply : (n : ℕ) (z : ℤ) (g : Field) (p : Place) → sweep (axes n) (λ a. multiply z) g p ≡ z ^ℤ n *ℤ g p
+unfolding sweep axes
+sweep-multiply zero z g p = sym (pos-one-*ℤ (g p))
+sweep-multiply (suc n) z g p =
+    ap (λ (q : Place). z *ℤ sweep (axes n) (λ a. multiply z) g q) (put-same n p) ∙ ap (λ y. z *ℤ y) (sweep-multiply n z g p) ∙ sym (*ℤ-assoc z (z ^ℤ n) (g p))
 
 -- a rule on another axis may come first or last
 pub sweep-past : (ls : List ℕ) (r : ℕ → Rule) → ((a : ℕ) → Linear (r a)) → {R : Rule} → Linear R → (a : ℕ) → Fresh a ls → (g : Field) → along a R (sweep ls r g) ≡ sweep ls r (along a R g)

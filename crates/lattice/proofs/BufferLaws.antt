@@ -1,14 +1,19 @@
--- Laws of a list by its elements' numbers: f 0, f 1, .., f (n - 1); and the filling of a slice from the front.
-use Prim.Native.Nat.{ℕ, zero, suc, _+_, _≤_, _<_}
+-- Laws of a list by its elements' numbers: f 0, f 1, .., f (n - 1); the filling of a slice from the front; runs of stores.
+use Prim.Native.Nat.{ℕ, zero, suc, _+_, _-_, _≤_, _<_}
 use native.Mathlib.Omega.{arith}
-use native.Mathlib.Nat.{eq-or-lt-of-le}
+use native.Mathlib.Nat.{eq-or-lt-of-le, zero-add}
 use native.Mathlib.Numerals.{add-one}
 use mathlib.Core.Path.{_≡_, refl, ap, sym, _∙_}
 use mathlib.Core.Logic.{⊎-elim}
 use mathlib.Core.List.{List, [], _∷_, _++_}
-use lib.ListN.{length-drop, length, getD, set, drop, length-append, List·getD-append}
-use Rattle.lattice.specs.Buffer.{tabulate, overwrite}
-use lib.Seq.{ext-getD, drop-cons, set-at, append-snoc, getD-at}
+use lib.Dec.{ltb}
+use lib.IntN.{ℤ, pos}
+use lib.ListN.{length-drop, length, getD, set, take, drop, length-append, List·getD-append}
+use lib.Seq.{sets, sets-eq, ext-getD, drop-cons, set-at, append-snoc, getD-at, getD-append-add, getD-drop, getD-set-same, getD-set-other, take-suc, length-take-le}
+use borrow.Author.Count.{below-more}
+use borrow.Author.Tests.{ltb-true, ltb-false}
+use Rattle.arith.proofs.Choices.{split}
+use Rattle.lattice.specs.Buffer.{at, tabulate, overwrite}
 
 module _ {A : Type 0} where
   pub length-tabulate : (n : ℕ) (f : ℕ → A) → length (tabulate n f) ≡ n
@@ -50,3 +55,73 @@ module _ {A : Type 0} where
 
     pub filled-all : (n : ℕ) (now : List A) → Filled f old n now → now ≡ overwrite (tabulate n f) old
     filled-all n now e = e ∙ ap (λ (k : ℕ). tabulate n f ++ drop k old) (sym (length-tabulate n f))
+
+  -- a list that was filled from the front up to n, and holds the rest already
+  pub filled-rest : (f : ℕ → A) (old : List A) (n m : ℕ) (now : List A) (d : A) → n ≤ m → length old ≡ m → ((j : ℕ) → n ≤ j → j < m → getD old j d ≡ f j) → Filled f old n now → now ≡ tabulate m f
+  filled-rest f old n m now d h l rest e =
+      ext-getD d now (tabulate m f) (filled-length f old n now (omega arith) e ∙ l ∙ sym (length-tabulate m f)) each
+    where
+      front : (j : ℕ) → j < n → getD now j d ≡ f j
+      front j k = ap (λ (xs : List A). getD xs j d) e ∙ List·getD-append (tabulate n f) (drop n old) d j (rw (length-tabulate n f) k) ∙ getD-tabulate n f j d k
+
+      back : (j : ℕ) → n ≤ j → j < m → getD now j d ≡ f j
+      back j k u =
+          let s : j ≡ length (tabulate n f) + (j - n) = omega (arith, length-tabulate n f) in
+          let t : n + (j - n) ≡ j = omega arith in
+          ap (λ (xs : List A). getD xs j d) e
+          ∙ ap (λ (i : ℕ). getD (tabulate n f ++ drop n old) i d) s
+          ∙ getD-append-add (tabulate n f) (drop n old) (j - n) d
+          ∙ getD-drop n old (j - n) d
+          ∙ ap (λ (i : ℕ). getD old i d) t
+          ∙ rest j k u
+
+      each : (j : ℕ) → j < length now → getD now j d ≡ getD (tabulate m f) j d
+      each j k =
+          let u : j < m = omega (arith, filled-length f old n now (omega arith) e) in
+          split (ltb j n) (λ t. front j (ltb-true j n t)) (λ t. back j (ltb-false j n t) u) ∙ sym (getD-tabulate m f j d u)
+
+  -- ---- runs of stores
+
+  -- one run of stores after another
+  pub sets-append : (vs ws l : List A) (i : ℕ) → sets l i (vs ++ ws) ≡ sets (sets l i vs) (i + length vs) ws
+  sets-append [] ws l i = let e : i ≡ i + 0 = omega arith in ap (λ (k : ℕ). sets l k ws) e
+  sets-append (x ∷ vs) ws l i =
+      let e : suc i + length vs ≡ i + suc (length vs) = omega arith in
+      sets-append vs ws (set l i x) (suc i) ∙ ap (λ (k : ℕ). sets (sets (set l i x) (suc i) vs) k ws) e
+
+  -- a run of stores from the front
+  pub sets-front : (vs l : List A) → length vs ≤ length l → sets l 0 vs ≡ overwrite vs l
+  sets-front vs l h = sets-eq vs l 0 (omega arith) ∙ ap (λ (k : ℕ). vs ++ drop k l) (zero-add (length vs))
+
+  -- one element more of a list
+  pub sets-next : (vs l : List A) (i k : ℕ) (d : A) → k < length vs → set (sets l i (take k vs)) (i + k) (getD vs k d) ≡ sets l i (take (k + 1) vs)
+  sets-next vs l i k d h =
+      ap (λ (j : ℕ). set (sets l i (take k vs)) (i + j) (getD vs k d)) (sym (length-take-le k vs (omega arith)))
+      ∙ sym (sets-append (take k vs) (getD vs k d ∷ []) l i)
+      ∙ ap (λ (m : List A). sets l i m) (sym (take-suc vs k d h) ∙ ap (λ (j : ℕ). take j vs) (sym (add-one k)))
+
+-- ---- numbers
+
+-- lists of equal numbers
+pub tabulate-same : (n : ℕ) (f g : ℕ → ℤ) → ((i : ℕ) → i < n → f i ≡ g i) → tabulate n f ≡ tabulate n g
+unfolding tabulate
+tabulate-same zero f g h = refl
+tabulate-same (suc n) f g h = ap (λ (l : List ℤ). l ++ (f n ∷ [])) (tabulate-same n f g (λ i l. h i (omega arith))) ∙ ap (λ z. tabulate n g ++ (z ∷ [])) (h n (omega arith))
+
+-- an array of which the first i numbers are known, and one more
+pub fill : (l : List ℤ) (i : ℕ) (f : ℕ → ℤ) (v : ℤ) → i < length l → ((j : ℕ) → j < i → at l j ≡ f j) → v ≡ f i → (j : ℕ) → j < i + 1 → at (set l i v) j ≡ f j
+fill l i f v h p e =
+    below-more (λ j. at (set l i v) j ≡ f j) i (λ j q. getD-set-other l i j v (pos 0) (λ z. apart j i q z) ∙ p j q) (getD-set-same l i v (pos 0) h ∙ e)
+  where
+    apart : (j i : ℕ) → j < i → j ≡ i → ⊥
+    apart j i q z = omega arith
+
+-- a list of zeros
+abbrev pub noughts : ℕ → List ℤ
+noughts zero = []
+noughts (suc n) = pos 0 ∷ noughts n
+
+pub noughts-at : (n k : ℕ) → at (noughts n) k ≡ pos 0
+noughts-at zero k = refl
+noughts-at (suc n) zero = refl
+noughts-at (suc n) (suc k) = noughts-at n k

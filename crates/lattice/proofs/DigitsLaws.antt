@@ -1,17 +1,39 @@
--- The digits of a number are those that it was made of.
-use mathlib.Core.Path.{_≡_, sym, ap, _∙_}
+-- A number of two digits; the digits of a number are those that it was made of.
+use mathlib.Core.Path.{_≡_, sym, ap, subst, _∙_, fun-ext}
 use Prim.Native.Nat.{ℕ, zero, suc, _+_, _*_, _/_, _%_, _^_, _≤_, _<_}
-use native.Mathlib.Nat.{zero-mod, zero-div, mod-lt, mod-eq-of-lt, div-eq-of-lt, add-mul-mod-self-left, add-mul-div-left, mul-le-mul-left, pow-zero, pow-succ', zero-add, zero-lt-suc, not-suc-le-zero, div-lt-iff-lt-mul, mod-add-div}
+use native.Mathlib.Nat.{zero-mod, zero-div, mod-lt, mod-eq-of-lt, div-eq-of-lt, add-mul-mod-self-left, add-mul-div-left, mul-le-mul-left, pow-zero, pow-succ', zero-add, zero-lt-suc, not-suc-le-zero, div-lt-iff-lt-mul, mod-add-div, mul-add-div, mul-add-mod-self-left, add-zero, mul-comm}
 use native.Mathlib.Omega.{arith}
 use Rattle.lattice.specs.Digits.{number, span, digit}
+use Rattle.lattice.specs.Axes.{Place, OnUsed}
+
+-- ---- two digits
+
+module _ (m x r : ℕ) (h : r < m) where
+  pub high-digit : (m * x + r) / m ≡ x
+  high-digit = mul-add-div (omega arith) x r ∙ ap (λ (k : ℕ). x + k) (div-eq-of-lt h) ∙ add-zero x
+
+  pub low-digit : (m * x + r) % m ≡ r
+  low-digit = mul-add-mod-self-left m x r ∙ mod-eq-of-lt h
+
+  pub pair-in : (n : ℕ) → x < n → m * x + r < n * m
+  pair-in n l = let w = mul-le-mul-left m l in omega (arith, mul-comm m n)
+
+pub high-below : {m n v : ℕ} → 0 < m → v < m * n → v / m < n
+high-below {m} {n} {v} k l = div-lt-iff-lt-mul k .1 (omega (arith, mul-comm n m))
+
+-- one of n groups of m
+pub group-room : (m x n : ℕ) → x < n → m * x + m ≤ m * n
+group-room m x n h = let w = mul-le-mul-left m h in omega arith
+
+-- ---- all digits
 
 digit-none : (radix : ℕ → ℕ) (a : ℕ) → digit radix 0 a ≡ 0
 unfolding digit
 digit-none radix zero = zero-mod (radix 0)
 digit-none radix (suc a) = ap (λ (v : ℕ). digit (λ b. radix (suc b)) v a) (zero-div (radix 0)) ∙ digit-none (λ b. radix (suc b)) a
 
-some : {a b : ℕ} → a < b → 0 < b
-some h = omega arith
+pub above-zero : {a b : ℕ} → a < b → 0 < b
+above-zero h = omega arith
 
 pub digit-number : (n : ℕ) (radix p : ℕ → ℕ) → ((a : ℕ) → a < n → p a < radix a) → ((a : ℕ) → n ≤ a → p a ≡ 0) → (a : ℕ) → digit radix (number n radix p) a ≡ p a
 unfolding digit number
@@ -22,7 +44,7 @@ digit-number (suc n) radix p h k zero =
 digit-number (suc n) radix p h k (suc a) =
     let z : p 0 < radix 0 = h 0 (omega arith) in
     ap (λ (v : ℕ). digit (λ b. radix (suc b)) v a)
-    (add-mul-div-left (p 0) (number n (λ a. radix (suc a)) (λ a. p (suc a))) (some z) ∙ ap (λ (v : ℕ). v + number n (λ a. radix (suc a)) (λ a. p (suc a))) (div-eq-of-lt z) ∙ zero-add (number n (λ a. radix (suc a)) (λ a. p (suc a))))
+    (add-mul-div-left (p 0) (number n (λ a. radix (suc a)) (λ a. p (suc a))) (above-zero z) ∙ ap (λ (v : ℕ). v + number n (λ a. radix (suc a)) (λ a. p (suc a))) (div-eq-of-lt z) ∙ zero-add (number n (λ a. radix (suc a)) (λ a. p (suc a))))
     ∙ digit-number n (λ b. radix (suc b)) (λ b. p (suc b)) (λ b l. h (suc b) (omega arith)) (λ b l. k (suc b) (omega arith)) a
 
 pub digit-below : (radix : ℕ → ℕ) (v a : ℕ) → 0 < radix a → digit radix v a < radix a
@@ -64,3 +86,32 @@ digit-beyond zero radix v h a l = ap (λ (i : ℕ). digit radix i a) (let e : v 
 digit-beyond (suc n) radix v h zero l = absurd (not-suc-le-zero l)
 digit-beyond (suc n) radix v h (suc a) l =
     digit-beyond n (λ b. radix (suc b)) (v / radix 0) (rest-below v (radix 0) (span n (λ b. radix (suc b))) h .1) a (omega arith)
+
+-- a digit depends on the radices up to it
+pub digit-same : (f h : ℕ → ℕ) (v a : ℕ) → ((b : ℕ) → b ≤ a → f b ≡ h b) → digit f v a ≡ digit h v a
+unfolding digit
+digit-same f h v zero e = ap (λ (k : ℕ). v % k) (e 0 (omega arith))
+digit-same f h v (suc a) e =
+    rw (e 0 (omega arith)) (digit-same (λ b. f (suc b)) (λ b. h (suc b)) (v / h 0) a (λ b l. e (suc b) (omega arith)))
+
+-- ---- one radix for all axes
+
+-- digits below w on the used axes, 0 on the others
+abbrev pub Digits : ℕ → ℕ → Place → Type 0
+Digits n w p = OnUsed n (λ a i. i < w) p
+
+module _ (n w : ℕ) where
+  pub digits-in : (v : ℕ) → 0 < w → v < w ^ n → Digits n w (digit (λ b. w) v)
+  digits-in v some h = record {
+    used = λ a l. digit-below (λ b. w) v a some;
+    unused = λ a l. digit-beyond n (λ b. w) v (rw (span-power w n) h) a l;
+  }
+
+  pub number-in : (p : Place) → Digits n w p → number n (λ b. w) p < w ^ n
+  number-in p d = subst (λ (k : ℕ). number n (λ b. w) p < k) (span-power w n) (number-below n (λ b. w) p (d .used))
+
+  pub of-digits : (v : ℕ) → v < w ^ n → number n (λ b. w) (digit (λ b. w) v) ≡ v
+  of-digits v h = number-digit n (λ b. w) v (rw (span-power w n) h)
+
+  pub of-number : (p : Place) → Digits n w p → digit (λ b. w) (number n (λ b. w) p) ≡ p
+  of-number p d = fun-ext (λ a. digit-number n (λ b. w) p (d .used) (d .unused) a)

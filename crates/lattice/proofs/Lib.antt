@@ -6,4 +6,5 @@ pub mod ShapeLaws
 pub mod Along
 pub mod Local
 pub mod PassLaws
+pub mod PassesLaws
 pub mod RecordsLaws

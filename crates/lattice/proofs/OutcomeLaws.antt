@@ -45,6 +45,10 @@ module _ {A : Type 0} where
   pub done-same : (v w : A) → done v ≡ done w → v ≡ w
   done-same v w e = cc
 
+-- a check is not both passed and refused
+pub done-refused : (a : Check) (n p : ℕ) → a ≡ done tt → a ≡ refused n p → ⊥
+done-refused a n p e f = let z : _≡_ {A = ℕ} 0 1 = cc in omega arith
+
 last-first : (a : Check) → first a (done tt) ≡ a
 last-first (done tt) = refl
 last-first (refused n p) = refl

@@ -6,6 +6,7 @@ use native.Mathlib.Nat.{add-mul-mod-self-left, add-mul-div-left, mod-eq-of-lt, d
 use native.Mathlib.Omega.{arith}
 use lib.IntN.{ℤ}
 use Rattle.lattice.proofs.Along.{put-at, put-off, Each, Fresh}
+use Rattle.lattice.proofs.DigitsLaws.{above-zero}
 use Rattle.lattice.proofs.Local.{Depends}
 use Rattle.lattice.specs.Axes.{Place, Field, Rule, put, along}
 use Rattle.lattice.specs.Flat.{indexOf, sizeOf, pass}
@@ -104,14 +105,11 @@ module _ (a : ℕ) (ls : List ℕ) (width : Place) (v : ℕ) (rule : Rule) (xs :
           ∙ ap (λ (k : ℕ). k + sizeOf ls (put a v width) * p a) (index-same ls (put a v width) width p p (each-off (λ b. Unit {0}) (λ b. (put a v width b ≡ width b) × (p b ≡ p b)) a ls fresh (λ b n k. (put-off a v b width n, refl)) (each-any (λ b. Unit {0}) ls (λ b. tt))))
           ∙ ap (λ (k : ℕ). i + k * p a) (size-same ls (put a v width) width (each-off (λ b. Unit {0}) (λ b. put a v width b ≡ width b) a ls fresh (λ b n k. put-off a v b width n) (each-any (λ b. Unit {0}) ls (λ b. tt))))
 
-      positive : {x y : ℕ} → x < y → 0 < y
-      positive k = omega arith
-
       low : (i + r * p a) % r ≡ i
       low = add-mul-mod-self-left i r (p a) ∙ mod-eq-of-lt below
 
       high : (i + r * p a) / r ≡ p a
-      high = add-mul-div-left i (p a) (positive below) ∙ ap (λ (k : ℕ). k + p a) (div-eq-of-lt below) ∙ zero-add (p a)
+      high = add-mul-div-left i (p a) (above-zero below) ∙ ap (λ (k : ℕ). k + p a) (div-eq-of-lt below) ∙ zero-add (p a)
 
       moved : (t : ℕ) → indexOf ls width (put a t p) ≡ i
       moved t = index-same ls width width (put a t p) p (each-off (λ b. Unit {0}) (λ b. (width b ≡ width b) × (put a t p b ≡ p b)) a ls fresh (λ b n k. (refl, put-off a t b p n)) (each-any (λ b. Unit {0}) ls (λ b. tt)))

@@ -5,19 +5,20 @@ use Prim.Native.Nat.{ℕ, _+_, _*_, _/_, _%_, _≤_, _<_}
 use native.Mathlib.Nat.{mod-lt, mod-eq-of-lt, div-eq-of-lt, div-add-mod, add-zero, mul-zero, zero-div, zero-mod, mul-le-mul-right, mul-add-div-right, mul-add-mod-self-right}
 use native.Mathlib.Decide.{decLt}
 use native.Mathlib.Omega.{arith}
+use mathlib.Core.Bool.{Bool}
 use lib.Dec.{leb}
 use lib.IntN.{ℤ, pos, natAbs}
 use lib.ListN.{length, List·getD-eq-default}
-use borrow.Author.Tests.{leb-true, le-leb}
+use borrow.Author.Tests.{leb-true, le-leb, lt-leb}
 use Rattle.lattice.specs.declared.Shape.{Shape}
-use Rattle.lattice.specs.Outcome.{done, refuseUnless}
+use Rattle.lattice.specs.Outcome.{Check, done, refused, refuseUnless, firstOf}
 use Rattle.lattice.specs.Buffer.{at}
 use Rattle.lattice.specs.Digits.{number, digit}
 use Rattle.lattice.specs.Shape.{count, orders, nodes, entries, size, Shaped}
 use Rattle.lattice.specs.Axes.{Place}
 use Rattle.lattice.specs.Records.{nodeNumber, entryNumber, entryIndex, entryPlace, limitOutcome}
-use Rattle.lattice.proofs.OutcomeLaws.{refuse-done, passes, firstOf-each, firstOf-passes}
-use Rattle.lattice.proofs.DigitsLaws.{digit-number, number-below, span-power}
+use Rattle.lattice.proofs.OutcomeLaws.{refuse-done, passes, firstOf-each, firstOf-passes, firstOf-stops, firstOf-more}
+use Rattle.lattice.proofs.DigitsLaws.{digit-number, number-below, span-power, above-zero}
 use Rattle.lattice.proofs.ShapeLaws.{orders-range}
 
 -- ---- nodes
@@ -71,11 +72,8 @@ module _ (s : Shape) (p : Place) (here : InTable s (λ a. p a / orders s)) (none
   index-node : entryIndex s p / entries s ≡ nodeNumber s node
   unfolding entryIndex node order
   index-node =
-      mul-add-div-right (positive order-below) (nodeNumber s node) (entryNumber s order)
+      mul-add-div-right (above-zero order-below) (nodeNumber s node) (entryNumber s order)
       ∙ ap (λ (k : ℕ). nodeNumber s node + k) (div-eq-of-lt order-below) ∙ add-zero (nodeNumber s node)
-    where
-      positive : {a b : ℕ} → a < b → 0 < b
-      positive h = omega arith
 
   index-order : entryIndex s p % entries s ≡ entryNumber s order
   unfolding entryIndex node order
@@ -110,3 +108,19 @@ pub limit-passes : (limit : ℕ) (xs : List ℤ) → ((i : ℕ) → natAbs (at x
 unfolding limitOutcome
 limit-passes limit xs h =
     firstOf-passes (length xs) (λ i. refuseUnless (leb (natAbs (at xs i)) limit) 5 i) (λ i l. passes (leb (natAbs (at xs i)) limit) 5 i (le-leb (natAbs (at xs i)) limit (h i)))
+
+-- tested from the front
+abbrev pub limitTest : ℕ → List ℤ → ℕ → Check
+limitTest limit xs i = refuseUnless (leb (natAbs (at xs i)) limit) 5 i
+
+module _ (limit : ℕ) (xs : List ℤ) where
+  pub limit-stops : (i : ℕ) → i < length xs → firstOf i (limitTest limit xs) ≡ done tt → limit < natAbs (at xs i) → limitOutcome limit xs ≡ refused 5 i
+  unfolding limitOutcome
+  limit-stops i l h big = firstOf-stops (length xs) i (limitTest limit xs) 5 i l h (ap (λ (t : Bool). refuseUnless t 5 i) (lt-leb (natAbs (at xs i)) limit big))
+
+  pub limit-more : (i : ℕ) → firstOf i (limitTest limit xs) ≡ done tt → natAbs (at xs i) ≤ limit → firstOf (i + 1) (limitTest limit xs) ≡ done tt
+  limit-more i h small = firstOf-more i (limitTest limit xs) h (ap (λ (t : Bool). refuseUnless t 5 i) (le-leb (natAbs (at xs i)) limit small))
+
+  pub limit-ends : (i : ℕ) → i ≡ length xs → firstOf i (limitTest limit xs) ≡ done tt → limitOutcome limit xs ≡ done tt
+  unfolding limitOutcome
+  limit-ends i e h = subst (λ (k : ℕ). firstOf k (limitTest limit xs) ≡ done tt) e h

@@ -6,7 +6,7 @@ use Prim.Native.Nat.{ℕ, _*_, _^_, _≤_, _<_}
 use native.Mathlib.Nat.{pow-zero, pow-suc, one-mul, mul-one, mul-le-mul, pow-le-pow-left, pow-le-pow-right, le-trans, one-le-pow}
 use native.Mathlib.Omega.{arith}
 use lib.Dec.{leb, ltb, eqb, lit<}
-use borrow.Author.Tests.{ltb-true, ltb-false, leb-true, eqb-true, lt-ltb, le-ltb}
+use borrow.Author.Tests.{ltb-true, ltb-false, leb-true, eqb-true, eq-eqb, lt-ltb, le-ltb}
 use Rattle.arith.proofs.Choices.{pick-true, pick-false, on-pick, and-true, or-true}
 use Rattle.lattice.specs.declared.Shape.{Shape}
 use Rattle.lattice.specs.Outcome.{Check, done, refuseUnless, first}
@@ -16,12 +16,22 @@ use Rattle.lattice.proofs.OutcomeLaws.{first-done, refuse-done, firstOf
 
 -- ---- the counts
 
+-- what is allowed
+module _ (n c a : ℕ) where
+  pub allowed-is : a < n → countAllowed n c a ≡ (leb 2 c && leb c 64)
+  unfolding countAllowed
+  allowed-is l = pick-true (ltb a n) (leb 2 c && leb c 64) (eqb c 1) (lt-ltb a n l)
+
+  pub allowed-unused : n ≤ a → c ≡ 1 → countAllowed n c a ≡ true
+  unfolding countAllowed
+  allowed-unused l e = pick-false (ltb a n) (leb 2 c && leb c 64) (eqb c 1) (le-ltb a n l) ∙ eq-eqb c 1 e
+
 -- of a count that is allowed
 module _ (n c a : ℕ) (h : countAllowed n c a ≡ true) where
   pub count-used : a < n → (2 ≤ c) × (c ≤ 64)
   unfolding countAllowed
   count-used l =
-      let e = and-true (leb 2 c) (leb c 64) (sym (pick-true (ltb a n) (leb 2 c && leb c 64) (eqb c 1) (lt-ltb a n l)) ∙ h) in
+      let e = and-true (leb 2 c) (leb c 64) (sym (allowed-is n c a l) ∙ h) in
       (leb-true 2 c (e .0), leb-true c 64 (e .1))
 
   pub count-unused : n ≤ a → c ≡ 1

@@ -1,4 +1,3 @@
-pub mod General
 pub mod Twos
 pub mod NumberLaws
 pub mod ReadLaws

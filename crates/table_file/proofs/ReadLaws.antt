@@ -13,7 +13,7 @@ use Rattle.lattice.specs.Outcome.{Outcome, Check, done, refused, refuseUnless, 
 use Rattle.lattice.specs.Buffer.{at, tabulate}
 use Rattle.lattice.specs.Shape.{axesOutcome, countAllowed}
 use Rattle.lattice.specs.Records.{sampleLimit, limitOutcome}
-use Rattle.lattice.proofs.OutcomeLaws.{first-done, first-passed, refused-first, refuse-done, passes}
+use Rattle.lattice.proofs.OutcomeLaws.{first-done, first-passed, refused-first, refuse-done, passes, first-assoc}
 use Rattle.lattice.proofs.BufferLaws.{length-tabulate, getD-tabulate}
 use Rattle.table_file.specs.Numbers.{numberAt, signedOf}
 use Rattle.table_file.specs.File.{Header, complete, axesIn, countIn, headerIn, nodesIn, samplesIn, countOutcome, oneOutcome, nothingAfter, twoOutcome}
@@ -21,7 +21,7 @@ use Rattle.table_file.specs.Parser.{numberFrom, samplesFrom, lengthsOutc
 use Rattle.table_file.specs.declared.Number.the-variants.{Whole, Refused}
 use Rattle.table_file.specs.declared.Cursor.{Cursor}
 use Rattle.lattice.specs.declared.Refusal.{Refusal}
-use Rattle.table_file.proofs.General.{first-assoc, allowed-is}
+use Rattle.lattice.proofs.ShapeLaws.{allowed-is}
 
 -- ---- a number at a cursor
 

@@ -12,12 +12,12 @@ use Rattle.lattice.specs.Digits.{span}
 use Rattle.lattice.specs.Shape.{count, nodes, axesOutcome, degreeOutcome, countAllowed, countsOutcome, shapeOutcome, Shaped}
 use Rattle.lattice.specs.Records.{sampleLimit, limitOutcome}
 use Rattle.lattice.specs.declared.Shape.{Shape}
-use Rattle.lattice.proofs.OutcomeLaws.{first-done, first-passed, passes, firstOf-each, firstOf-passes, done-same}
-use Rattle.lattice.proofs.ShapeLaws.{axes-range, counts-each, shaped, nodes-high}
+use Rattle.lattice.proofs.OutcomeLaws.{first-done, first-passed, passes, firstOf-each, firstOf-passes, done-same, first-assoc}
+use Rattle.lattice.proofs.ShapeLaws.{axes-range, counts-each, shaped, nodes-high, allowed-unused}
 use Rattle.table_file.specs.Numbers.{numberAt}
 use Rattle.table_file.specs.File.{Header, header, complete, axesIn, countIn, headerIn, nodesIn, samplesIn, countOutcome, oneOutcome, readCheck, readOutcome}
 use Rattle.table_file.specs.Parser.{lengthsOutcome, restOutcome, AfterOne}
-use Rattle.table_file.proofs.General.{split, first-assoc, allowed-unused}
+use Rattle.arith.proofs.Choices.{split}
 use Rattle.table_file.proofs.ReadLaws.{count-absent, rest-is, lengths-done, lengths-pass}
 
 -- ---- a shape of any degree: the number of nodes does not depend on it

@@ -16,7 +16,7 @@ use Rattle.lattice.specs.Records.{sampleLimit, limitOutcome}
 use Rattle.lattice.proofs.OutcomeLaws.{first-done, first-passed, refuse-done, passes}
 use Rattle.table_file.specs.Numbers.{bytesOf, bytesOfAll, unsignedOf}
 use Rattle.table_file.specs.File.{Header, header, sectionOne, sectionTwo, fileOf, countOf, nodesOf, writeCheck, writeOutcome, Permitted}
-use Rattle.table_file.proofs.General.{sets-append, sets-front}
+use Rattle.lattice.proofs.BufferLaws.{sets-append, sets-front}
 use Rattle.lattice.proofs.ShapeLaws.{nodes-high}
 use Rattle.table_file.proofs.TakenLaws.{shapeOf, shaped-of}
 use Rattle.table_file.proofs.NumberLaws.{length-all, all-append, all-one}

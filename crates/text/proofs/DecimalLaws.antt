@@ -10,9 +10,8 @@ use lib.Dec.{ltb}
 use lib.IntN.{ℤ, pos, negsuc, natAbs}
 use lib.ListN.{length, length-append}
 use lib.Signed.{ltZ}
-use Rattle.arith.proofs.Choices.{pick-true, pick-false}
+use Rattle.arith.proofs.Choices.{pick-true, pick-false, split}
 use Rattle.text.specs.Decimal.{digits, decimal, signedDecimal}
-use Rattle.text.proofs.General.{split}
 
 -- room for more digits changes nothing
 more-room : (k j n : ℕ) → n < k → n < j → digits k n ≡ digits j n

@@ -1,4 +1,3 @@
-pub mod General
 pub mod DecimalLaws
 pub mod LineLaws
 pub mod Theorems

@@ -8,7 +8,7 @@ use lib.ListN.{length, getD, set, length-append}
 use lib.Seq.{sets}
 use Rattle.text.specs.Decimal.{decimal, signedDecimal}
 use Rattle.text.specs.Lines.{word, line, cellLine, refusedWord, refusedLine}
-use Rattle.text.proofs.General.{sets-append}
+use Rattle.lattice.proofs.BufferLaws.{sets-append}
 use Rattle.text.proofs.DecimalLaws.{decimal-short, signed-short}
 
 -- `old` with a text from `at` on is `now`, and the text ends at `end`

@@ -7,7 +7,7 @@ use borrow.Author.Tests.{ltb-true, ltb-false}
 use lib.Dec.{ltb}
 use lib.ListN.{length, getD, List·getD-append}
 use Rattle.text.specs.Decimal.{decimal}
-use Rattle.text.proofs.General.{split}
+use Rattle.arith.proofs.Choices.{split}
 use Rattle.text.proofs.DecimalLaws.{one-digit, more-digits, one-length, more-length}
 
 -- the number that digits make after `front`

@@ -1,6 +1,6 @@
-use native.Mathlib.Nat.{pow-le-pow-right, lt-of-lt-of-le, lt-of-le-of-lt, mod-eq-of-lt, one-mul}
+use native.Mathlib.Nat.{pow-le-pow-right, lt-of-lt-of-le}
 use lib.Pow.{pow-mono}
-use lib.Dec.{lit<}
+use Rattle.arith.proofs.Machine.{shifted}
 use Rattle.cell.proofs.CellLaws.{laid-small}
 use mathlib.Core.List.{List}
 use Rattle.lattice.specs.declared.Shape.{Shape}
@@ -28,10 +28,6 @@ Inv-loop records l limits n corners c₀ c = (c ≤ corners) × (firstOf c (corn
 
 abbrev μ-loop : tie.MeasureT-loop
 μ-loop records l limits n corners c₀ c = corners - c
-
--- the number of corners, as the code shifts it
-shifted : (n : ℕ) → n ≤ 3 → 1 * 2 ^ n % 18446744073709551616 ≡ 2 ^ n
-shifted n h = rw (one-mul (2 ^ n)) (mod-eq-of-lt (lt-of-le-of-lt (pow-mono h) (lit< tt)))
 
 module _ (c : tie.At-loop Inv-loop μ-loop) where
   abbrev b : tie.Start Inv-loop μ-loop

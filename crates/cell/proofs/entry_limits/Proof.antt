@@ -1,7 +1,7 @@
-use mathlib.Core.Bool.{Bool, true, false, _&&_}
+use mathlib.Core.Bool.{Bool, _&&_}
 use mathlib.Core.List.{List, [], _∷_}
 use lib.Dec.{T, eqb, eqb→eq}
-use Rattle.arith.proofs.Choices.{all, all-at}
+use Rattle.arith.proofs.Choices.{all, all-at, and-T}
 use Rattle.cell.specs.Cell.{limitOf}
 use mathlib.Core.Path.{_≡_, refl, sym, ap, subst, _∙_}
 use Prim.Native.Nat.{ℕ, _<_, _^_}
@@ -29,10 +29,6 @@ by-test m n row e l t =
     let h = and-T (nonNeg (at row e)) (eqb (natAbs (at row e)) (limitOf m e)) (all-at n (right m row) t e l) in
     whole (at row e) (h .0) ∙ ap pos (eqb→eq (natAbs (at row e)) (limitOf m e) (h .1))
   where
-    and-T : (a b : Bool) → T (a && b) → T a × T b
-    and-T true b h = (tt, h)
-    and-T false b h = absurd h
-
     whole : (z : ℤ) → T (nonNeg z) → z ≡ pos (natAbs z)
     whole (pos n) h = refl
     whole (negsuc n) h = absurd h

@@ -4,19 +4,17 @@ use mathlib.Core.List.{List, [], _∷_}
 use Rattle.arith.proofs.Choices.{by-m}
 use Rattle.lattice.specs.Buffer.{at}
 use Rattle.hermite.specs.Hermite.{multiplier}
+use Rattle.hermite.proofs.DotLaws.{held}
 use Rattle.coefficients.specs.Blocks.{Back}
 use Rattle.coefficients.proofs.TableLaws.{backList, back-is}
 use mathlib.Core.Path.{_≡_, refl, sym, subst}
 use Prim.Native.Nat.{ℕ, _≤_}
 use lib.IntN.{ℤ, pos, _-ℤ_, _*ℤ_}
 use mir.Syntax.{w64}
-use mir.Val.{SFits, toZ, ofZ}
+use mir.Val.{SFits}
 use borrow.Author.Needs.{needs}
 use Rattle.coefficients.proofs.back_table.Statement.{statement}
 use Rattle.coefficients.proofs.back_table.Tie as tie
-
-abbrev held : ℤ → ℤ
-held z = toZ w64 (ofZ w64 z)
 
 -- the numbers of the code are small
 module _ (m : ℕ) (m2 : 2 ≤ m) (m3 : m ≤ 3) (p q s : ℤ) (hp : p ≡ multiplier m 1 0) (hq : q ≡ multiplier m 2 0) (hs : s ≡ multiplier m 2 1) where

@@ -4,7 +4,7 @@ use native.Mathlib.Nat.{mul-zero, lt-of-lt-of-le}
 use lib.Dec.{lit≤}
 use lib.Pow.{pow-mono}
 use Rattle.coefficients.specs.Blocks.{spot, startOf, blockNumber, scatter}
-use Rattle.coefficients.proofs.General.{noughts, noughts-at}
+use Rattle.lattice.proofs.BufferLaws.{noughts, noughts-at}
 use Rattle.coefficients.proofs.BlockLaws.{orders-some, count-low}
 use Rattle.coefficients.proofs.SpotLaws.{scatter-length, stands-none, stands-corner, stands-all}
 use Rattle.coefficients.proofs.FillLaws.{wanted, block-is, block-low}

@@ -3,10 +3,9 @@ use lib.Dec.{leb, eqb}
 use Rattle.lattice.specs.Shape.{orders, size, shapeOutcome}
 use Rattle.cell.specs.Cell.{placeAt, cellOutcome}
 use Rattle.coefficients.specs.Corners.{coefficientCount}
-use Rattle.coefficients.proofs.General.{first-assoc}
 use Rattle.lattice.specs.Answer.{meaning}
 use Rattle.lattice.specs.Outcome.{refuseUnless, first}
-use Rattle.lattice.proofs.OutcomeLaws.{refused-first, first-passed}
+use Rattle.lattice.proofs.OutcomeLaws.{refused-first, first-passed, first-assoc}
 use Rattle.lattice.proofs.ShapeLaws.{shaped}
 use Rattle.coefficients.specs.Corners.{askedOutcome}
 use mathlib.Core.Path.{sym, ap, ap₂, _∙_}

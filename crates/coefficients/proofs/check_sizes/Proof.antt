@@ -1,7 +1,6 @@
 -- `coefficients::check_sizes` meets its contract: 4, then 9.
 use lib.Dec.{leb, eqb}
 use Rattle.lattice.specs.Outcome.{refuseUnless, first}
-use Rattle.lattice.specs.Shape.{orders}
 use Rattle.coefficients.specs.Corners.{coefficientCount}
 use mathlib.Core.Path.{ap, ap₂, _∙_}
 use Prim.Native.Nat.{ℕ}
@@ -34,7 +33,7 @@ returns c =
     let b = c .before .before .before .before .block-of in
     c .earlier .ensures
     ∙ ap₂ first (c .before .before .refuse-unless .ensures ∙ ap (λ (n : ℕ). refuseUnless (eqb (s .args .given) n) 4 0) (c .before .before .before .before .before .table-entries .ensures))
-    (c .before .refuse-unless2 .ensures ∙ ap (λ (n : ℕ). refuseUnless (leb n (s .args .room)) 9 0) (count ∙ ap (λ (m : ℕ). coefficientCount m (b .result .axes)) (b .ensures .2) ∙ ap (coefficientCount (orders (s .args .s))) (b .ensures .1)))
+    (c .before .refuse-unless2 .ensures ∙ ap (λ (n : ℕ). refuseUnless (leb n (s .args .room)) 9 0) (count ∙ ap₂ coefficientCount (b .ensures .2) (b .ensures .1)))
 
 pub check-sizes-spec : {M : Type 1} → statement M
 check-sizes-spec =

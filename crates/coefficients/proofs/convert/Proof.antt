@@ -2,7 +2,7 @@
 use Rattle.coefficients.specs.Blocks.{tabled}
 use Rattle.coefficients.proofs.BlockLaws.{after-low, after-last, after-more, after-all}
 use Rattle.lattice.specs.Buffer.{at}
-use Rattle.coefficients.proofs.PassesLaws.{passes}
+use Rattle.lattice.proofs.PassesLaws.{passes}
 use mathlib.Core.Path.{_≡_, refl, sym, ap, subst, _∙_}
 use Prim.Native.Nat.{ℕ, _≤_, _<_, _^_, _-_, zero-le}
 use native.Mathlib.Omega.{arith}

@@ -5,8 +5,8 @@ use Rattle.lattice.specs.Buffer.{at}
 use Rattle.lattice.specs.Flat.{pass}
 use Rattle.coefficients.specs.declared.Block.{Block}
 use Rattle.coefficients.specs.Blocks.{tabled, passed}
-use Rattle.coefficients.proofs.General.{fill}
-use Rattle.coefficients.proofs.NumberLaws.{pair-high, pair-low}
+use Rattle.lattice.proofs.BufferLaws.{fill}
+use Rattle.lattice.proofs.DigitsLaws.{high-digit, low-digit}
 use Rattle.coefficients.proofs.BlockLaws.{entries-low, row-in, group-in}
 use mathlib.Core.Path.{_≡_, sym, ap, _∙_}
 use Prim.Native.Nat.{ℕ, _≤_, _<_, _+_, _-_, _*_, _/_, zero-le}
@@ -21,8 +21,8 @@ use Rattle.coefficients.proofs.convert_row.Tie as tie
 number-is : (b : Block) (T xs : ℕ → ℤ) (k g : ℕ) → g < b .groups → tabled (b .orders) T (λ t. xs (b .orders * g + t)) k ≡ passed b T xs (b .groups * k + g)
 unfolding pass
 number-is b T xs k g l =
-    sym (ap (λ (i : ℕ). tabled (b .orders) T (λ t. xs (b .orders * i + t)) ((b .groups * k + g) / b .groups)) (pair-low (b .groups) k g l)
-    ∙ ap (tabled (b .orders) T (λ t. xs (b .orders * g + t))) (pair-high (b .groups) k g l))
+    sym (ap (λ (i : ℕ). tabled (b .orders) T (λ t. xs (b .orders * i + t)) ((b .groups * k + g) / b .groups)) (low-digit (b .groups) k g l)
+    ∙ ap (tabled (b .orders) T (λ t. xs (b .orders * g + t))) (high-digit (b .groups) k g l))
 
 abbrev Inv-loop : tie.InvT-loop
 Inv-loop table k xs zs₀ m r g₀ zs g = (g ≤ r) × (length zs ≡ 27) × ((i : ℕ) → i < r * k + g → at zs i ≡ pass m r (tabled m (at table)) (at xs) i)

@@ -1,5 +1,5 @@
 -- `coefficients::digits` meets its contract: the three digits of each base, divided by literals.
-use Rattle.hermite.proofs.General.{by-3}
+use Rattle.arith.proofs.Choices.{by-3}
 use mathlib.Core.List.{[], _∷_}
 use Rattle.lattice.specs.Digits.{digit}
 use mathlib.Core.Path.{_≡_, refl}

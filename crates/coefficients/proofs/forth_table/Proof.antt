@@ -3,20 +3,16 @@ use lib.Dec.{lit<}
 use mathlib.Core.List.{List, [], _∷_}
 use Rattle.lattice.specs.Buffer.{at}
 use Rattle.hermite.specs.Hermite.{multiplier}
+use Rattle.hermite.proofs.DotLaws.{held}
 use Rattle.coefficients.specs.Blocks.{Forth}
-use Rattle.coefficients.proofs.General.{kept}
+use Rattle.arith.proofs.Machine.{kept}
 use Rattle.coefficients.proofs.TableLaws.{forthList, forth-is, multiplier-low}
 use mathlib.Core.Path.{_≡_, refl, sym, ap, subst, _∙_}
 use Prim.Native.Nat.{ℕ, _≤_, _<_}
 use lib.IntN.{ℤ}
-use mir.Syntax.{w64}
-use mir.Val.{toZ, ofZ}
 use borrow.Author.Needs.{needs}
 use Rattle.coefficients.proofs.forth_table.Statement.{statement}
 use Rattle.coefficients.proofs.forth_table.Tie as tie
-
-abbrev held : ℤ → ℤ
-held z = toZ w64 (ofZ w64 z)
 
 -- the list of the code
 module _ (m : ℕ) (m2 : 2 ≤ m) (m3 : m ≤ 3) (a b c : ℕ → ℤ) (ha : (o : ℕ) → a o ≡ multiplier m 0 o) (hb : (o : ℕ) → b o ≡ multiplier m 1 o) (hc : (o : ℕ) → c o ≡ multiplier m 2 o) where

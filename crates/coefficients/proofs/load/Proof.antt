@@ -3,10 +3,10 @@ use native.Mathlib.Nat.{not-suc-le-zero, le-trans, le-of-eq}
 use borrow.Author.Count.{below-more}
 use mir.Facts.{toZ-ofZ}
 use borrow.Author.Needs.{sfits-of}
-use Rattle.arith.proofs.Machine.{widen-fits, widened}
+use Rattle.arith.proofs.Machine.{widen-fits, widened, near}
 use Rattle.lattice.specs.Buffer.{at}
 use Rattle.coefficients.specs.Blocks.{signed}
-use Rattle.coefficients.proofs.General.{fill, near}
+use Rattle.lattice.proofs.BufferLaws.{fill}
 use Rattle.coefficients.proofs.BlockLaws.{entries-low, signed-size}
 use mathlib.Core.Path.{_≡_, refl, ap, _∙_}
 use Prim.Native.Nat.{ℕ, _≤_, _<_, _+_, _^_, _-_, zero-le}

@@ -10,7 +10,7 @@ use Rattle.arith.proofs.Choices.{by-m}
 use Rattle.arith.proofs.Quote.{quotes, ring! }
 use Rattle.lattice.specs.Buffer.{at}
 use Rattle.coefficients.specs.Blocks.{tabled, Modest, Within}
-use Rattle.coefficients.proofs.General.{kept, kept-low}
+use Rattle.arith.proofs.Machine.{kept, kept-low}
 use mathlib.Core.Path.{_≡_, refl, sym, ap, subst, _∙_}
 use Prim.Native.Nat.{ℕ, _≤_, _<_, _+_, _^_, _-_, _*_}
 use native.Mathlib.Omega.{arith}

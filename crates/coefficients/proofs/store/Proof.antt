@@ -6,7 +6,7 @@ use lib.Dec.{lit<}
 use Rattle.arith.proofs.Abs.{sfits-abs}
 use Rattle.lattice.specs.Buffer.{at}
 use Rattle.coefficients.specs.Blocks.{spot, scatter}
-use Rattle.coefficients.proofs.General.{kept}
+use Rattle.arith.proofs.Machine.{kept}
 use Rattle.coefficients.proofs.BlockLaws.{orders-some, entries-low, count-low}
 use Rattle.coefficients.proofs.SpotLaws.{spot-in}
 use mathlib.Core.Path.{_≡_, refl, sym, ap, subst, _∙_}

@@ -1,7 +1,6 @@
 -- `corners::check_lengths` meets its contract: 15, then 9.
 use lib.Dec.{leb, eqb}
 use Rattle.lattice.specs.Outcome.{refuseUnless, first}
-use Rattle.lattice.specs.Shape.{ordersOf}
 use Rattle.coefficients.specs.Corners.{coefficientCount}
 use mathlib.Core.Path.{ap, ap₂, _∙_}
 use Prim.Native.Nat.{ℕ}
@@ -28,7 +27,7 @@ returns : tie.Need-returns
 returns c =
     let s = c .before .before .before .before .before in
     let b = c .before .before .before .before .block-of in
-    let count = c .before .before .before .coefficient-count .ensures .0 ∙ ap (λ (m : ℕ). coefficientCount m (b .result .axes)) (b .ensures .2) ∙ ap (coefficientCount (ordersOf (s .args .degree))) (b .ensures .1) in
+    let count = c .before .before .before .coefficient-count .ensures .0 ∙ ap₂ coefficientCount (b .ensures .2) (b .ensures .1) in
     c .earlier .ensures
     ∙ ap₂ first (c .before .before .refuse-unless .ensures ∙ ap (λ (n : ℕ). refuseUnless (eqb (s .args .given) n) 15 0) count)
     (c .before .refuse-unless2 .ensures ∙ ap (λ (n : ℕ). refuseUnless (leb n (s .args .room)) 9 0) count)

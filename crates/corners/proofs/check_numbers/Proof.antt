@@ -6,10 +6,9 @@ use Rattle.coefficients.specs.Corners.{coefficientCount}
 use Rattle.lattice.specs.Answer.{meaning}
 use Rattle.lattice.specs.Outcome.{Check, done, first}
 use Rattle.lattice.specs.Shape.{axesOutcome, degreeOutcome}
-use Rattle.lattice.proofs.OutcomeLaws.{refused-first, first-passed, first-done}
+use Rattle.lattice.proofs.OutcomeLaws.{refused-first, first-passed, first-done, first-assoc}
 use Rattle.lattice.proofs.ShapeLaws.{axes-range}
 use Rattle.coefficients.specs.Corners.{numbersOutcome}
-use Rattle.coefficients.proofs.General.{first-assoc}
 use mathlib.Core.Path.{_≡_, sym, ap, ap₂, _∙_}
 use Prim.Native.Nat.{ℕ}
 use borrow.Author.Needs.{needs}

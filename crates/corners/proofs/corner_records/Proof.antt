@@ -3,9 +3,8 @@ use native.Mathlib.Nat.{lt-of-lt-of-le, mul-comm}
 use lib.Pow.{pow-mono}
 use lib.Dec.{lit≤}
 use Rattle.lattice.specs.Answer.{meaning}
-use Rattle.lattice.proofs.OutcomeLaws.{firstOf-stops, firstOf-more}
+use Rattle.lattice.proofs.OutcomeLaws.{firstOf-stops, firstOf-more, done-refused}
 use Rattle.coefficients.specs.Corners.{coefficientCount}
-use Rattle.coefficients.proofs.General.{done-refused}
 use Rattle.coefficients.proofs.NumberLaws.{count-split}
 use Rattle.coefficients.proofs.BlockLaws.{count-low}
 use Rattle.coefficients.proofs.SpotLaws.{scatter-length}

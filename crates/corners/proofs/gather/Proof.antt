@@ -1,11 +1,11 @@
 -- `corners::gather` meets its contract: the array is filled from the front; each number fits 32 bits.
 use native.Mathlib.Nat.{not-suc-le-zero, le-trans, le-of-eq}
 use borrow.Author.Count.{below-more}
-use Rattle.arith.proofs.Machine.{widen-fits, widened}
+use Rattle.arith.proofs.Machine.{widen-fits, widened, near}
 use Rattle.lattice.specs.Buffer.{at}
 use Rattle.coefficients.specs.Corners.{coefficientCount}
 use Rattle.coefficients.specs.Blocks.{spot}
-use Rattle.coefficients.proofs.General.{fill, near}
+use Rattle.lattice.proofs.BufferLaws.{fill}
 use Rattle.coefficients.proofs.BlockLaws.{orders-some, entries-low, count-low}
 use Rattle.coefficients.proofs.SpotLaws.{spot-in}
 use mathlib.Core.Path.{_≡_, refl, sym, ap, subst, _∙_}

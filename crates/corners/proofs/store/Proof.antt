@@ -11,11 +11,11 @@ use borrow.Author.Tests.{leb-true, eqb-true}
 use Rattle.arith.proofs.Abs.{sfits-abs}
 use Rattle.arith.proofs.Choices.{and-true}
 use Rattle.lattice.specs.Answer.{meaning}
-use Rattle.lattice.proofs.OutcomeLaws.{firstOf-stops, firstOf-more}
-use Rattle.coefficients.proofs.General.{kept, done-refused}
+use Rattle.lattice.proofs.OutcomeLaws.{firstOf-stops, firstOf-more, done-refused}
+use Rattle.arith.proofs.Machine.{kept}
 use Rattle.coefficients.proofs.BlockLaws.{orders-some, entries-low, count-low}
 use Rattle.coefficients.proofs.SpotLaws.{entry-of}
-use Rattle.coefficients.proofs.Whole.{whole-is, size-of}
+use Rattle.arith.proofs.Round.{whole-is, size-of}
 use mathlib.Core.List.{List}
 use Rattle.arith.specs.Int.{floorDiv}
 use Rattle.lattice.specs.Outcome.{Check, done, refuseUnless, firstOf}

@@ -1,10 +1,10 @@
 -- `corners::whole_within` meets its contract: the test of the quotient and the rest by 2^n.
 use mathlib.Core.Bool.{Bool, _&&_}
-use native.Mathlib.Nat.{one-mul, mod-eq-of-lt, lt-of-le-of-lt}
-use lib.Pow.{pow-mono, pow-pos}
-use lib.Dec.{leb, eqb, lit<}
+use lib.Pow.{pow-pos}
+use lib.Dec.{leb, eqb}
 use mir.Facts.{toZ-ofZ}
 use borrow.Author.Tests.{eq-eqb, ne-eqb}
+use Rattle.arith.proofs.Machine.{shifted}
 use Rattle.corners.specs.Back.{wholeWithin}
 use mathlib.Core.Path.{_≡_, sym, ap, _∙_}
 use Prim.Native.Nat.{ℕ, _≤_, _<_, _^_, _*_, _/_, _%_}
@@ -16,21 +16,18 @@ use Rattle.corners.proofs.whole_within.Statement.{statement}
 use Rattle.corners.proofs.whole_within.Tie as tie
 
 -- the divisor of the code
-divisor : (n : ℕ) → n ≤ 3 → 1 * 2 ^ n % 18446744073709551616 ≡ 2 ^ n
-divisor n h = rw (one-mul (2 ^ n)) (mod-eq-of-lt (lt-of-le-of-lt (pow-mono h) (lit< tt)))
-
 some : (n : ℕ) → n ≤ 3 → 0 < 1 * 2 ^ n % 18446744073709551616
-some n h = rw (divisor n h) (pow-pos n)
+some n h = rw (shifted n h) (pow-pos n)
 
 module _ (n limit size : ℕ) (z : ℤ) (h : n ≤ 3) (fit : SFits w64 z) (is : size ≡ natAbs (toZ w64 (ofZ w64 z))) where
   size-is : size ≡ natAbs z
   size-is = is ∙ ap natAbs (toZ-ofZ {w = w64} fit)
 
   no-rest : size % (1 * 2 ^ n % 18446744073709551616) ≡ 0 → leb (size / (1 * 2 ^ n % 18446744073709551616)) limit ≡ wholeWithin n limit z
-  no-rest = rw (divisor n h, size-is) (λ e. sym (ap (λ (t : Bool). t && leb (natAbs z / 2 ^ n) limit) (eq-eqb (natAbs z % 2 ^ n) 0 e)))
+  no-rest = rw (shifted n h, size-is) (λ e. sym (ap (λ (t : Bool). t && leb (natAbs z / 2 ^ n) limit) (eq-eqb (natAbs z % 2 ^ n) 0 e)))
 
   rest : (size % (1 * 2 ^ n % 18446744073709551616) ≡ 0 → ⊥) → eqb (size % (1 * 2 ^ n % 18446744073709551616)) 0 ≡ wholeWithin n limit z
-  rest = rw (divisor n h, size-is) (λ e. ne-eqb (natAbs z % 2 ^ n) 0 e ∙ sym (ap (λ (t : Bool). t && leb (natAbs z / 2 ^ n) limit) (ne-eqb (natAbs z % 2 ^ n) 0 e)))
+  rest = rw (shifted n h, size-is) (λ e. ne-eqb (natAbs z % 2 ^ n) 0 e ∙ sym (ap (λ (t : Bool). t && leb (natAbs z / 2 ^ n) limit) (ne-eqb (natAbs z % 2 ^ n) 0 e)))
 
 magnitude-requires : tie.Need-magnitude-requires
 magnitude-requires c κs = search needs

@@ -10,7 +10,7 @@ use Rattle.lattice.specs.Buffer.{at}
 use Rattle.estimate.specs.declared.Grid.{Grid}
 use Rattle.estimate.specs.Estimate.{left, right}
 use Rattle.estimate.specs.Passes.{passLimit, placed, since, passOf, nodeOf, recordSize, rowOf, Read, Grids}
-use Rattle.estimate.proofs.General.{group-room, high-digit, low-digit}
+use Rattle.lattice.proofs.DigitsLaws.{group-room, high-digit, low-digit}
 use Rattle.estimate.proofs.PlacedLaws.{stored-none, stored-length, stored-room, stored-more}
 use Rattle.estimate.proofs.PassesLaws.{left-below, right-below, column-high, record-high}
 use Rattle.estimate.proofs.fill_row.Statement.{statement}

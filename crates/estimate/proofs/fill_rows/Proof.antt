@@ -11,7 +11,7 @@ use borrow.Author.Needs.{needs}
 use Rattle.lattice.specs.Buffer.{at}
 use Rattle.estimate.specs.declared.Grid.{Grid}
 use Rattle.estimate.specs.Passes.{passLimit, placed, rowYZ, rowSize, rowOf, rowsOf, Read, Samples}
-use Rattle.estimate.proofs.General.{group-room}
+use Rattle.lattice.proofs.DigitsLaws.{group-room}
 use Rattle.estimate.proofs.PassesLaws.{column-high, record-high, row-high, rows-high, row-yz-high, row-yz-size}
 use Rattle.estimate.proofs.RowsLaws.{row-same, row-in-z, rows-at}
 use Rattle.estimate.proofs.PlacedLaws.{stored-none, stored-length, stored-room, stored-more}

@@ -11,7 +11,7 @@ use denote.Ref.{now}
 use Rattle.lattice.specs.Buffer.{at}
 use Rattle.estimate.specs.Estimate.{byOrder}
 use Rattle.estimate.specs.Passes.{passLimit, placed, since, passOf, Read}
-use Rattle.estimate.proofs.General.{group-room}
+use Rattle.lattice.proofs.DigitsLaws.{group-room}
 use Rattle.estimate.proofs.PassesLaws.{bits, pass-group}
 use Rattle.estimate.proofs.PlacedLaws.{stored-none, stored-length, stored-room, stored-more}
 use Rattle.estimate.proofs.pass.Statement.{statement}

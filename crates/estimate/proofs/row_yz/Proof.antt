@@ -12,7 +12,7 @@ use Rattle.lattice.specs.Buffer.{at}
 use Rattle.estimate.specs.declared.Grid.{Grid}
 use Rattle.estimate.specs.Estimate.{left, right}
 use Rattle.estimate.specs.Passes.{placed, since, passOf, rowZ, rowYZ, Read, Samples}
-use Rattle.estimate.proofs.General.{high-below}
+use Rattle.lattice.proofs.DigitsLaws.{high-below}
 use Rattle.estimate.proofs.PlacedLaws.{placed-length, placed-at, placed-before}
 use Rattle.estimate.proofs.PassesLaws.{left-below, right-below, row-z-high, row-yz-high, row-z-size}
 use Rattle.estimate.proofs.row_yz.Statement.{statement}

@@ -18,7 +18,7 @@ use Rattle.lattice.specs.Buffer.{at}
 use Rattle.lattice.specs.Records.{recordsField}
 use Rattle.lattice.proofs.ShapeLaws.{orders-range}
 use Rattle.cell.specs.Cell.{placeAt}
-use Rattle.hermite.proofs.DotLaws.{read}
+use Rattle.arith.proofs.Machine.{read}
 use Rattle.evaluate.specs.declared.Strides.{Strides}
 use Rattle.evaluate.specs.Evaluate.{lastAxis, askAt, answer}
 use Rattle.evaluate.specs.Stages.{Workable, WorkedOff}

@@ -6,7 +6,7 @@ use Rattle.arith.proofs.Abs.{sfits-abs}
 use Rattle.lattice.specs.Records.{recordsField}
 use Rattle.lattice.proofs.ShapeLaws.{orders-range}
 use Rattle.cell.specs.Cell.{placeAt}
-use Rattle.hermite.proofs.DotLaws.{read}
+use Rattle.arith.proofs.Machine.{read}
 use Rattle.evaluate.specs.Evaluate.{askAt, answer}
 use Rattle.evaluate.specs.Wants.{wanted}
 use Rattle.evaluate.proofs.Answering.{answer-fits}

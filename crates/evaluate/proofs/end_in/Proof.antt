@@ -1,5 +1,5 @@
 use Rattle.lattice.specs.Buffer.{at}
-use Rattle.hermite.proofs.DotLaws.{read}
+use Rattle.arith.proofs.Machine.{read}
 use Rattle.evaluate.proofs.EndLaws.{number-at, number-none, end-numbers}
 use mathlib.Core.Path.{_≡_, sym, _∙_}
 use Prim.Native.Nat.{_<_, _+_, _*_}

@@ -1,7 +1,7 @@
 use mathlib.Core.List.{[]}
 use Rattle.lattice.specs.Buffer.{at}
 use Rattle.hermite.specs.Hermite.{kindOf}
-use Rattle.hermite.proofs.DotLaws.{read}
+use Rattle.arith.proofs.Machine.{read}
 use Rattle.evaluate.specs.Stages.{after}
 use Rattle.evaluate.proofs.EndLaws.{safe-low, safe-high, safe-load, stage-after}
 use mathlib.Core.Path.{_∙_}

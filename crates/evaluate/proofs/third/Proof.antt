@@ -10,7 +10,7 @@ use mir.Val.{toZ, ofZ}
 use denote.Ref.{now}
 use Rattle.lattice.specs.Buffer.{at}
 use Rattle.hermite.specs.Hermite.{kindOf}
-use Rattle.hermite.proofs.DotLaws.{read}
+use Rattle.arith.proofs.Machine.{read}
 use Rattle.evaluate.specs.declared.Axis.{Axis}
 use Rattle.evaluate.specs.Stages.{after}
 use Rattle.evaluate.proofs.EndLaws.{safe-load, stage-after}

@@ -5,8 +5,9 @@ use lib.Signed.{mag}
 use mir.Facts.{toZ-ofZ}
 use Rattle.arith.proofs.Abs.{sfits-abs}
 use Rattle.lattice.specs.Buffer.{at}
-use Rattle.hermite.proofs.General.{by-3}
-use Rattle.hermite.proofs.DotLaws.{held, read}
+use Rattle.arith.proofs.Choices.{by-3}
+use Rattle.hermite.proofs.DotLaws.{held}
+use Rattle.arith.proofs.Machine.{read}
 use mathlib.Core.Path.{_≡_, _∙_}
 use Prim.Native.Nat.{ℕ, _≤_, _<_, _^_}
 use lib.IntN.{ℤ, natAbs, _+ℤ_, _*ℤ_}

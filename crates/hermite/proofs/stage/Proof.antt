@@ -1,6 +1,6 @@
 -- `hermite::stage` meets its contract: the two sums fit and together are the document's stage.
 use Rattle.lattice.specs.Buffer.{at}
-use Rattle.hermite.proofs.DotLaws.{read}
+use Rattle.arith.proofs.Machine.{read}
 use Rattle.hermite.proofs.StageLaws.{low-fits, high-fits, added-fits, rounding-asks, stage-done}
 use mathlib.Core.Path.{_∙_}
 use Rattle.hermite.proofs.stage.Statement.{statement}

@@ -11,7 +11,7 @@ use Rattle.lattice.specs.Outcome.{done}
 use Rattle.lattice.specs.Buffer.{overwrite}
 use Rattle.table_file.specs.File.{Header, header, samplesIn, readOutcome}
 use Rattle.table_file.specs.Answers.{tableMeaning}
-use Rattle.table_file.proofs.General.{sets-front}
+use Rattle.lattice.proofs.BufferLaws.{sets-front}
 use Rattle.text.specs.Lines.{refusedLine}
 use Rattle.report.specs.Report.{heldNodes, heldBytes, cellLines, reportText}
 use Rattle.report.proofs.LineLaws.{refused-low}

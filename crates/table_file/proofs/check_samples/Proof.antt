@@ -1,6 +1,6 @@
 -- `check_samples` meets its contract. The invariant: no sample below i is beyond its limit.
 use Rattle.arith.proofs.Machine.{widen-fits, widened}
-use Rattle.table_file.proofs.General.{limitTest, limit-stops, limit-more, limit-ends}
+use Rattle.lattice.proofs.RecordsLaws.{limitTest, limit-stops, limit-more, limit-ends}
 use Rattle.table_file.proofs.ReadLaws.{length-samples, sample-is}
 use Rattle.table_file.specs.Numbers.{numberAt, signedOf}
 use lib.Signed.{mag}

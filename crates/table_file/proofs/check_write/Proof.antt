@@ -7,10 +7,9 @@ use Rattle.lattice.specs.Outcome.{Check, done, refused, refuseUnless, first}
 use Rattle.lattice.specs.Answer.{meaning}
 use Rattle.lattice.specs.Shape.{count, nodes, axesOutcome, countsOutcome, Shaped}
 use Rattle.lattice.specs.Records.{sampleLimit, limitOutcome}
-use Rattle.lattice.proofs.OutcomeLaws.{first-done, first-passed, first-after, refused-first, refuse-done}
+use Rattle.lattice.proofs.OutcomeLaws.{first-done, first-passed, first-after, refused-first, refuse-done, first-assoc}
 use Rattle.lattice.proofs.ShapeLaws.{nodes-high}
 use Rattle.table_file.specs.File.{header, fileOf, countOf, nodesOf, writeCheck}
-use Rattle.table_file.proofs.General.{first-assoc}
 use Rattle.table_file.proofs.TakenLaws.{shapeOf, shaped-of}
 use Rattle.table_file.proofs.WriteLaws.{length-file}
 use mathlib.Core.Path.{_≡_, sym, ap, _∙_}

@@ -10,11 +10,10 @@ use Rattle.table_file.specs.File.{Header, header, axesIn, headerIn, comp
 use Rattle.table_file.specs.Parser.{numberFrom}
 use Rattle.table_file.specs.declared.Cursor.{Cursor}
 use Rattle.table_file.specs.declared.Number.the-variants.{Whole, Refused}
-use Rattle.table_file.proofs.General.{filled-rest}
 use Rattle.table_file.proofs.ReadLaws.{whole-is, refused-is, count-read, count-few, count-many, count-passes, count-short, count-absent}
 use mathlib.Core.List.{List, [], _∷_}
 use Rattle.lattice.specs.Outcome.{done, firstOf}
-use Rattle.lattice.proofs.BufferLaws.{Filled, filled-more}
+use Rattle.lattice.proofs.BufferLaws.{Filled, filled-more, filled-rest}
 use Rattle.table_file.specs.File.{countIn, countOutcome}
 use mathlib.Core.Path.{_≡_, refl, sym, ap, subst, _∙_}
 use Prim.Native.Nat.{ℕ, zero, suc, _≤_, _<_, _+_, _-_, _*_}

@@ -4,11 +4,10 @@ use Rattle.lattice.specs.Outcome.{Outcome, done, refused, first, whenDone}
 use Rattle.lattice.specs.Answer.{meaning}
 use Rattle.lattice.specs.Buffer.{overwrite}
 use Rattle.lattice.specs.Shape.{nodes}
-use Rattle.lattice.proofs.OutcomeLaws.{first-passed, refused-first, when-done, when-refused}
+use Rattle.lattice.proofs.OutcomeLaws.{first-passed, refused-first, when-done, when-refused, first-refused}
 use Rattle.table_file.specs.File.{Header, header, axesIn, headerIn, samplesIn, oneOutcome, readOutcome}
 use Rattle.table_file.specs.Answers.{tableMeaning}
 use Rattle.table_file.specs.Parser.{samplesFrom, restOutcome}
-use Rattle.table_file.proofs.General.{first-refused}
 use Rattle.table_file.proofs.ReadLaws.{samples-are}
 use Rattle.table_file.proofs.TakenLaws.{shapeOf, one-passed, header-is, one-shaped, after-one, read-is, rest-facts}
 use mathlib.Core.Path.{_≡_, sym, ap, _∙_}

@@ -7,7 +7,7 @@ use lib.ListN.{set, length-set}
 use lib.Seq.{sets}
 use Rattle.text.specs.Decimal.{decimal}
 use Rattle.text.proofs.DecimalLaws.{one-digit, more-digits, one-length, more-length}
-use Rattle.text.proofs.General.{sets-append}
+use Rattle.lattice.proofs.BufferLaws.{sets-append}
 use Prim.Native.Nat.{ℕ, _<_}
 use borrow.Fn.Kinds.{In}
 use borrow.Fn.PlainCycle.{Measures, is, falls, and}

@@ -2,7 +2,7 @@
 use mathlib.Core.List.{List}
 use lib.ListN.{take}
 use lib.Seq.{sets, take-length}
-use Rattle.text.proofs.General.{sets-next}
+use Rattle.lattice.proofs.BufferLaws.{sets-next}
 use mathlib.Core.Path.{_≡_, refl, ap, _∙_}
 use Prim.Native.Nat.{ℕ, _≤_, _+_, _-_}
 use native.Mathlib.Omega.{arith}

@@ -4,16 +4,16 @@ use mathlib.Core.List.{List, [], _∷_, _++_, append-assoc, append-nil}
 use Prim.Native.Nat.{ℕ, zero, suc, _+_, _*_, _/_, _%_, _^_, _≤_, _<_}
 use native.Mathlib.Nat.{one-mul, div-lt-iff-lt-mul, zero-lt-suc, le-of-eq, mod-lt, mul-le-mul-left, pow-zero, pow-suc, pow-succ', le-trans, add-zero, not-suc-le-zero}
 use native.Mathlib.Omega.{arith}
-use native.Mathlib.Decide.{ℕ-discrete, decLt}
+use native.Mathlib.Decide.{decLt}
 use lib.IntN.{ℤ, natAbs}
 use lib.ListN.{length, length-append}
 use Rattle.lattice.specs.Digits.{number, digit}
 use Rattle.lattice.specs.Axes.{Place, Field, Rule, put, along, sweep, axes}
 use Rattle.lattice.specs.Flat.{indexOf, sizeOf, pass}
-use Rattle.lattice.proofs.Along.{put-at, put-off, Each, Fresh}
+use Rattle.lattice.proofs.Along.{put-same, Each, Fresh}
 use Rattle.lattice.proofs.Local.{Depends, used}
 use Rattle.lattice.proofs.PassLaws.{Holds, pass-along, fresh-snoc}
-use Rattle.coefficients.proofs.NumberLaws.{Digits, digits-in, of-digits}
+use Rattle.lattice.proofs.DigitsLaws.{Digits, digits-in, of-digits}
 
 -- ---- the order of the digits
 
@@ -117,19 +117,12 @@ passes m r rule zero xs = xs
 passes m r rule (suc i) xs = pass m r rule (passes m r rule i xs)
 
 module _ (m n r : ℕ) (some : 0 < m) (groups : (j : ℕ) → suc j ≡ n → r ≡ m ^ j) (rule : Rule) (dep : Depends rule (λ j. j < m) (λ t. t < m)) where
-  same-width : (a : ℕ) → put a m (λ b. m) ≡ (λ b. m)
-  same-width a = fun-ext (λ b. go b (ℕ-discrete b a))
-    where
-      go : (b : ℕ) → Dec (b ≡ a) → put a m (λ b. m) b ≡ m
-      go b (yes e) = ap (put a m (λ b. m)) e ∙ put-at a m (λ b. m)
-      go b (no k) = put-off a m b (λ b. m) k
-
   -- one pass: the digit of axis i becomes the slowest
   turn : (i k : ℕ) → suc i + k ≡ n → (ys : ℕ → ℤ) (G : Field) → Holds (i ∷ (from (suc i) k ++ rising i)) (λ a. m) ys G → Holds (from (suc i) k ++ rising (suc i)) (λ a. m) (pass m r rule ys) (along i rule G)
   unfolding rising
   turn i k e ys G h =
       subst (λ (ms : List ℕ). Holds ms (λ a. m) (pass m r rule ys) (along i rule G)) (append-assoc (from (suc i) k) (rising i) (i ∷ []))
-      (subst (λ (w : Place). Holds (ls ++ (i ∷ [])) w (pass m r rule ys) (along i rule G)) (same-width i)
+      (subst (λ (w : Place). Holds (ls ++ (i ∷ [])) w (pass m r rule ys) (along i rule G)) (put-same i (λ b. m))
       (subst (λ (s : ℕ). Holds (ls ++ (i ∷ [])) (put i m (λ b. m)) (pass m s rule ys) (along i rule G)) (size-power m ls ∙ ap (λ (j : ℕ). m ^ j) many ∙ sym (groups (k + i) (omega arith)))
       (pass-along i ls (λ b. m) m rule ys G (fresh-both i (from (suc i) k) (rising i) (fresh-from i (suc i) k (omega arith)) (fresh-rising i i (omega arith))) dep h)))
     where
