@@ -174,7 +174,7 @@ fn record_within(limits: &[i32; 27], n: usize, records: &[i32], start: usize) ->
 }
 
 // Where the record of corner c starts.
-fn corner_start(l: Layout, c: usize) -> usize
+pub fn corner_start(l: Layout, c: usize) -> usize
     requires { ⌜ (c < 8) × Small l ⌝ }
     ensures { λ r. ⌜ r ≡ startOf l c ⌝ }
 {

@@ -11,7 +11,8 @@ use Rattle.cell.specs.declared.Layout.{Layout}
 use Rattle.cell.specs.Coefficients.{coefficients}
 use Rattle.coefficients.specs.declared.Block.{Block}
 use Rattle.coefficients.specs.Corners.{cornerEntry}
-use Rattle.coefficients.specs.Blocks.{Sized, mirror, blockNumbers, spot, startOf, gathered, signed, blockNumber, Forth, Gathered}
+use Rattle.cell.specs.Cell.{startOf}
+use Rattle.coefficients.specs.Blocks.{Sized, mirror, blockNumbers, spot, gathered, signed, blockNumber, Forth, Gathered}
 use Rattle.lattice.proofs.DigitsLaws.{Digits, of-number, high-digit, low-digit}
 use Rattle.coefficients.proofs.Sizes.{coefficient-within}
 use Rattle.coefficients.proofs.BlockLaws.{orders-some}

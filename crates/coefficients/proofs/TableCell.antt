@@ -25,13 +25,13 @@ use Rattle.lattice.proofs.OutcomeLaws.{passes, firstOf-passes}
 use Rattle.lattice.proofs.ShapeLaws.{orders-range, entries-pos}
 use Rattle.hermite.specs.Hermite.{share, forward}
 use Rattle.cell.specs.declared.Layout.{Layout}
-use Rattle.cell.specs.Cell.{cornerPlace, cornerEntries, entryOutcome, cornersOutcome, Accepted, Laid, cornerStart}
+use Rattle.cell.specs.Cell.{cornerPlace, cornerEntries, entryOutcome, cornersOutcome, Accepted, Laid, cornerStart, startOf}
 use Rattle.cell.specs.Coefficients.{coefficients}
 use Rattle.cell.proofs.CellLaws.{placed, laid-small}
 use Rattle.cell.proofs.CornerLaws.{corner-index, corner-below, corners-within}
 use Rattle.coefficients.specs.declared.Block.{Block}
 use Rattle.coefficients.specs.Corners.{coefficientCount, coefficientList, cornersField, cornerNumbers, cornerEntry}
-use Rattle.coefficients.specs.Blocks.{Sized, startOf, gathered, Gathered}
+use Rattle.coefficients.specs.Blocks.{Sized, gathered, Gathered}
 use Rattle.lattice.proofs.BufferLaws.{tabulate-same}
 use Rattle.lattice.proofs.DigitsLaws.{Digits, digits-in}
 use Rattle.coefficients.proofs.NumberLaws.{count-split, corner-low, numbers-in, numbers-entry, entry-in}

@@ -13,7 +13,7 @@ use Rattle.lattice.specs.Axes.{Rule, Place, sweep, axes}
 use Rattle.lattice.specs.Flat.{pass}
 use Rattle.hermite.specs.Hermite.{multiplier, turned, solved}
 use Rattle.cell.specs.declared.Layout.{Layout}
-use Rattle.cell.specs.Cell.{Small}
+use Rattle.cell.specs.Cell.{startOf, Small}
 use Rattle.lattice.specs.Records.{entryLimit}
 use Rattle.coefficients.specs.Corners.{coefficientCount, cornerNumbers, cornerEntry}
 use Rattle.coefficients.specs.declared.Block.{Block}
@@ -40,10 +40,6 @@ blockNumbers m c k a = m * digit (λ b. 2) c a + digit (λ b. m) k a
 -- its coefficient's index
 unfoldable pub spot : ℕ → ℕ → ℕ → ℕ
 spot m c k = number 3 (λ b. 2 * m) (λ a. mirror m (blockNumbers m c k a))
-
--- where the record of corner c starts
-abbrev pub startOf : Layout → ℕ → ℕ
-startOf l c = l .base + (c % 2 * getD (l .far) 0 0 + (c / 2 % 2 * getD (l .far) 1 0 + c / 2 / 2 * getD (l .far) 2 0))
 
 -- entry i of the corner records, of `size` entries each
 unfoldable pub gathered : ℕ → Layout → List ℤ → ℕ → ℤ

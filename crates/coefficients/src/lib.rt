@@ -10,10 +10,10 @@ ghost use Rattle.lattice.specs.Buffer.{at, tabulate, overwrite};
 ghost use Rattle.lattice.specs.Digits.{digit};
 ghost use Rattle.lattice.specs.Shape.{ordersOf, orders, size, Shaped};
 ghost use Rattle.lattice.specs.Axes.{origin};
-ghost use Rattle.cell.specs.Cell.{Small, placeAt};
+ghost use Rattle.cell.specs.Cell.{placeAt};
 ghost use Rattle.cell.specs.Coefficients.{coefficients};
 ghost use Rattle.coefficients.specs.Corners.{coefficientCount, cornerEntry, askedOutcome, coefficientsOutcome, coefficientsWrites};
-ghost use Rattle.coefficients.specs.Blocks.{Sized, mirror, spot, startOf, gathered, seen, signed, tabled, passed, converted, blockNumber, Within, Modest, Forth, Back, scatter, Gathered};
+ghost use Rattle.coefficients.specs.Blocks.{Sized, mirror, spot, gathered, seen, signed, tabled, passed, converted, blockNumber, Within, Modest, Forth, Back, scatter, Gathered};
 use cell::Layout;
 use lattice::Answer;
 use lattice::Shape;
@@ -230,17 +230,6 @@ pub fn copy_out(n: usize, xs: &[i32; 216], out: &mut [i32])
     }
 }
 
-// Where the record of corner c starts.
-fn record_start(l: Layout, c: usize) -> usize
-    requires { ⌜ (c < 8) × Small l ⌝ }
-    ensures { λ r. ⌜ r ≡ startOf l c ⌝ }
-{
-    let x = l.far[0];
-    let y = l.far[1];
-    let z = l.far[2];
-    l.base + (c % 2 * x + (c / 2 % 2 * y + c / 2 / 2 * z))
-}
-
 // The record of corner c with the corner's signs.
 fn load(b: Block, c: usize, start: usize, records: &[i32]) -> [i64; 27]
     requires { ⌜ Sized b × (start + b .entries ≤ length (now records)) ⌝ }
@@ -292,7 +281,7 @@ fn cell_coefficients(b: Block, l: Layout, records: &[i32]) -> [i32; 216]
     let mut xs = [0i32; 216];
     let mut c: usize = 0;
     while c < corners {
-        let start = record_start(l, c);
+        let start = cell::corner_start(l, c);
         let zs = corner_block(b, &table, c, start, records);
         store(b, c, &zs, &mut xs);
         c += 1;

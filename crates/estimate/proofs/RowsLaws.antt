@@ -1,19 +1,20 @@
 -- The records of a row depend on the numbers of that row only; row after row they are the records of the definition.
-use mathlib.Core.Path.{_≡_, sym, ap, subst, _∙_}
+use mathlib.Core.Path.{_≡_, refl, sym, ap, subst, _∙_}
 use mathlib.Core.List.{List}
 use Prim.Native.Nat.{ℕ, _+_, _*_, _/_, _%_, _≤_, _<_}
-use native.Mathlib.Nat.{mul-le-mul, mul-assoc, add-comm, mod-lt, div-add-mod, mul-le-mul-left}
+use native.Mathlib.Nat.{mod-one, div-one, mul-zero, zero-add, mul-le-mul, mul-assoc, add-comm, mod-lt, div-add-mod, mul-le-mul-left}
 use native.Mathlib.Decide.{decLt}
 use native.Mathlib.Omega.{arith}
 use lib.Dec.{lit<}
 use lib.IntN.{ℤ}
 use Rattle.lattice.specs.declared.Shape.{Shape}
 use Rattle.lattice.specs.Shape.{count, size, Shaped}
+use Rattle.lattice.specs.Buffer.{at}
 use Rattle.lattice.specs.Records.{entryPlace}
 use Rattle.lattice.proofs.ShapeLaws.{nodes-is}
 use Rattle.estimate.specs.declared.Grid.{Grid}
-use Rattle.estimate.specs.Estimate.{left, right, tableRecords}
-use Rattle.estimate.specs.Passes.{passOf, gridOf, rowYZ, nodeOf, recordSize, rowSize, rowOf, rowsOf, Grids}
+use Rattle.estimate.specs.Estimate.{left, right, byOrder, tableRecords}
+use Rattle.estimate.specs.Passes.{since, passOf, gridOf, rowStart, rowZ, rowYZ, nodeOf, recordSize, rowSize, rowOf, rowsOf, Grids}
 use Rattle.lattice.proofs.DigitsLaws.{group-room, high-below, high-digit, low-digit}
 use Rattle.estimate.proofs.PassesLaws.{left-below, right-below}
 use Rattle.estimate.proofs.EntryLaws.{record-size, entry-is}
@@ -57,6 +58,25 @@ module _ (g : Grid) (xs : List ℤ) (y z r : ℕ) (in-y : y < g .cy) (at-r : r �
   pub rows-at : (o : ℕ) → o < rowSize g → rowsOf g xs (rowSize g * r + o) ≡ rowOf g (rowYZ g xs y z) o
   unfolding rowsOf
   rows-at o l = rw (high-digit (rowSize g) r o l, low-digit (rowSize g) r o l, turned, high-digit (g .cy) z y in-y, low-digit (g .cy) z y in-y)
+
+-- ---- one axis: the only row is the samples
+
+one-pass : (m : ℕ) → m ≡ 1 → (l f r : ℕ → ℤ) (t : ℕ) → passOf m l f r t ≡ f t
+unfolding passOf byOrder
+one-pass m e l f r t = rw (e, mod-one t, div-one t) refl
+
+module _ (g : Grid) (xs : List ℤ) (my : g .my ≡ 1) (mz : g .mz ≡ 1) where
+  pub line-row : (t : ℕ) → rowYZ g xs 0 0 t ≡ at xs t
+  unfolding rowYZ rowZ rowStart
+  line-row t =
+      one-pass (g .my) my (rowZ g xs (left 0) 0) (rowZ g xs 0 0) (rowZ g xs (right (g .cy) 0) 0) t
+      ∙ one-pass (g .mz) mz (since xs (rowStart g 0 (left 0))) (since xs (rowStart g 0 0)) (since xs (rowStart g 0 (right (g .cz) 0))) t
+      ∙ ap (λ (k : ℕ). at xs (k + t)) (ap (λ (k : ℕ). g .cx * k) (zero-add (g .cy * 0) ∙ mul-zero (g .cy)) ∙ mul-zero (g .cx)) ∙ ap (at xs) (zero-add t)
+
+  pub line-rows : Grids g → (t : ℕ) → t < rowSize g → rowOf g (at xs) t ≡ rowsOf g xs t
+  line-rows ok t l =
+      sym (row-same g ok (rowYZ g xs 0 0) (at xs) (λ i k. line-row i) t l) ∙ sym (rows-at g xs 0 0 0 (ok .y-low) (sym (zero-add (g .cy * 0) ∙ mul-zero (g .cy))) t l)
+      ∙ ap (λ (k : ℕ). rowsOf g xs (k + t)) (mul-zero (rowSize g)) ∙ ap (rowsOf g xs) (zero-add t)
 
 -- ---- the records of the definition
 

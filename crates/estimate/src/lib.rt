@@ -189,7 +189,12 @@ fn fill_records(s: Shape, samples: &[i32], records: &mut [i32])
     requires { ⌜ Estimable s (now samples) (length (now records)) ⌝ }
     ensures { λ _. ⌜ now (records .exit) ≡ overwrite (recordsOf s (now (samples .entry))) (now (records .entry)) ⌝ }
 {
-    fill_rows(grid_of(s), samples, records)
+    let g = grid_of(s);
+    if s.axes == 1 {
+        fill_row(g, samples, records, 0)
+    } else {
+        fill_rows(g, samples, records)
+    }
 }
 
 // Every refusal of estimation: 1, 2, 3, then 4, 9, 5.

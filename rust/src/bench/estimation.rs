@@ -3,7 +3,7 @@
 use super::clock::{side_by_side, Run};
 use super::hand::estimation::{by_neighbourhood, by_window};
 use super::inputs::{cube, samples};
-use super::report::{heading, line};
+use super::report::{heading, line, COLUMN, NAME};
 use lukhtari::{estimate, Refusal, Shape};
 
 type Call = fn(Shape, &[i32], &mut [i32]) -> Result<(), Refusal>;
@@ -57,9 +57,10 @@ fn growth() {
         let each = |time: f64| time / shape.entries() as f64;
         let times: Vec<f64> = times(shape).into_iter().map(each).collect();
         let name = format!("{count} nodes each");
-        println!(
-            "{name:<44}{:>18.3}{:>18.3}{:>18.3}",
-            times[0], times[1], times[2]
-        );
+        print!("{name:<NAME$}");
+        for time in times {
+            print!("{time:>COLUMN$.3}");
+        }
+        println!();
     }
 }

@@ -2,15 +2,23 @@
 
 use super::clock::{side_by_side, Run};
 use super::hand::method::{Folded, Printed};
-use super::hand::query::by_float;
+use super::hand::{plain, query};
 use super::inputs::{cube, positions, samples, KINDS};
 use super::report::{heading, line};
 use lukhtari::{dose_float, estimate, slope_float, Refusal};
 
 const POINTS: usize = 1024;
 
+type Answer = Result<f32, Refusal>;
+
 pub fn run() {
-    let columns = ["lukhtari", "as printed", "folded table"];
+    let columns = [
+        "lukhtari",
+        "specialised, printed",
+        "specialised, folded",
+        "plain, printed",
+        "plain, folded",
+    ];
     heading(
         "Doses and slopes by float, ns a call (lukhtari divided by it)",
         &columns,
@@ -33,24 +41,37 @@ fn times(degree: u32, axes: u32, along: Option<u32>) -> Vec<f64> {
         .iter()
         .map(|p| p.map(|step| step as f32 / 256.0))
         .collect();
+    let library = |p| match along {
+        None => dose_float(shape, records, p),
+        Some(axis) => slope_float(shape, records, p, axis),
+    };
+    let expected: &[Answer] = &points.iter().map(|&p| library(p)).collect::<Vec<_>>();
     let mut runs = [
-        over(&points, |p| match along {
-            None => dose_float(shape, records, p),
-            Some(axis) => slope_float(shape, records, p, axis),
+        over(&points, expected, library),
+        over(&points, expected, |p| {
+            query::by_float::<Printed>(shape, records, p, along)
         }),
-        over(&points, |p| by_float::<Printed>(shape, records, p, along)),
-        over(&points, |p| by_float::<Folded>(shape, records, p, along)),
+        over(&points, expected, |p| {
+            query::by_float::<Folded>(shape, records, p, along)
+        }),
+        over(&points, expected, |p| {
+            plain::by_float::<Printed>(shape, records, p, along)
+        }),
+        over(&points, expected, |p| {
+            plain::by_float::<Folded>(shape, records, p, along)
+        }),
     ];
-    let sums: Vec<i64> = runs.iter_mut().map(|run| run()).collect();
-    assert!(sums.iter().all(|&sum| sum == sums[0]));
     side_by_side(POINTS, &mut runs)
 }
 
-// A run of one call over all points.
+// A run of one call over all points, where it gives the expected answers.
 fn over<'a>(
     points: &'a [[f32; 3]],
-    call: impl Fn([f32; 3]) -> Result<f32, Refusal> + 'a,
+    expected: &[Answer],
+    call: impl Fn([f32; 3]) -> Answer + 'a,
 ) -> Run<'a> {
+    let answers: Vec<Answer> = points.iter().map(|&p| call(p)).collect();
+    assert_eq!(answers, expected);
     Box::new(move || {
         let answer = |&p: &[f32; 3]| call(p).expect("accepted query") as i64;
         points.iter().map(answer).sum()

@@ -1,6 +1,10 @@
 //! The library's calls beside hand-written Rust of the same whole calls, the published method in
 //! f64, and LittleCMS where it is installed. All times are of one run, in nanoseconds a call; in
 //! brackets is the library's time divided by the other's.
+//!
+//! Doses and slopes by hand are of two kinds: specialised, with one copy of the code for each
+//! degree, number of axes and slope axis; and plain, with one copy for all of them. Each kind works
+//! off an axis in two ways: as printed, and with the table folded into the weights.
 
 #![allow(dead_code)]
 

@@ -3,7 +3,7 @@
 use super::clock::{side_by_side, Run};
 use super::double::{Double, Source};
 use super::hand::method::{Folded, Printed};
-use super::hand::query::{by_cell, by_position};
+use super::hand::{plain, query};
 use super::inputs::{cell_and_u, cube, positions, samples, KINDS};
 use super::report::{heading, line};
 use lukhtari::{dose, dose_in_cell, estimate, slope, slope_in_cell, Refusal, Shape};
@@ -11,12 +11,15 @@ use lukhtari::{dose, dose_in_cell, estimate, slope, slope_in_cell, Refusal, Shap
 const POINTS: usize = 1024;
 
 type Answer = Result<i32, Refusal>;
+type CellAndU = ([u32; 3], [u32; 3]);
 
 pub fn run() {
     let columns = [
         "lukhtari",
-        "as printed",
-        "folded table",
+        "specialised, printed",
+        "specialised, folded",
+        "plain, printed",
+        "plain, folded",
         "f64 published",
         "f64 by axes",
         "f64 stored",
@@ -64,77 +67,98 @@ impl Table {
         }
     }
 
-    // A run of one call over all positions.
-    fn whole<'a>(&'a self, call: impl Fn([i32; 3]) -> Answer + 'a) -> Run<'a> {
+    // A run of one call over all positions, where it gives the expected answers.
+    fn whole<'a>(&'a self, expected: &[Answer], call: impl Fn([i32; 3]) -> Answer + 'a) -> Run<'a> {
+        let answers: Vec<Answer> = self.positions.iter().map(|&p| call(p)).collect();
+        assert_eq!(answers, expected);
         Box::new(move || {
             let answer = |&p: &[i32; 3]| call(p).expect("accepted query") as i64;
             self.positions.iter().map(answer).sum()
         })
     }
 
-    // A run in f64 over all positions.
-    fn real<'a>(&'a self, call: impl Fn([i32; 3]) -> f64 + 'a) -> Run<'a> {
-        Box::new(move || {
+    // A run in f64 over all positions, where its sum is within the rounding of each answer.
+    fn real<'a>(&'a self, expected: &[Answer], call: impl Fn([i32; 3]) -> f64 + 'a) -> Run<'a> {
+        let run = move || {
             let sum: f64 = self.positions.iter().map(|&p| call(p)).sum();
             sum as i64
-        })
+        };
+        let whole = |answer: &Answer| answer.expect("accepted query") as i64;
+        let sum: i64 = expected.iter().map(whole).sum();
+        assert!((run() - sum).abs() < 2 * POINTS as i64);
+        Box::new(run)
     }
 
     fn by_position(&self, along: Option<u32>) -> Vec<f64> {
         let (shape, records) = (self.shape, &self.records[..]);
+        let library = |p| match along {
+            None => dose(shape, records, p),
+            Some(axis) => slope(shape, records, p, axis),
+        };
+        let expected: Vec<Answer> = self.positions.iter().map(|&p| library(p)).collect();
+        let expected = &expected[..];
         let mut runs = [
-            self.whole(|p| match along {
-                None => dose(shape, records, p),
-                Some(axis) => slope(shape, records, p, axis),
+            self.whole(expected, library),
+            self.whole(expected, |p| {
+                query::by_position::<Printed>(shape, records, p, along)
             }),
-            self.whole(|p| by_position::<Printed>(shape, records, p, along)),
-            self.whole(|p| by_position::<Folded>(shape, records, p, along)),
-            self.real(|p| self.double.at(p, along, Source::Sums)),
-            self.real(|p| self.double.at(p, along, Source::Axes)),
-            self.real(|p| self.double.at(p, along, Source::Stored)),
+            self.whole(expected, |p| {
+                query::by_position::<Folded>(shape, records, p, along)
+            }),
+            self.whole(expected, |p| {
+                plain::by_position::<Printed>(shape, records, p, along)
+            }),
+            self.whole(expected, |p| {
+                plain::by_position::<Folded>(shape, records, p, along)
+            }),
+            self.real(expected, |p| self.double.at(p, along, Source::Sums)),
+            self.real(expected, |p| self.double.at(p, along, Source::Axes)),
+            self.real(expected, |p| self.double.at(p, along, Source::Stored)),
         ];
-        check(&mut runs);
         side_by_side(POINTS, &mut runs)
     }
 
     fn by_cell(&self, along: Option<u32>) -> Vec<f64> {
         let (shape, records) = (self.shape, &self.records[..]);
         let points = self.positions.iter().map(|&p| cell_and_u(shape, p));
-        let points: Vec<([u32; 3], [u32; 3])> = points.collect();
-        let points = &points;
+        let points: &[CellAndU] = &points.collect::<Vec<_>>();
+        let library = |cell, u| match along {
+            None => dose_in_cell(shape, records, cell, u),
+            Some(axis) => slope_in_cell(shape, records, cell, u, axis),
+        };
+        let expected: &[Answer] = &points
+            .iter()
+            .map(|&(cell, u)| library(cell, u))
+            .collect::<Vec<_>>();
         let mut runs = [
-            over(points, |cell, u| match along {
-                None => dose_in_cell(shape, records, cell, u),
-                Some(axis) => slope_in_cell(shape, records, cell, u, axis),
+            over(points, expected, library),
+            over(points, expected, |cell, u| {
+                query::by_cell::<Printed>(shape, records, cell, u, along)
             }),
-            over(points, |cell, u| {
-                by_cell::<Printed>(shape, records, cell, u, along)
+            over(points, expected, |cell, u| {
+                query::by_cell::<Folded>(shape, records, cell, u, along)
             }),
-            over(points, |cell, u| {
-                by_cell::<Folded>(shape, records, cell, u, along)
+            over(points, expected, |cell, u| {
+                plain::by_cell::<Printed>(shape, records, cell, u, along)
+            }),
+            over(points, expected, |cell, u| {
+                plain::by_cell::<Folded>(shape, records, cell, u, along)
             }),
         ];
-        check(&mut runs);
         side_by_side(POINTS, &mut runs)
     }
 }
 
-// A run of one call over cells and steps.
+// A run of one call over cells and steps, where it gives the expected answers.
 fn over<'a>(
-    points: &'a [([u32; 3], [u32; 3])],
+    points: &'a [CellAndU],
+    expected: &[Answer],
     call: impl Fn([u32; 3], [u32; 3]) -> Answer + 'a,
 ) -> Run<'a> {
+    let answers: Vec<Answer> = points.iter().map(|&(cell, u)| call(cell, u)).collect();
+    assert_eq!(answers, expected);
     Box::new(move || {
-        let answer = |&(cell, u): &([u32; 3], [u32; 3])| call(cell, u).expect("accepted query");
-        points.iter().map(|point| answer(point) as i64).sum()
+        let answer = |&(cell, u): &CellAndU| call(cell, u).expect("accepted query") as i64;
+        points.iter().map(answer).sum()
     })
-}
-
-// All runs give the same sum; those in f64 within the rounding of each answer.
-fn check(runs: &mut [Run]) {
-    let sums: Vec<i64> = runs.iter_mut().map(|run| run()).collect();
-    assert_eq!((sums[0], sums[0]), (sums[1], sums[2]));
-    for &sum in &sums[3..] {
-        assert!((sum - sums[0]).abs() < 2 * POINTS as i64);
-    }
 }

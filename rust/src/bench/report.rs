@@ -1,11 +1,15 @@
 //! Printing.
 
+// Widths of the names of lines and of the columns.
+pub const NAME: usize = 44;
+pub const COLUMN: usize = 22;
+
 // A heading and the names of the columns.
 pub fn heading(title: &str, columns: &[&str]) {
     println!("\n{title}");
-    print!("{:<44}", "");
+    print!("{:<NAME$}", "");
     for column in columns {
-        print!("{column:>18}");
+        print!("{column:>COLUMN$}");
     }
     println!();
 }
@@ -14,10 +18,10 @@ pub fn heading(title: &str, columns: &[&str]) {
 //
 // A ratio below 1 means that the library is the faster one.
 pub fn line(name: &str, times: &[f64]) {
-    print!("{name:<44}{:>18}", nanoseconds(times[0]));
+    print!("{name:<NAME$}{:>COLUMN$}", nanoseconds(times[0]));
     for time in &times[1..] {
         let ratio = format!("{} ({:.2})", nanoseconds(*time), times[0] / time);
-        print!("{ratio:>18}");
+        print!("{ratio:>COLUMN$}");
     }
     println!();
 }

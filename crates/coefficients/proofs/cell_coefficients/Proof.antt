@@ -1,9 +1,10 @@
 -- `coefficients::cell_coefficients` meets its contract: after any number of corners their coefficients stand and all others are 0.
+use Rattle.cell.specs.Cell.{startOf}
 use mathlib.Core.List.{List}
 use native.Mathlib.Nat.{mul-zero, lt-of-lt-of-le}
 use lib.Dec.{lit≤}
 use lib.Pow.{pow-mono}
-use Rattle.coefficients.specs.Blocks.{spot, startOf, blockNumber, scatter}
+use Rattle.coefficients.specs.Blocks.{spot, blockNumber, scatter}
 use Rattle.lattice.proofs.BufferLaws.{noughts, noughts-at}
 use Rattle.coefficients.proofs.BlockLaws.{orders-some, count-low}
 use Rattle.coefficients.proofs.SpotLaws.{scatter-length, stands-none, stands-corner, stands-all}
@@ -72,20 +73,20 @@ loop-holds c =
     let f = wanted b (st .pre .0) (st .args .l) (now (st .args .records)) (st .pre .1) in
     (zero-le, refl, subst (λ (i : ℕ). Stands (b .orders) (b .axes) f i (noughts 216)) (sym (mul-zero (b .orders ^ b .axes))) (stands-none (b .orders) (b .axes) (orders-some b (st .pre .0)) f (noughts 216) (noughts-at 216)))
 
-record-start-requires : tie.Need-record-start-requires Inv-loop μ-loop
-record-start-requires c κs = (few c, s c .pre .1 .small)
+corner-start-requires : tie.Need-corner-start-requires Inv-loop μ-loop
+corner-start-requires c κs = (few c, s c .pre .1 .small)
 
 corner-block-requires : tie.Need-corner-block-requires Inv-loop μ-loop
 corner-block-requires c κs =
     let i = c .before .before in
     let h = s i .pre .1 .inside (i .before .loop .c) (corner i) in
-    let e = c .before .record-start .ensures in
+    let e = c .before .corner-start .ensures in
     (s i .pre .0, i .before .before .before .forth-table .ensures .modest, omega arith)
 
 store-requires : tie.Need-store-requires Inv-loop μ-loop
 store-requires c κs =
     let i = c .before .before .before .before .before in
-    let r = c .before .before .before .before .record-start in
+    let r = c .before .before .before .before .corner-start in
     let z = c .before .before .corner-block in
     (s i .pre .0, corner i, λ k l. low i (r .result) (z .result) (r .ensures) (z .ensures) k l)
 
@@ -98,7 +99,7 @@ loop-less c = omega arith
 loop-again : tie.Need-loop-again Inv-loop μ-loop
 loop-again c =
     let i = c .before .before .before .before .before .before in
-    let r = c .before .before .before .before .before .record-start in
+    let r = c .before .before .before .before .before .corner-start in
     let z = c .before .before .before .corner-block in
     let b = s i .args .b in
     let w = i .before .loop in (
@@ -124,7 +125,7 @@ cell-coefficients-spec =
     forth-table-requires
     power-requires
     loop-holds
-    record-start-requires
+    corner-start-requires
     corner-block-requires
     store-requires
     add-c

@@ -1,21 +1,25 @@
 -- `estimate::fill_records` meets its contract: row after row, the records are those of the definition.
 use mathlib.Core.List.{List}
-use mathlib.Core.Path.{_≡_, _∙_}
-use Prim.Native.Nat.{ℕ, _≤_, _*_}
+use mathlib.Core.Path.{_≡_, refl, sym, ap, subst, _∙_}
+use Prim.Native.Nat.{ℕ, _+_, _*_, _≤_}
+use native.Mathlib.Nat.{mul-one, one-mul, zero-add, le-trans, le-of-eq}
+use native.Mathlib.Omega.{arith}
+use lib.Dec.{lit<, lit≤}
 use lib.ListN.{length}
 use lib.IntN.{ℤ}
 use denote.Ref.{now}
 use borrow.Author.Needs.{needs}
 use Rattle.lattice.specs.declared.Shape.{Shape}
-use Rattle.lattice.specs.Buffer.{overwrite}
+use Rattle.lattice.specs.Buffer.{at, overwrite}
 use Rattle.lattice.specs.Shape.{size}
 use Rattle.lattice.specs.Records.{entryPlace}
 use Rattle.lattice.proofs.BufferLaws.{filled-all}
 use Rattle.estimate.specs.declared.Grid.{Grid}
 use Rattle.estimate.specs.Estimate.{tableRecords, recordsOf, Estimable}
-use Rattle.estimate.specs.Passes.{placed, gridOf, rowSize, rowsOf, Samples}
+use Rattle.estimate.specs.Passes.{placed, gridOf, rowSize, rowOf, rowsOf, Grids, Read, Samples}
 use Rattle.estimate.proofs.PlacedLaws.{placed-same, placed-filled}
-use Rattle.estimate.proofs.RowsLaws.{rows-size, rows-are}
+use Rattle.estimate.proofs.RowsLaws.{rows-size, rows-are, line-rows}
+use Rattle.estimate.proofs.EntryLaws.{orders-unused}
 use Rattle.estimate.proofs.CallLaws.{grids, grid-samples}
 use Rattle.estimate.proofs.fill_records.Statement.{statement}
 use Rattle.estimate.proofs.fill_records.Tie as tie
@@ -32,17 +36,71 @@ module _ (s : Shape) (xs b : List ℤ) (ok : Estimable s xs (length b)) (g : Gri
       ∙ placed-same 0 (size s) (rowsOf (gridOf s) xs) h b (rows-are s (ok .shape) (grids s (ok .shape)) xs)
       ∙ filled-all h b (size s) (placed 0 (size s) h b) (placed-filled (size s) h b (ok .fits))
 
+  -- one axis: the samples are the only row
+  module _ (one : s .axes ≡ 1) where
+    my : g .my ≡ 1
+    unfolding gridOf
+    my = ap (λ (g : Grid). g .my) is ∙ orders-unused s 1 (omega arith)
+
+    mz : g .mz ≡ 1
+    unfolding gridOf
+    mz = ap (λ (g : Grid). g .mz) is ∙ orders-unused s 2 (omega arith)
+
+    rows : g .cy * g .cz ≡ 1
+    unfolding gridOf
+    rows = rw (is, ok .shape .unused 1 (lit< tt) (omega arith), ok .shape .unused 2 (lit< tt) (omega arith)) refl
+
+    line-ready : (Grids g × (0 + rowSize g ≤ length b)) × Read xs 0 (g .my * g .mz * g .cx)
+    line-ready =
+        let r = ready in
+        let e = rows in
+        let l : rowSize g ≤ length b = subst (λ (k : ℕ). k ≤ length b) (ap (λ (k : ℕ). rowSize g * k) e ∙ mul-one (rowSize g)) (r .1) in (
+          (r .0 .grid, omega (arith, l)),
+          record {
+            inside = rw (my, mz, one-mul (g .cx), zero-add (g .cx)) (le-of-eq (sym (r .0 .whole ∙ ap (λ (k : ℕ). g .cx * k) e ∙ mul-one (g .cx))));
+            small = λ t h. rw (zero-add t) (le-trans (r .0 .small t) (lit≤ tt));
+          },
+        )
+
+    line-result : (next : List ℤ) → next ≡ placed 0 (rowSize g) (rowOf g (at xs)) b → next ≡ overwrite (recordsOf s xs) b
+    line-result next e =
+        result next
+        (e ∙ placed-same 0 (rowSize g) (rowOf g (at xs)) (rowsOf g xs) b (line-rows g xs my mz (ready .0 .grid))
+        ∙ ap (λ (k : ℕ). placed 0 k (rowsOf g xs) b) (sym (ap (λ (k : ℕ). rowSize g * k) rows ∙ mul-one (rowSize g))))
+
 grid-of-requires : tie.Need-grid-of-requires
 grid-of-requires c κs = search needs
 
-fill-rows-requires : tie.Need-fill-rows-requires
-fill-rows-requires c κs = let s = c .before .before in ready (s .args .s) (s .args .samples .now) (s .args .records .now) (s .pre) (c .before .grid-of .result) (c .before .grid-of .ensures)
+fill-row-requires : tie.Need-fill-row-requires
+fill-row-requires c κs =
+    let g = c .before .before .before in
+    let s = g .before in
+    line-ready (s .args .s) (s .args .samples .now) (s .args .records .now) (s .pre) (g .grid-of .result) (g .grid-of .ensures) (c .before .if1 .taken)
 
 same-length : tie.Need-same-length
 same-length c = search needs
 
 returns : tie.Need-returns
-returns c = let s = c .before .before .before .before in result (s .args .s) (s .args .samples .now) (s .args .records .now) (s .pre) (c .before .before .before .grid-of .result) (c .before .before .before .grid-of .ensures) _ (c .before .fill-rows .ensures)
+returns c =
+    let t = c .before .before .before in
+    let g = t .before .before in
+    let s = g .before in
+    line-result (s .args .s) (s .args .samples .now) (s .args .records .now) (s .pre) (g .grid-of .result) (g .grid-of .ensures) (t .if1 .taken) _ (c .before .fill-row .ensures)
+
+fill-rows-requires : tie.Need-fill-rows-requires
+fill-rows-requires c κs =
+    let g = c .before .before .before in
+    let s = g .before in
+    ready (s .args .s) (s .args .samples .now) (s .args .records .now) (s .pre) (g .grid-of .result) (g .grid-of .ensures)
+
+same-length-2 : tie.Need-same-length-2
+same-length-2 c = search needs
+
+returns-2 : tie.Need-returns-2
+returns-2 c =
+    let g = c .before .before .before .before .before in
+    let s = g .before in
+    result (s .args .s) (s .args .samples .now) (s .args .records .now) (s .pre) (g .grid-of .result) (g .grid-of .ensures) _ (c .before .fill-rows .ensures)
 
 pub fill-records-spec : {M : Type 1} → statement M
-fill-records-spec = tie.close (tie.spec grid-of-requires fill-rows-requires same-length returns)
+fill-records-spec = tie.close (tie.spec grid-of-requires fill-row-requires fill-rows-requires same-length returns same-length-2 returns-2)

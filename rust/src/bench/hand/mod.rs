@@ -4,5 +4,7 @@ pub mod checks;
 pub mod conversion;
 pub mod estimation;
 pub mod method;
+pub mod plain;
+mod point;
 pub mod query;
 mod stages;

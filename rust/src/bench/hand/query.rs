@@ -1,8 +1,9 @@
-//! Doses and slopes: the calls.
+//! Doses and slopes: the calls, specialised by degree and number of axes.
 
-use super::checks::*;
+use super::checks::Answer;
 use super::method::Method;
-use super::stages::{cube, line, square, Point};
+use super::point::{of_cell, of_float, of_position, Point};
+use super::stages::{cube, line, square};
 use lukhtari::Shape;
 
 pub fn by_position<X: Method>(
@@ -11,13 +12,8 @@ pub fn by_position<X: Method>(
     position: [i32; 3],
     slope: Option<u32>,
 ) -> Answer<i32> {
-    check_query(shape, records, slope)?;
-    let mut cell = [0; 3];
-    let mut u = [0; 3];
-    for axis in 0..3 {
-        (cell[axis], u[axis]) = locate(shape, axis, position[axis] as i64)?;
-    }
-    by_point::<X>(shape, records, Point { cell, u, slope })
+    let point = of_position(shape, records, position, slope)?;
+    by_point::<X>(shape, records, point)
 }
 
 pub fn by_cell<X: Method>(
@@ -27,10 +23,8 @@ pub fn by_cell<X: Method>(
     u: [u32; 3],
     slope: Option<u32>,
 ) -> Answer<i32> {
-    check_query(shape, records, slope)?;
-    check_cell(shape, cell)?;
-    check_u(shape, u)?;
-    by_point::<X>(shape, records, Point { cell, u, slope })
+    let point = of_cell(shape, records, cell, u, slope)?;
+    by_point::<X>(shape, records, point)
 }
 
 pub fn by_float<X: Method>(
@@ -39,19 +33,8 @@ pub fn by_float<X: Method>(
     position: [f32; 3],
     slope: Option<u32>,
 ) -> Answer<f32> {
-    check_query(shape, records, slope)?;
-    let mut cell = [0; 3];
-    let mut u = [0; 3];
-    for axis in 0..3 {
-        let float = position[axis];
-        if !float.is_finite() {
-            return refuse(10, axis);
-        }
-        // Exact in f64 wherever the step is within a table.
-        let step = (float as f64 * 256.0 + 0.5).floor() as i64;
-        (cell[axis], u[axis]) = locate(shape, axis, step)?;
-    }
-    by_point::<X>(shape, records, Point { cell, u, slope }).map(|whole| whole as f32)
+    let point = of_float(shape, records, position, slope)?;
+    by_point::<X>(shape, records, point).map(|whole| whole as f32)
 }
 
 // The answer in an accepted cell: one copy of the code for each degree and number of axes.

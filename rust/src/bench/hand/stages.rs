@@ -4,14 +4,8 @@
 
 use super::checks::{first_beyond, Answer};
 use super::method::Method;
+use super::point::Point;
 use lukhtari::Shape;
-
-#[derive(Clone, Copy)]
-pub struct Point {
-    pub cell: [u32; 3],
-    pub u: [u32; 3],
-    pub slope: Option<u32>,
-}
 
 // The limit of each entry of a record.
 pub struct Limits<const S: usize, const R: usize>;

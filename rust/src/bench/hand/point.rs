@@ -1,0 +1,66 @@
+//! Points of a query, with the checks that come before the limit test.
+
+use super::checks::*;
+use lukhtari::Shape;
+
+#[derive(Clone, Copy)]
+pub struct Point {
+    pub cell: [u32; 3],
+    pub u: [u32; 3],
+    pub slope: Option<u32>,
+}
+
+// 1, 2, 3, 4, 12, 11
+#[inline(always)]
+pub fn of_position(
+    shape: Shape,
+    records: &[i32],
+    position: [i32; 3],
+    slope: Option<u32>,
+) -> Answer<Point> {
+    check_query(shape, records, slope)?;
+    let mut cell = [0; 3];
+    let mut u = [0; 3];
+    for axis in 0..3 {
+        (cell[axis], u[axis]) = locate(shape, axis, position[axis] as i64)?;
+    }
+    Ok(Point { cell, u, slope })
+}
+
+// 1, 2, 3, 4, 12, 14, 11
+#[inline(always)]
+pub fn of_cell(
+    shape: Shape,
+    records: &[i32],
+    cell: [u32; 3],
+    u: [u32; 3],
+    slope: Option<u32>,
+) -> Answer<Point> {
+    check_query(shape, records, slope)?;
+    check_cell(shape, cell)?;
+    check_u(shape, u)?;
+    Ok(Point { cell, u, slope })
+}
+
+// 1, 2, 3, 4, 12, then 10 and 11 on each axis
+#[inline(always)]
+pub fn of_float(
+    shape: Shape,
+    records: &[i32],
+    position: [f32; 3],
+    slope: Option<u32>,
+) -> Answer<Point> {
+    check_query(shape, records, slope)?;
+    let mut cell = [0; 3];
+    let mut u = [0; 3];
+    for axis in 0..3 {
+        let float = position[axis];
+        if !float.is_finite() {
+            return refuse(10, axis);
+        }
+        // Exact in f64 wherever the step is within a table.
+        let step = (float as f64 * 256.0 + 0.5).floor() as i64;
+        (cell[axis], u[axis]) = locate(shape, axis, step)?;
+    }
+    Ok(Point { cell, u, slope })
+}
