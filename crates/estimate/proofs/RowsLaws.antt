@@ -59,12 +59,13 @@ module _ (g : Grid) (xs : List ℤ) (y z r : ℕ) (in-y : y < g .cy) (at-r : r �
   unfolding rowsOf
   rows-at o l = rw (high-digit (rowSize g) r o l, low-digit (rowSize g) r o l, turned, high-digit (g .cy) z y in-y, low-digit (g .cy) z y in-y)
 
--- ---- one axis: the only row is the samples
+-- ---- no orders along an axis: its pass changes nothing
 
-one-pass : (m : ℕ) → m ≡ 1 → (l f r : ℕ → ℤ) (t : ℕ) → passOf m l f r t ≡ f t
+pub one-pass : (m : ℕ) → m ≡ 1 → (l f r : ℕ → ℤ) (t : ℕ) → passOf m l f r t ≡ f t
 unfolding passOf byOrder
 one-pass m e l f r t = rw (e, mod-one t, div-one t) refl
 
+-- one axis: the only row is the samples
 module _ (g : Grid) (xs : List ℤ) (my : g .my ≡ 1) (mz : g .mz ≡ 1) where
   pub line-row : (t : ℕ) → rowYZ g xs 0 0 t ≡ at xs t
   unfolding rowYZ rowZ rowStart

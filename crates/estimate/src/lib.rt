@@ -123,18 +123,35 @@ fn row_z(g: Grid, xs: &[i32], y: usize, z: usize, out: &mut [i32], k: usize)
     pass(g.mz, xs, low, mid, high, g.cx, out, k)
 }
 
+// Row (y, z) of samples that have no orders along z: a pass along y.
+fn row_y(g: Grid, xs: &[i32], y: usize, z: usize, row: &mut [i32])
+    requires { ⌜ Samples g (now xs) × (g .mz ≡ 1) ⌝ }
+    requires { ⌜ (y < g .cy) × (z < g .cz) × (length (now row) ≡ 576) ⌝ }
+    ensures { λ _. ⌜ ((t : ℕ) → t < g .my * (g .mz * g .cx) → at (now (row .exit)) t ≡ rowYZ g (now (xs .entry)) y z t) ⌝ }
+{
+    let n = neighbours_of(g.cy, y);
+    let low = row_start(g, n.low, z);
+    let mid = row_start(g, y, z);
+    let high = row_start(g, n.high, z);
+    pass(g.my, xs, low, mid, high, g.cx, row, 0)
+}
+
 // One row, worked off along z and y; `three` holds it and its neighbours along y, worked off along z.
 fn row_yz(g: Grid, xs: &[i32], y: usize, z: usize, three: &mut [i32], row: &mut [i32])
     requires { ⌜ Samples g (now xs) ⌝ }
     requires { ⌜ (y < g .cy) × (z < g .cz) × (length (now three) ≡ 576) × (length (now row) ≡ 576) ⌝ }
     ensures { λ _. ⌜ ((t : ℕ) → t < g .my * (g .mz * g .cx) → at (now (row .exit)) t ≡ rowYZ g (now (xs .entry)) y z t) ⌝ }
 {
-    let n = neighbours_of(g.cy, y);
-    let w = g.mz * g.cx;
-    row_z(g, xs, n.low, z, three, 0);
-    row_z(g, xs, y, z, three, w);
-    row_z(g, xs, n.high, z, three, w + w);
-    pass(g.my, three, 0, w, w + w, w, row, 0)
+    if g.mz == 1 {
+        row_y(g, xs, y, z, row)
+    } else {
+        let n = neighbours_of(g.cy, y);
+        let w = g.mz * g.cx;
+        row_z(g, xs, n.low, z, three, 0);
+        row_z(g, xs, y, z, three, w);
+        row_z(g, xs, n.high, z, three, w + w);
+        pass(g.my, three, 0, w, w + w, w, row, 0)
+    }
 }
 
 // The records of one row, which is worked off along z and y.

@@ -68,28 +68,31 @@ module _ (g : Grid) (xs : List ℤ) (y z low high : ℕ) (ok : Samples g xs) (lo
         h : ℕ → ℤ
         h = passOf (g .my) (since b₃ 0) (since b₃ w) (since b₃ (w + w))
 
+row-y-requires : tie.Need-row-y-requires
+row-y-requires c κs = let s = c .before .before .before in ((s .pre .0, c .before .if1 .taken), (s .pre .1 .0, s .pre .1 .1, s .pre .1 .3))
+
 neighbours-of-requires : tie.Need-neighbours-of-requires
 neighbours-of-requires c κs = search needs
 
 mul-w : tie.Need-mul-w
-mul-w c = let s = c .before .before in omega (arith, row-z-high (s .args .g) (s .pre .0 .grid))
+mul-w c = let s = c .before .before .before .before in omega (arith, row-z-high (s .args .g) (s .pre .0 .grid))
 
 row-z-requires : tie.Need-row-z-requires
 row-z-requires c κs =
-    let s = c .before .before .before in
+    let s = c .before .before .before .before .before in
     (s .pre .0, (rw (c .before .before .neighbours-of .ensures .0) (left-below (s .args .g .cy) (s .args .y) (s .pre .1 .0)), s .pre .1 .1, omega (arith, row-z-high (s .args .g) (s .pre .0 .grid), s .pre .1 .2)))
 
 row-z-requires-2 : tie.Need-row-z-requires-2
 row-z-requires-2 c κs =
-    let s = c .before .before .before .before .before .before in
+    let s = c .before .before .before .before .before .before .before .before in
     (s .pre .0, (s .pre .1 .0, s .pre .1 .1, omega (arith, row-z-high (s .args .g) (s .pre .0 .grid), s .pre .1 .2, c .before .before .row-z .kept)))
 
 add-row-z : tie.Need-add-row-z
-add-row-z c = let s = c .before .before .before .before .before .before .before .before .before in omega (arith, row-z-high (s .args .g) (s .pre .0 .grid))
+add-row-z c = let s = c .before .before .before .before .before .before .before .before .before .before .before in omega (arith, row-z-high (s .args .g) (s .pre .0 .grid))
 
 row-z-requires-3 : tie.Need-row-z-requires-3
 row-z-requires-3 c κs =
-    let s = c .before .before .before .before .before .before .before .before .before in (
+    let s = c .before .before .before .before .before .before .before .before .before .before .before in (
       s .pre .0,
       (
         rw (c .before .before .before .before .before .before .before .before .neighbours-of .ensures .1) (right-below (s .args .g .cy) (s .args .y) (s .pre .1 .0)),
@@ -99,12 +102,12 @@ row-z-requires-3 c κs =
     )
 
 add-pass : tie.Need-add-pass
-add-pass c = let s = c .before .before .before .before .before .before .before .before .before .before .before .before in omega (arith, row-z-high (s .args .g) (s .pre .0 .grid))
+add-pass c = let s = c .before .before .before .before .before .before .before .before .before .before .before .before .before .before in omega (arith, row-z-high (s .args .g) (s .pre .0 .grid))
 
 pass-requires : tie.Need-pass-requires
 pass-requires c κs =
     let b = c .before .before .before in
-    let s = b .before .before .before .before .before .before .before .before .before .before in
+    let s = b .before .before .before .before .before .before .before .before .before .before .before .before in
     let n = b .before .before .before .before .before .before .before .before .before .neighbours-of in (
       (s .pre .0 .grid .my-low, s .pre .0 .grid .my-high, omega (arith, row-yz-high (s .args .g) (s .pre .0 .grid), s .pre .1 .3)),
       reads-all (s .args .g) (s .args .xs .now) (s .args .y) (s .args .z) (n .result .low) (n .result .high) (s .pre .0) (n .ensures .0) (n .ensures .1) (s .args .three .now) _ _ _ (s .pre .1 .2)
@@ -114,13 +117,19 @@ pass-requires c κs =
 same-length : tie.Need-same-length
 same-length c = search needs
 
+returns : tie.Need-returns
+returns c = c .before .row-y .ensures
+
 same-length-2 : tie.Need-same-length-2
 same-length-2 c = search needs
 
-returns : tie.Need-returns
-returns c =
+same-length-3 : tie.Need-same-length-3
+same-length-3 c = search needs
+
+returns-2 : tie.Need-returns-2
+returns-2 c =
     let b = c .before .before .before .before .before in
-    let s = b .before .before .before .before .before .before .before .before .before .before in
+    let s = b .before .before .before .before .before .before .before .before .before .before .before .before in
     let n = b .before .before .before .before .before .before .before .before .before .neighbours-of in
     result (s .args .g) (s .args .xs .now) (s .args .y) (s .args .z) (n .result .low) (n .result .high) (s .pre .0) (n .ensures .0) (n .ensures .1) (s .args .three .now) _ _ _ (s .pre .1 .2)
     (b .before .before .before .before .before .before .row-z .ensures) (b .before .before .before .row-z2 .ensures) (b .row-z3 .ensures) (s .args .row .now) _ (s .pre .1 .3) (c .before .pass .ensures)
@@ -129,6 +138,7 @@ pub row-yz-spec : {M : Type 1} → statement M
 row-yz-spec =
     tie.close
     (tie.spec
+    row-y-requires
     neighbours-of-requires
     mul-w
     row-z-requires
@@ -138,5 +148,7 @@ row-yz-spec =
     add-pass
     pass-requires
     same-length
+    returns
     same-length-2
-    returns)
+    same-length-3
+    returns-2)
