@@ -11,7 +11,8 @@ const ROUND: Duration = Duration::from_micros(300);
 const ROUNDS: usize = 200;
 const TIME: Duration = Duration::from_secs(2);
 
-// Nanoseconds a call: the best of many rounds, in which all runs take turns.
+// Nanoseconds a call: the best of many rounds, in which all runs take turns, each after one run
+// that brings its data back into the caches.
 pub fn side_by_side(calls: usize, runs: &mut [Run]) -> Vec<f64> {
     let repeats: Vec<u32> = runs.iter_mut().map(|run| repeats(run)).collect();
     let mut best = vec![f64::INFINITY; runs.len()];
@@ -21,6 +22,7 @@ pub fn side_by_side(calls: usize, runs: &mut [Run]) -> Vec<f64> {
             break;
         }
         for (number, run) in runs.iter_mut().enumerate() {
+            black_box(run());
             let total = time(run, repeats[number]).as_nanos() as f64;
             let each = total / (repeats[number] as usize * calls) as f64;
             best[number] = best[number].min(each);
