@@ -5,7 +5,7 @@ use Prim.Native.Nat.{ℕ, zero, suc, _+_, _*_, _-_, _/_, _%_, _^_, _≤_, _<_}
 use native.Mathlib.Nat.{mod-eq-of-lt, add-mod-left, div-eq-of-lt, add-div-left, le-trans, le-of-eq}
 use native.Mathlib.Omega.{arith}
 use native.Mathlib.Decide.{decLt}
-use lib.Dec.{ltb, lit≤}
+use lib.Dec.{ltb, lit≤, lit<}
 use lib.IntN.{ℤ, pos, _*ℤ_, natAbs}
 use borrow.Author.Tests.{lt-ltb, le-ltb}
 use Rattle.arith.specs.Choice.{pick}
@@ -127,3 +127,8 @@ module _ (m n : ℕ) (x : Axis) (xs : List Axis) (g : ℕ → ℤ) (p : ℕ) (sa
     stage-after h r e =
         e ∙ worked-by m x (after m xs g) p low high
         (λ o l. lows o (omega arith) ∙ number-at m (after m xs g) p (x .near) o l) (λ o l. highs o (omega arith) ∙ number-at m (after m xs g) (p + x .far) (x .near) o l)
+
+-- a cubic end has no third number
+pub no-third : (m : ℕ) (g : ℕ → ℤ) (p near : ℕ) (end : ℕ → ℤ) → ((o : ℕ) → o < 3 → end o ≡ numbersAt m g p near o) → m ≡ 2 → end 2 ≡ pos 0
+unfolding numbersAt
+no-third m g p near end h e = h 2 (lit< tt) ∙ pick-false (ltb 2 m) (g (p + 2 * near)) (pos 0) (le-ltb 2 m (omega arith))

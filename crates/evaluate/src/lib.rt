@@ -85,7 +85,7 @@ fn first(m: usize, x: Axis, records: &[i32], p: usize) -> i64
     let low = end_in(m, records, p, x.near);
     let high = end_in(m, records, p + x.far, x.near);
     let basis = x.basis;
-    hermite::stage(basis, x.shift, low, high)
+    hermite::stage(m, basis, x.shift, low, high)
 }
 
 // The number after the second stage: the first gives the numbers of its two ends.
@@ -106,7 +106,7 @@ fn second(m: usize, y: Axis, x: Axis, records: &[i32], p: usize) -> i64
         o += 1;
     }
     let basis = y.basis;
-    hermite::stage(basis, y.shift, low, high)
+    hermite::stage(m, basis, y.shift, low, high)
 }
 
 // The number after the third stage: the second gives the numbers of its two ends.
@@ -127,7 +127,7 @@ fn third(m: usize, z: Axis, y: Axis, x: Axis, records: &[i32], p: usize) -> i64
         o += 1;
     }
     let basis = z.basis;
-    hermite::stage(basis, z.shift, low, high)
+    hermite::stage(m, basis, z.shift, low, high)
 }
 
 // The stage of one axis, to units.

@@ -4,7 +4,7 @@ use mathlib.Core.List.{List}
 use Prim.Native.Nat.{ℕ, _*_, _^_, _≤_, _<_}
 use native.Mathlib.Nat.{le-refl, lt-of-le-of-lt}
 use lib.Dec.{lit<, lit≤}
-use lib.IntN.{ℤ, _+ℤ_, _*ℤ_, natAbs, +ℤ-idl}
+use lib.IntN.{ℤ, pos, _+ℤ_, _*ℤ_, natAbs, +ℤ-idl, +ℤ-idr, *ℤ-zero}
 use lib.Signed.{mag}
 use mir.Syntax.{w64}
 use mir.Val.{SFits, toZ, ofZ}
@@ -49,6 +49,11 @@ module _ (f g : ℕ → ℤ) (small : total 3 (λ i. natAbs (f i) * natAbs (g i)
 
     pub two-fits : SFits w64 (held (held (f 0) *ℤ held (g 0)) +ℤ held (held (f 1) *ℤ held (g 1)))
     two-fits = rw two (part-fits 2 (lit≤ tt))
+
+    -- all three, where the third is 0
+    pub two-whole : g 2 ≡ pos 0 → held (held (held (f 0) *ℤ held (g 0)) +ℤ held (held (f 1) *ℤ held (g 1))) ≡ sum 3 (λ i. f i *ℤ g i)
+    unfolding sum
+    two-whole e = ap held two ∙ toZ-ofZ (part-fits 2 (lit≤ tt)) ∙ sym (ap (λ z. sum 2 (λ i. f i *ℤ g i) +ℤ f 2 *ℤ z) e ∙ ap (λ z. sum 2 (λ i. f i *ℤ g i) +ℤ z) (*ℤ-zero (f 2)) ∙ +ℤ-idr (sum 2 (λ i. f i *ℤ g i)))
 
     module _ (p2 : mag (f 2) < 2 ^ 63) (q2 : mag (g 2) < 2 ^ 63) where
       three : held (held (held (f 0) *ℤ held (g 0)) +ℤ held (held (f 1) *ℤ held (g 1))) +ℤ held (held (f 2) *ℤ held (g 2)) ≡ sum 3 (λ i. f i *ℤ g i)

@@ -1,7 +1,7 @@
 // One axis: the multiplier table, the basis of a step, and a stage.
 ghost use mathlib.Core.Path.{_≡_};
 ghost use Prim.Native.Nat.{ℕ, _+_, _*_, _-_, _<_, _≤_, _^_};
-ghost use lib.IntN.{negℤ, natAbs, _+ℤ_, _*ℤ_};
+ghost use lib.IntN.{pos, negℤ, natAbs, _+ℤ_, _*ℤ_};
 ghost use Rattle.arith.specs.Choice.{pick};
 ghost use Rattle.arith.specs.Int.{roundHalfUp};
 ghost use Rattle.arith.specs.Sum.{sum, total};
@@ -115,22 +115,26 @@ pub fn basis_at(slope: bool, m: usize, u: u32) -> Basis
     }
 }
 
-// The sum of three products.
-fn dot(x: [i64; 3], y: [i64; 3]) -> i64
-    requires { ⌜ total 3 (λ i. natAbs (at x i) * natAbs (at y i)) < 2 ^ 63 ⌝ }
+// The sum of m products of three; for m = 2 the third is 0.
+fn dot(m: usize, x: [i64; 3], y: [i64; 3]) -> i64
+    requires { ⌜ (total 3 (λ i. natAbs (at x i) * natAbs (at y i)) < 2 ^ 63) × (m ≡ 2 → at y 2 ≡ pos 0) ⌝ }
     ensures { λ r. ⌜ r ≡ sum 3 (λ i. at x i *ℤ at y i) ⌝ }
 {
+    if m == 2 {
+        return x[0] * y[0] + x[1] * y[1];
+    }
     x[0] * y[0] + x[1] * y[1] + x[2] * y[2]
 }
 
 // One stage: the numbers of the two ends, by their basis, rounded by 2^(k+1).
-pub fn stage(b: Basis, k: u32, low: [i64; 3], high: [i64; 3]) -> i64
+pub fn stage(m: usize, b: Basis, k: u32, low: [i64; 3], high: [i64; 3]) -> i64
     requires { ⌜ (k ≤ 44) × (load b (at low) (at high) ≤ 2 ^ 63 - 2 ^ 45) ⌝ }
-    ensures { λ r. ⌜ ((kind : Kind) (m u : ℕ) → Folds kind m u b → r ≡ roundHalfUp (stageSum kind m steps 0 u (bothEnds m (at low) (at high)) 0) (2 ^ (k + 1))) ⌝ }
+    requires { ⌜ (m ≡ 2 → (at low 2 ≡ pos 0) × (at high 2 ≡ pos 0)) ⌝ }
+    ensures { λ r. ⌜ ((kind : Kind) (n u : ℕ) → Folds kind n u b → r ≡ roundHalfUp (stageSum kind n steps 0 u (bothEnds n (at low) (at high)) 0) (2 ^ (k + 1))) ⌝ }
 {
     let from_low = b.low;
     let from_high = b.high;
-    arith::rounded(dot(from_low, low) + dot(from_high, high), k)
+    arith::rounded(dot(m, from_low, low) + dot(m, from_high, high), k)
 }
 
 // The k for which a stage's divisor, 2 times a power of 256, is 2^(k+1).

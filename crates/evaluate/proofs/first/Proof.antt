@@ -3,7 +3,7 @@ use Rattle.lattice.specs.Buffer.{at}
 use Rattle.hermite.specs.Hermite.{kindOf}
 use Rattle.arith.proofs.Machine.{read}
 use Rattle.evaluate.specs.Stages.{after}
-use Rattle.evaluate.proofs.EndLaws.{safe-low, safe-high, safe-load, stage-after}
+use Rattle.evaluate.proofs.EndLaws.{safe-low, safe-high, safe-load, stage-after, no-third}
 use mathlib.Core.Path.{_∙_}
 use Prim.Native.Nat.{ℕ, _<_, _+_, _*_}
 use native.Mathlib.Omega.{arith}
@@ -40,9 +40,11 @@ end-in-requires-2 c κs = let s = c .before .before in let f = s .pre .0 .0 .fol
 stage-requires : tie.Need-stage-requires
 unfolding after
 stage-requires c κs =
-    let s = c .before .before .before .before in (
-      s .pre .0 .0 .shift-low,
-      safe-load (s .args .m) (n s) (s .args .x) [] (g s) (s .args .p) (s .pre .1) (at (c .before .before .before .end-in .result)) (at (c .before .end-in2 .result)) (c .before .before .before .end-in .ensures) (c .before .end-in2 .ensures),
+    let s = c .before .before .before .before in
+    let low = c .before .before .before .end-in in
+    let high = c .before .end-in2 in (
+      (s .pre .0 .0 .shift-low, safe-load (s .args .m) (n s) (s .args .x) [] (g s) (s .args .p) (s .pre .1) (at (low .result)) (at (high .result)) (low .ensures) (high .ensures)),
+      λ e. (no-third (s .args .m) (g s) (s .args .p) (s .args .x .near) (at (low .result)) (low .ensures) e, no-third (s .args .m) (g s) (s .args .p + s .args .x .far) (s .args .x .near) (at (high .result)) (high .ensures) e),
     )
 
 returns : tie.Need-returns

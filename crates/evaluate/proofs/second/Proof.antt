@@ -1,7 +1,7 @@
 -- `evaluate::second` meets its contract: the first stage fills both ends, order by order.
 use mathlib.Core.Path.{_∙_}
 use mathlib.Core.List.{List, [], _∷_}
-use Prim.Native.Nat.{ℕ, _-_}
+use Prim.Native.Nat.{ℕ, _+_, _-_}
 use native.Mathlib.Omega.{arith}
 use lib.ListN.{length}
 use lib.IntN.{ℤ}
@@ -13,7 +13,7 @@ use Rattle.hermite.specs.Hermite.{kindOf}
 use Rattle.arith.proofs.Machine.{read}
 use Rattle.evaluate.specs.declared.Axis.{Axis}
 use Rattle.evaluate.specs.Stages.{after}
-use Rattle.evaluate.proofs.EndLaws.{safe-load, stage-after}
+use Rattle.evaluate.proofs.EndLaws.{safe-load, stage-after, no-third}
 use Rattle.evaluate.proofs.Filling.{low-safe, high-safe, low-below, high-below, near-below, BothFilled, both-none, both-more, both-all}
 use Rattle.evaluate.proofs.second.Statement.{statement}
 use Rattle.evaluate.proofs.second.Tie as tie
@@ -107,7 +107,10 @@ stage-requires c κs =
     let s = c .before .before .before .before in
     let i = c .before .before .loop in
     let all = both-all (s .args .m) (s .args .y) (after (s .args .m) (xs s) (raw s)) (s .args .p) (i .low) (i .high) (i .o) (i .inv) (c .before .loop-test .left) in
-    (s .pre .0 .0 .shift-low, safe-load (s .args .m) (n s) (s .args .y) (xs s) (raw s) (s .args .p) (s .pre .1) (at (i .low)) (at (i .high)) (all .0) (all .1))
+    let numbers = after (s .args .m) (xs s) (raw s) in (
+      (s .pre .0 .0 .shift-low, safe-load (s .args .m) (n s) (s .args .y) (xs s) (raw s) (s .args .p) (s .pre .1) (at (i .low)) (at (i .high)) (all .0) (all .1)),
+      λ e. (no-third (s .args .m) numbers (s .args .p) (s .args .y .near) (at (i .low)) (all .0) e, no-third (s .args .m) numbers (s .args .p + s .args .y .far) (s .args .y .near) (at (i .high)) (all .1) e),
+    )
 
 returns : tie.Need-returns Inv-loop μ-loop
 returns c =

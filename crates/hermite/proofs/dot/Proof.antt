@@ -1,7 +1,7 @@
 -- `hermite::dot` meets its contract: the sizes of the products sum to less than 2^63, so each product and each shorter sum fits.
 use lib.Dec.{lit<}
 use Rattle.lattice.specs.Buffer.{at}
-use Rattle.hermite.proofs.DotLaws.{one-fits, two-fits, three-fits, whole}
+use Rattle.hermite.proofs.DotLaws.{one-fits, two-fits, two-whole, three-fits, whole}
 use borrow.Author.Needs.{needs}
 use Rattle.hermite.proofs.dot.Statement.{statement}
 use Rattle.hermite.proofs.dot.Tie as tie
@@ -13,7 +13,7 @@ array-copy-out-result-2 : tie.Need-array-copy-out-result-2
 array-copy-out-result-2 c = search needs
 
 mul-result : tie.Need-mul-result
-mul-result c = one-fits (at (c .before .before .args .t1)) (at (c .before .before .args .t2)) (c .before .before .pre) 0 (lit< tt) (c .before .result .given) (c .result2 .given)
+mul-result c = let p = c .before .before .before in one-fits (at (p .args .t2)) (at (p .args .t3)) (p .pre .0) 0 (lit< tt) (c .before .result .given) (c .result2 .given)
 
 array-copy-out-result-3 : tie.Need-array-copy-out-result-3
 array-copy-out-result-3 c = search needs
@@ -22,14 +22,13 @@ array-copy-out-result-4 : tie.Need-array-copy-out-result-4
 array-copy-out-result-4 c = search needs
 
 mul-result-2 : tie.Need-mul-result-2
-mul-result-2 c =
-    let p = c .before .before .before .before in
-    one-fits (at (p .args .t1)) (at (p .args .t2)) (p .pre) 1 (lit< tt) (c .before .result3 .given) (c .result4 .given)
+mul-result-2 c = let p = c .before .before .before .before .before in one-fits (at (p .args .t2)) (at (p .args .t3)) (p .pre .0) 1 (lit< tt) (c .before .result3 .given) (c .result4 .given)
 
 add-result : tie.Need-add-result
-add-result c =
-    let p = c .before .before .before .before in
-    two-fits (at (p .args .t1)) (at (p .args .t2)) (p .pre) (c .before .before .before .result .given) (c .before .before .result2 .given) (c .before .result3 .given) (c .result4 .given)
+add-result c = let p = c .before .before .before .before .before in two-fits (at (p .args .t2)) (at (p .args .t3)) (p .pre .0) (c .before .before .before .result .given) (c .before .before .result2 .given) (c .before .result3 .given) (c .result4 .given)
+
+returns : tie.Need-returns
+returns c = let p = c .before .before .before .before .before in two-whole (at (p .args .t2)) (at (p .args .t3)) (p .pre .0) (c .before .before .before .result .given) (c .before .before .result2 .given) (c .before .result3 .given) (c .result4 .given) (p .pre .1 (c .before .before .before .before .if1 .taken))
 
 array-copy-out-result-5 : tie.Need-array-copy-out-result-5
 array-copy-out-result-5 c = search needs
@@ -38,19 +37,34 @@ array-copy-out-result-6 : tie.Need-array-copy-out-result-6
 array-copy-out-result-6 c = search needs
 
 mul-result-3 : tie.Need-mul-result-3
-mul-result-3 c =
-    let p = c .before .before .before .before .before .before in
-    one-fits (at (p .args .t1)) (at (p .args .t2)) (p .pre) 2 (lit< tt) (c .before .result5 .given) (c .result6 .given)
+mul-result-3 c = let p = c .before .before .before in one-fits (at (p .args .t2)) (at (p .args .t3)) (p .pre .0) 0 (lit< tt) (c .before .result5 .given) (c .result6 .given)
+
+array-copy-out-result-7 : tie.Need-array-copy-out-result-7
+array-copy-out-result-7 c = search needs
+
+array-copy-out-result-8 : tie.Need-array-copy-out-result-8
+array-copy-out-result-8 c = search needs
+
+mul-result-4 : tie.Need-mul-result-4
+mul-result-4 c = let p = c .before .before .before .before .before in one-fits (at (p .args .t2)) (at (p .args .t3)) (p .pre .0) 1 (lit< tt) (c .before .result7 .given) (c .result8 .given)
 
 add-result-2 : tie.Need-add-result-2
-add-result-2 c =
-    let p = c .before .before .before .before .before .before in
-    three-fits (at (p .args .t1)) (at (p .args .t2)) (p .pre) (c .before .before .before .before .before .result .given) (c .before .before .before .before .result2 .given) (c .before .before .before .result3 .given) (c .before .before .result4 .given) (c .before .result5 .given) (c .result6 .given)
+add-result-2 c = let p = c .before .before .before .before .before in two-fits (at (p .args .t2)) (at (p .args .t3)) (p .pre .0) (c .before .before .before .result5 .given) (c .before .before .result6 .given) (c .before .result7 .given) (c .result8 .given)
 
-returns : tie.Need-returns
-returns c =
-    let p = c .before .before .before .before .before .before in
-    whole (at (p .args .t1)) (at (p .args .t2)) (p .pre) (c .before .before .before .before .before .result .given) (c .before .before .before .before .result2 .given) (c .before .before .before .result3 .given) (c .before .before .result4 .given) (c .before .result5 .given) (c .result6 .given)
+array-copy-out-result-9 : tie.Need-array-copy-out-result-9
+array-copy-out-result-9 c = search needs
+
+array-copy-out-result-10 : tie.Need-array-copy-out-result-10
+array-copy-out-result-10 c = search needs
+
+mul-result-5 : tie.Need-mul-result-5
+mul-result-5 c = let p = c .before .before .before .before .before .before .before in one-fits (at (p .args .t2)) (at (p .args .t3)) (p .pre .0) 2 (lit< tt) (c .before .result9 .given) (c .result10 .given)
+
+add-result-3 : tie.Need-add-result-3
+add-result-3 c = let p = c .before .before .before .before .before .before .before in three-fits (at (p .args .t2)) (at (p .args .t3)) (p .pre .0) (c .before .before .before .before .before .result5 .given) (c .before .before .before .before .result6 .given) (c .before .before .before .result7 .given) (c .before .before .result8 .given) (c .before .result9 .given) (c .result10 .given)
+
+returns-2 : tie.Need-returns-2
+returns-2 c = let p = c .before .before .before .before .before .before .before in whole (at (p .args .t2)) (at (p .args .t3)) (p .pre .0) (c .before .before .before .before .before .result5 .given) (c .before .before .before .before .result6 .given) (c .before .before .before .result7 .given) (c .before .before .result8 .given) (c .before .result9 .given) (c .result10 .given)
 
 pub dot-spec : {M : Type 1} → statement M
 dot-spec =
@@ -63,8 +77,16 @@ dot-spec =
     array-copy-out-result-4
     mul-result-2
     add-result
+    returns
     array-copy-out-result-5
     array-copy-out-result-6
     mul-result-3
+    array-copy-out-result-7
+    array-copy-out-result-8
+    mul-result-4
     add-result-2
-    returns)
+    array-copy-out-result-9
+    array-copy-out-result-10
+    mul-result-5
+    add-result-3
+    returns-2)

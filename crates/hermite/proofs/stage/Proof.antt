@@ -7,27 +7,27 @@ use Rattle.hermite.proofs.stage.Statement.{statement}
 use Rattle.hermite.proofs.stage.Tie as tie
 
 dot-requires : tie.Need-dot-requires
-dot-requires c κs = let s = c .before .before in low-fits (s .args .b) (at (s .args .low)) (at (s .args .high)) (s .pre .1)
+dot-requires c κs = let s = c .before .before in (low-fits (s .args .b) (at (s .args .low)) (at (s .args .high)) (s .pre .0 .1), λ e. s .pre .1 e .0)
 
 dot-requires-2 : tie.Need-dot-requires-2
-dot-requires-2 c κs = let s = c .before .before .before in high-fits (s .args .b) (at (s .args .low)) (at (s .args .high)) (s .pre .1)
+dot-requires-2 c κs = let s = c .before .before .before in (high-fits (s .args .b) (at (s .args .low)) (at (s .args .high)) (s .pre .0 .1), λ e. s .pre .1 e .1)
 
 add-rounded : tie.Need-add-rounded
 add-rounded c =
     let s = c .before .before .before .before in
-    added-fits (s .args .b) (at (s .args .low)) (at (s .args .high)) (s .pre .1) (c .before .dot .result) (c .dot2 .result) (c .before .dot .ok) (c .dot2 .ok) (c .before .dot .ensures) (c .dot2 .ensures)
+    added-fits (s .args .b) (at (s .args .low)) (at (s .args .high)) (s .pre .0 .1) (c .before .dot .result) (c .dot2 .result) (c .before .dot .ok) (c .dot2 .ok) (c .before .dot .ensures) (c .dot2 .ensures)
 
 rounded-requires : tie.Need-rounded-requires
 rounded-requires c κs =
     let s = c .before .before .before .before in
-    rounding-asks (s .args .b) (at (s .args .low)) (at (s .args .high)) (s .pre .1) (c .before .dot .result) (c .dot2 .result) (c .before .dot .ok) (c .dot2 .ok) (c .before .dot .ensures) (c .dot2 .ensures) (s .args .k) (s .pre .0)
+    rounding-asks (s .args .b) (at (s .args .low)) (at (s .args .high)) (s .pre .0 .1) (c .before .dot .result) (c .dot2 .result) (c .before .dot .ok) (c .dot2 .ok) (c .before .dot .ensures) (c .dot2 .ensures) (s .args .k) (s .pre .0 .0)
 
 returns : tie.Need-returns
 returns c kind m u f =
     let d = c .before in
     let s = d .before .before .before .before in
     read (c .rounded .result) (c .rounded .ok) ∙ c .rounded .ensures
-    ∙ stage-done (s .args .b) (at (s .args .low)) (at (s .args .high)) (s .pre .1) (d .before .dot .result) (d .dot2 .result) (d .before .dot .ok) (d .dot2 .ok) (d .before .dot .ensures) (d .dot2 .ensures) (s .args .k) kind m u f
+    ∙ stage-done (s .args .b) (at (s .args .low)) (at (s .args .high)) (s .pre .0 .1) (d .before .dot .result) (d .dot2 .result) (d .before .dot .ok) (d .dot2 .ok) (d .before .dot .ensures) (d .dot2 .ensures) (s .args .k) kind m u f
 
 pub stage-spec : {M : Type 1} → statement M
 stage-spec = tie.close (tie.spec dot-requires dot-requires-2 add-rounded rounded-requires returns)
