@@ -6,7 +6,7 @@ use native.Mathlib.Nat.{div-le-self, lt-of-le-of-lt, le-refl, mul-le-mul-left, m
 use native.Mathlib.Omega.{arith}
 use lib.Dec.{T, ltb, leb→le, le→leb, ltb→lt}
 use lib.IntN.{ℤ, pos, negsuc, negℤ, subℕ, natAbs, _+ℤ_, _-ℤ_, _*ℤ_}
-use lib.Signed.{_≤ℤ_, leZ, leZ-yes, mag, quotZ, remZ, shrZ, mag-rem, mag-shr}
+use lib.Signed.{_≤ℤ_, leZ, leZ-yes, mag, quotZ, shrZ, mag-shr}
 use mir.Syntax.{Width}
 use mir.Val.{SFits, hbits}
 
@@ -78,18 +78,12 @@ mag≤abs (negsuc n) = omega arith
 pub sfits-abs : {w : Width} (x : ℤ) → natAbs x < 2 ^ hbits w → SFits w x
 sfits-abs x h = record { sfits = omega (arith, mag≤abs x) }
 
-pub sfits-within : {w : Width} {B : ℕ} {x : ℤ} → Within B x → B < 2 ^ hbits w → SFits w x
-sfits-within {x = x} h k = sfits-abs x (omega (arith, abs≤ h))
-
 -- a quotient, toward zero or down, and a remainder are no larger than the dividend
 pub abs-quot : (z d : ℤ) → natAbs (quotZ z d) ≤ natAbs z
 abs-quot (pos a) (pos b) = div-le-self a b
 abs-quot (pos a) (negsuc b) = subst (λ (n : ℕ). n ≤ a) (sym (abs-neg (pos (a / suc b)))) (div-le-self a (suc b))
 abs-quot (negsuc a) (pos b) = subst (λ (n : ℕ). n ≤ suc a) (sym (abs-neg (pos (suc a / b)))) (div-le-self (suc a) b)
 abs-quot (negsuc a) (negsuc b) = div-le-self (suc a) (suc b)
-
-pub sfits-rem : {w : Width} (z d : ℤ) → SFits w z → SFits w (remZ z d)
-sfits-rem z d h = record { sfits = lt-of-le-of-lt (mag-rem z d) (h .sfits) }
 
 pub sfits-shr : {w : Width} (z : ℤ) (m : ℕ) → SFits w z → SFits w (shrZ z m)
 sfits-shr z m h = record { sfits = lt-of-le-of-lt (mag-shr z m) (h .sfits) }

@@ -112,10 +112,6 @@ pub ruleset sizes = (tt, s-pos, s-negsuc, s-bits, s-neg, s-quot, s-floor, s-mul,
 abbrev pub sized : (x : ℤ) (B : ℕ) → natAbs x ≤ B → Size x
 sized x B h = record { v = x; B = B; Ob = Unit {0}; is = λ t. refl; ok = λ t. h }
 
--- an equation and a bound, as of a callee's result
-abbrev pub sized-as : (x v : ℤ) (B : ℕ) → x ≡ v → natAbs v ≤ B → Size x
-sized-as x v B e h = record { v = v; B = B; Ob = Unit {0}; is = λ t. e; ok = λ t. h }
-
 -- a number of the machine's, read back from its bits
 pub is-held : (w : Width) (x : ℤ) → SFits w x → Unit {0} → toZ w (ofZ w x) ≡ x
 is-held w x h t = toZ-ofZ {w = w} h
@@ -123,19 +119,9 @@ is-held w x h t = toZ-ofZ {w = w} h
 abbrev pub held : (w : Width) (x : ℤ) (B : ℕ) → SFits w x → natAbs x ≤ B → Size (toZ w (ofZ w x))
 held w x B h l = record { v = x; B = B; Ob = Unit {0}; is = is-held w x h; ok = λ t. l }
 
--- bits of which the number is known
-pub is-of-bits : (w : Width) (n : ℕ) (x : ℤ) → n ≡ ofZ w x → SFits w x → Unit {0} → toZ w n ≡ x
-is-of-bits w n x e h t = ap (λ (k : ℕ). toZ w k) e ∙ toZ-ofZ {w = w} h
-
-abbrev pub of-bits : (w : Width) (n : ℕ) (x : ℤ) (B : ℕ) → n ≡ ofZ w x → SFits w x → natAbs x ≤ B → Size (toZ w n)
-of-bits w n x B e h l = record { v = x; B = B; Ob = Unit {0}; is = is-of-bits w n x e h; ok = λ t. l }
-
 -- a natural number, read as signed bits
 pub is-nat : (w : Width) (n B : ℕ) → n ≤ B → B < 2 ^ hbits w → toZ w n ≡ pos n
 is-nat w n B h t = toZ-ofZ {w = w} {z = pos n} (record { sfits = lt-of-le-of-lt h t })
-
-abbrev pub of-nat : (w : Width) (n B : ℕ) → n ≤ B → Size (toZ w n)
-of-nat w n B h = record { v = pos n; B = B; Ob = B < 2 ^ hbits w; is = is-nat w n B h; ok = λ t. h }
 
 -- a 32-bit element, read, and read as 64 bits
 pub element : (x : ℤ) → mag x < 2 ^ 31 → toZ w32 (ofZ w32 x) ≡ x

@@ -1,22 +1,16 @@
 -- The order of ℤ: a ≤ b is b = a + n for a natural n; sums, products, squares; `nlin`, an inequality from a certificate.
 use mathlib.Core.Path.{_≡_, refl, sym, _∙_, ap, ap₂, subst}
-use mathlib.Core.List.{List, [], _∷_}
 use mathlib.Core.Bool.{Bool, true, false, not, cond}
 use Prim.Native.Nat.{ℕ, zero, suc, _+_, _*_, _-_, _≤_, _<_}
 use native.Mathlib.Omega.{arith}
 use lib.Dec.{T, ltb, leb→le, le→leb, ltb→lt, lt→ltb}
 use lib.Arith.{le→nltb}
-use lib.IntN.{ℤ, pos, negsuc, negℤ, subℕ, natAbs, _+ℤ_, _-ℤ_, _*ℤ_, +ℤ-idl, +ℤ-idr, +ℤ-comm, -ℤ-+ℤ-cancel}
+use lib.IntN.{ℤ, pos, negsuc, subℕ, natAbs, _+ℤ_, _-ℤ_, _*ℤ_, +ℤ-idl, +ℤ-idr, +ℤ-comm, -ℤ-+ℤ-cancel}
 use mathlib.Core.Logic.{_⊎_, inl, inr}
 use lib.Signed.{_≤ℤ_, _<ℤ_, leZ, ltZ, leZ-yes, ltZ-yes, ltZ-no, <ℤ-irrefl}
-use Rattle.arith.proofs.Ring.{con, _⊞_, _⊠_, ⊟_, Same, ring}
 use Rattle.arith.specs.Int.{_^ℤ_}
-use Rattle.arith.proofs.Quote.{Quoted, quotes, ring! }
 
 -- ---- a − b of two naturals
-cond-yes : (c : Bool) (x y : ℤ) → T c → cond c x y ≡ x
-cond-yes true x y t = refl
-cond-yes false x y t = absurd t
 
 cond-no : (c : Bool) (x y : ℤ) → T (not c) → cond c x y ≡ y
 cond-no true x y t = absurd t
@@ -24,9 +18,6 @@ cond-no false x y t = refl
 
 pub subℕ-pos : (a b : ℕ) → b ≤ a → subℕ a b ≡ pos (a - b)
 subℕ-pos a b h = cond-no (ltb a b) (negsuc (b - suc a)) (pos (a - b)) (le→nltb a b h)
-
-pub subℕ-neg : (a b : ℕ) → a < b → subℕ a b ≡ negsuc (b - suc a)
-subℕ-neg a b h = cond-yes (ltb a b) (negsuc (b - suc a)) (pos (a - b)) (lt→ltb a b h)
 
 -- ---- a ≤ b as b − a = n
 gap′ : (a b : ℤ) → T (leZ a b) → (n : ℕ) × (b -ℤ a ≡ pos n)
@@ -76,45 +67,10 @@ pub nn-sq : (a : ℤ) → pos 0 ≤ℤ (a *ℤ a)
 nn-sq (pos n) = nn-pos (n * n)
 nn-sq (negsuc n) = nn-pos (suc n * suc n)
 
-pub nn-scale : {a : ℤ} (n : ℕ) → pos 0 ≤ℤ a → pos 0 ≤ℤ (pos n *ℤ a)
-nn-scale n h = nn-mul (nn-pos n) h
-
--- a positive multiple is not negative only where the number is not
-unscale′ : (k n m : ℕ) → suc k * suc n ≡ suc m → T (leZ (pos 0) (negℤ (pos (suc k * suc n)))) → ⊥
-unscale′ k n m e t = subst (λ i. T (leZ (pos 0) (negℤ (pos i)))) e t
-
-pub unscale : (k : ℕ) (a : ℤ) → pos 0 ≤ℤ (pos (suc k) *ℤ a) → pos 0 ≤ℤ a
-unscale k (pos n) h = nn-pos n
-unscale k (negsuc n) h = absurd (unscale′ k n (n + k * suc n) (omega arith) (h .le))
-
-pub from-gap : (a b : ℤ) → pos 0 ≤ℤ (b -ℤ a) → a ≤ℤ b
-from-gap a b h = let g = nn-is h in le-intro (g .0) (sym (-ℤ-+ℤ-cancel b a) ∙ +ℤ-comm (b -ℤ a) a ∙ ap (λ t. a +ℤ t) (g .1))
-
-pub ≤ℤ-trans : {a b c : ℤ} → a ≤ℤ b → b ≤ℤ c → a ≤ℤ c
-≤ℤ-trans {a} {b} {c} h k = from-gap a c (subst (λ t. pos 0 ≤ℤ t) (ring! (a ∷ b ∷ c ∷ []) (search quotes depth 40) (search quotes depth 40) tt) (nn-add (nn-gap h) (nn-gap k)))
-
 pub pos-inj : {m n : ℕ} → pos m ≡ pos n → m ≡ n
 pos-inj e = ap natAbs e
 
-pub ≤ℤ-antisym : {a b : ℤ} → a ≤ℤ b → b ≤ℤ a → a ≡ b
-≤ℤ-antisym {a} {b} h k =
-    let g = le-elim h in let f = le-elim k in
-    let e : pos (g .0 + f .0) ≡ pos 0 = same-end a b (pos (g .0)) (pos (f .0)) (g .1) (f .1) in
-    sym (g .1 ∙ ap (λ (n : ℕ). a +ℤ pos n) (zero-of (g .0) (f .0) (pos-inj e)) ∙ +ℤ-idr a)
-  where
-    same-end : (a b n m : ℤ) → b ≡ a +ℤ n → a ≡ b +ℤ m → n +ℤ m ≡ pos 0
-    same-end a b n m p q = ring! (a ∷ n ∷ m ∷ []) {y = (a +ℤ n +ℤ m) -ℤ a} (search quotes depth 40) (search quotes depth 40) tt ∙ ap (λ t. t -ℤ a) (sym (q ∙ ap (λ t. t +ℤ m) p)) ∙ ring! (a ∷ []) {y = pos 0} (search quotes depth 40) (search quotes depth 40) tt
-
-    zero-of : (n m : ℕ) → n + m ≡ 0 → n ≡ 0
-    zero-of n m e = omega arith
-
 -- ---- `nlin`: a ≤ b, since b − a is the number s, which is not negative; with a multiple, (k + 1) (b − a) is s.
--- `nlin ρ (search quotes depth 40) (search quotes depth 40) s-is-not-negative (search quotes depth 40) tt`
-pub nlin : (ρ : List ℤ) {a b s : ℤ} (qa : Quoted ρ a) (qb : Quoted ρ b) → pos 0 ≤ℤ s → (qs : Quoted ρ s) → Same (qb .e ⊞ ⊟ (qa .e)) (qs .e) → a ≤ℤ b
-nlin ρ {a} {b} {s} qa qb h qs t = from-gap a b (subst (λ t. pos 0 ≤ℤ t) (sym (ap₂ _+ℤ_ (sym (qb .ok)) (ap negℤ (sym (qa .ok))) ∙ ring (qb .e ⊞ ⊟ (qa .e)) (qs .e) ρ t ∙ qs .ok)) h)
-
-pub nlin* : (k : ℕ) (ρ : List ℤ) {a b s : ℤ} (qa : Quoted ρ a) (qb : Quoted ρ b) → pos 0 ≤ℤ s → (qs : Quoted ρ s) → Same (con (pos (suc k)) ⊠ (qb .e ⊞ ⊟ (qa .e))) (qs .e) → a ≤ℤ b
-nlin* k ρ {a} {b} {s} qa qb h qs t = from-gap a b (unscale k (b -ℤ a) (subst (λ t. pos 0 ≤ℤ t) (sym (ap (λ t. pos (suc k) *ℤ t) (ap₂ _+ℤ_ (sym (qb .ok)) (ap negℤ (sym (qa .ok)))) ∙ ring (con (pos (suc k)) ⊠ (qb .e ⊞ ⊟ (qa .e))) (qs .e) ρ t ∙ qs .ok)) h))
 
 -- ---- the strict order, and the order is total
 lt-le′ : (a b : ℤ) → T (ltZ a b) → T (leZ a b)

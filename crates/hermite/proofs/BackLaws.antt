@@ -10,7 +10,7 @@ use lib.Dec.{ltb, eqb, lit≤}
 use lib.IntN.{ℤ, pos, _*ℤ_, natAbs}
 use Rattle.arith.proofs.Choices.{pick-true, pick-false, by-order, by-place, by-count}
 use Rattle.arith.proofs.Quote.{quotes, ring! }
-use Rattle.arith.proofs.Sums.{sum-ext, abs-weighted, graded-sum}
+use Rattle.arith.proofs.Sums.{sum-ext, graded-sum}
 use Rattle.arith.specs.Choice.{pick}
 use Rattle.arith.specs.Sum.{sum, total}
 use Rattle.lattice.proofs.Along.{Linear}
@@ -125,10 +125,6 @@ row-total : (m : ℕ) → 2 ≤ m → m ≤ 3 → (k : ℕ) → k < m → total 
 unfolding total multiplier
 row-total = by-order (λ m k. total m (λ o. natAbs (multiplier m k o) * 2 ^ o) ≤ 32) (lit≤ tt) (lit≤ tt) (lit≤ tt) (lit≤ tt) (lit≤ tt)
 
-solved-total : (m : ℕ) → 2 ≤ m → m ≤ 3 → (o : ℕ) → o < m → total 3 (λ k. natAbs (solved m (unit k) o)) ≤ 32
-unfolding total multiplier solved pick
-solved-total = by-order (λ m o. total 3 (λ k. natAbs (solved m (unit k) o)) ≤ 32) (lit≤ tt) (lit≤ tt) (lit≤ tt) (lit≤ tt) (lit≤ tt)
-
 module _ (m : ℕ) (m2 : 2 ≤ m) (m3 : m ≤ 3) (B : ℕ) where
   -- numbers within B, doubled with each order, have coefficients within 32 B
   pub forward-size : (c : ℕ) (x : ℕ → ℤ) → ((t : ℕ) → t < 2 * m → natAbs (x (m * c + t)) ≤ B * 2 ^ (t % m)) → (i : ℕ) → i < 2 * m → natAbs (forward m c x i) ≤ 32 * B
@@ -143,13 +139,3 @@ module _ (m : ℕ) (m2 : 2 ≤ m) (m3 : m ≤ 3) (B : ℕ) where
 
       high : (o : ℕ) → o < m → (m + o) % m ≡ o
       high o p = add-mod-left m o ∙ mod-eq-of-lt p
-
-  -- coefficients within B have doubled numbers within 32 B
-  pub backward-size : (c : ℕ → ℤ) → ((i : ℕ) → i < 2 * m → natAbs (c i) ≤ B) → (t : ℕ) → t < 2 * m → natAbs (backward m c t) ≤ 32 * B
-  backward-size c h =
-      by-place m (λ t. natAbs (backward m c t) ≤ 32 * B)
-      (λ o l. le-trans (le-of-eq (ap natAbs (backward-low m m2 m3 c o l))) (end c (λ k p. h k (omega arith)) o l))
-      (λ o l. le-trans (le-of-eq (ap natAbs (backward-high m m2 m3 c o) ∙ turned-size o (solved m (λ k. c (2 * m - 1 - k)) o))) (end (λ k. c (2 * m - 1 - k)) (λ k p. h (2 * m - 1 - k) (omega arith)) o l))
-    where
-      end : (y : ℕ → ℤ) → ((k : ℕ) → k < 3 → natAbs (y k) ≤ B) → (o : ℕ) → o < m → natAbs (solved m y o) ≤ 32 * B
-      end y h o l = le-trans (le-of-eq (ap natAbs (solved-linear m y o))) (le-trans (abs-weighted 3 (λ k. solved m (unit k) o) y B h) (mul-le-mul-right B (solved-total m m2 m3 o l)))

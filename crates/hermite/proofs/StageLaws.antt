@@ -2,11 +2,11 @@
 use mathlib.Core.Bool.{Bool, true, false}
 use mathlib.Core.Path.{_≡_, sym, ap, ap₂, _∙_}
 use Prim.Native.Nat.{ℕ, _+_, _*_, _-_, _%_, _^_, _≤_, _<_}
-use native.Mathlib.Nat.{le-refl, le-trans, le-of-eq, lt-of-le-of-lt, add-le-add, mul-le-mul, mod-eq-of-lt, add-mod-left, zero-mul, mul-comm}
+use native.Mathlib.Nat.{le-refl, le-trans, le-of-eq, lt-of-le-of-lt, add-le-add, mul-le-mul, mod-eq-of-lt, add-mod-left, zero-mul}
 use native.Mathlib.Omega.{arith}
 use borrow.Author.Tests.{lt-ltb, le-ltb}
 use lib.Dec.{ltb, lit≤, lit<}
-use lib.Pow.{pow-mono, pow-pos}
+use lib.Pow.{pow-mono}
 use lib.IntN.{ℤ, pos, _+ℤ_, _*ℤ_, natAbs, zero-*ℤ}
 use lib.Signed.{mag}
 use mir.Syntax.{w64}
@@ -14,7 +14,6 @@ use mir.Val.{SFits}
 use mir.Facts.{toZ-ofZ}
 use Rattle.arith.proofs.Abs.{abs-add, sfits-abs}
 use Rattle.arith.proofs.Choices.{pick-true, pick-false, by-m, by-place}
-use Rattle.arith.proofs.Round.{round-common}
 use Rattle.arith.proofs.Sums.{sum-ext, total-ext, dot-sum, sum-three, total-three, total-ends}
 use Rattle.arith.specs.Choice.{pick}
 use Rattle.arith.specs.Int.{roundHalfUp}
@@ -26,7 +25,6 @@ use Rattle.hermite.specs.Stage.{steps, Folds, bothEnds, load, worth}
 use Rattle.hermite.proofs.DotLaws.{held}
 use Rattle.arith.proofs.Machine.{read}
 use Rattle.hermite.proofs.Ends.{by-ends}
-use Rattle.hermite.proofs.HermiteLaws.{stage-multiple}
 use Rattle.hermite.proofs.Reach.{coarse, growth, coarse-growth}
 use Rattle.hermite.proofs.Sizes.{stage-total}
 
@@ -116,13 +114,6 @@ worth-some : (b : Bool) → 0 < worth b
 unfolding worth
 worth-some true = lit< tt
 worth-some false = lit< tt
-
--- a stage of the code's numbers, by the shift that belongs to them, is the stage of the same numbers counted in eighths
-pub stage-eighths : (k : Kind) (m N c u r D : ℕ) (from to : Bool) → 2 ^ (r + 1) * worth from ≡ D * worth to → (x : ℕ → ℤ) (j : ℕ)
-    → roundHalfUp (stageSum k m N c u x j) (2 ^ (r + 1)) ≡ roundHalfUp (stageSum k m N c u (λ t. pos (worth from) *ℤ x t) j) (worth to * D)
-stage-eighths k m N c u r D from to e x j =
-    sym (round-common (worth from) (stageSum k m N c u x j) (2 ^ (r + 1)) (worth-some from) (pow-pos (r + 1)))
-    ∙ ap₂ (λ (z : ℤ) (i : ℕ). roundHalfUp z i) (sym (stage-multiple k m N c u (pos (worth from)) x j)) (mul-comm (worth from) (2 ^ (r + 1)) ∙ e ∙ mul-comm D (worth to))
 
 -- ---- as the machine works it out
 

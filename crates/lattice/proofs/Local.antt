@@ -86,6 +86,3 @@ OnAxis n X a i = (a < n → X a i) × (n ≤ a → i ≡ 0)
 
 pub on-used : {n : ℕ} {X : ℕ → ℕ → Type 0} {p : Place} → ((a : ℕ) → OnAxis n X a (p a)) → OnUsed n X p
 on-used h = record { used = λ a. h a .0; unused = λ a. h a .1 }
-
-pub on-axis : {n : ℕ} {X : ℕ → ℕ → Type 0} {p : Place} → OnUsed n X p → (a : ℕ) → OnAxis n X a (p a)
-on-axis h a = (h .used a, h .unused a)

@@ -1,6 +1,6 @@
 -- What follows from a call that is not refused, and when it is not.
 use mathlib.Core.Path.{_≡_, refl, sym, ap, subst, _∙_}
-use mathlib.Core.Bool.{Bool, true, false, _&&_}
+use mathlib.Core.Bool.{Bool, true, false}
 use mathlib.Core.Logic.{⊎-elim}
 use Prim.Native.Nat.{ℕ, zero, suc, _+_, _*_, _<_}
 use native.Mathlib.Numerals.{add-one}
@@ -71,14 +71,6 @@ passed-not a e d = true-false (sym (ap passed d) ∙ e)
   where
     true-false : true ≡ false → ⊥
     true-false e = let z : _≡_ {A = ℕ} 0 1 = cc in absurd (omega arith)
-
-pub passed-first : (a b : Check) → passed (first a b) ≡ passed a && passed b
-passed-first (done tt) b = refl
-passed-first (refused n p) b = refl
-
-pub passed-refuse : (t : Bool) (n p : ℕ) → passed (refuseUnless t n p) ≡ t
-passed-refuse true n p = refl
-passed-refuse false n p = refl
 
 pub firstOf-each : (n : ℕ) (test : ℕ → Check) → firstOf n test ≡ done tt → (a : ℕ) → a < n → test a ≡ done tt
 unfolding firstOf

@@ -49,10 +49,6 @@ index-snoc (b ∷ ls) a width p = let e = index-snoc ls a width p in ap (λ (i :
 
 -- ---- facts of each axis
 
-pub each-map : (X Y : ℕ → Type 0) (ls : List ℕ) → ((a : ℕ) → X a → Y a) → Each X ls → Each Y ls
-each-map X Y [] f h = tt
-each-map X Y (a ∷ ls) f h = (f a (h .0), each-map X Y ls f (h .1))
-
 each-off : (X Y : ℕ → Type 0) (b : ℕ) (ls : List ℕ) → Fresh b ls → ((a : ℕ) → (a ≡ b → ⊥) → X a → Y a) → Each X ls → Each Y ls
 each-off X Y b [] f h k = tt
 each-off X Y b (a ∷ ls) f h k = (h a (λ e. f .0 (sym e)) (k .0), each-off X Y b ls (f .1) h (k .1))

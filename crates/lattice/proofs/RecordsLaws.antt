@@ -17,7 +17,7 @@ use Rattle.lattice.specs.Digits.{number, digit}
 use Rattle.lattice.specs.Shape.{count, orders, nodes, entries, size, Shaped}
 use Rattle.lattice.specs.Axes.{Place}
 use Rattle.lattice.specs.Records.{nodeNumber, entryNumber, entryIndex, entryPlace, limitOutcome}
-use Rattle.lattice.proofs.OutcomeLaws.{refuse-done, passes, firstOf-each, firstOf-passes, firstOf-stops, firstOf-more}
+use Rattle.lattice.proofs.OutcomeLaws.{refuse-done, firstOf-each, firstOf-stops, firstOf-more}
 use Rattle.lattice.proofs.DigitsLaws.{digit-number, number-below, span-power, above-zero}
 use Rattle.lattice.proofs.ShapeLaws.{orders-range}
 
@@ -102,12 +102,6 @@ limit-each limit xs h i = go (decLt i (length xs))
     go : Dec (i < length xs) → natAbs (at xs i) ≤ limit
     go (yes l) = leb-true (natAbs (at xs i)) limit (refuse-done (leb (natAbs (at xs i)) limit) 5 i (firstOf-each (length xs) (λ i. refuseUnless (leb (natAbs (at xs i)) limit) 5 i) h i l))
     go (no n) = rw (List·getD-eq-default xs (pos 0) {n = i} (omega (arith, n))) (omega arith)
-
--- and it is passed where each is
-pub limit-passes : (limit : ℕ) (xs : List ℤ) → ((i : ℕ) → natAbs (at xs i) ≤ limit) → limitOutcome limit xs ≡ done tt
-unfolding limitOutcome
-limit-passes limit xs h =
-    firstOf-passes (length xs) (λ i. refuseUnless (leb (natAbs (at xs i)) limit) 5 i) (λ i l. passes (leb (natAbs (at xs i)) limit) 5 i (le-leb (natAbs (at xs i)) limit (h i)))
 
 -- tested from the front
 abbrev pub limitTest : ℕ → List ℤ → ℕ → Check

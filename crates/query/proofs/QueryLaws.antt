@@ -1,5 +1,5 @@
 -- The facts behind a query that is not refused, when it is not, and a query by position as the query by its cell and in-cell step.
-use mathlib.Core.Path.{_≡_, refl, sym, ap, _∙_}
+use mathlib.Core.Path.{_≡_, sym, ap, _∙_}
 use mathlib.Core.Bool.{Bool, true, _&&_}
 use mathlib.Core.List.{List}
 use Prim.Native.Nat.{ℕ, _+_, _*_, _-_, _^_, _≤_, _<_}
@@ -7,7 +7,7 @@ use native.Mathlib.Omega.{arith}
 use native.Mathlib.Decide.{decLt}
 use lib.Dec.{leb, ltb, eqb}
 use lib.ListN.{length}
-use lib.IntN.{ℤ, pos, negsuc, natAbs}
+use lib.IntN.{ℤ, natAbs}
 use lib.Signed.{nonNeg, mag}
 use mir.Syntax.{w32}
 use mir.Val.{toZ, ofZ}
@@ -76,18 +76,6 @@ unfolding reading
 reading-parts s rs want cell step v h =
     let f = first-done (cornersOutcome s rs cell) (done (answer (askAt s want cell step) (recordsField s rs))) v h in
     (f .0, done-same (answer (askAt s want cell step) (recordsField s rs)) v (f .1))
-
-pub by-cell-parts : (s : Shape) (rs : List ℤ) (want : Want) (cell step : Place) (v : ℤ) → byCell s rs want cell step ≡ done v → Asked s rs want cell step v
-unfolding byCell
-by-cell-parts s rs want cell step v h =
-    let rest₂ : Outcome ℤ = first (stepsOutcome s step) (reading s rs want cell step) in
-    let rest₁ : Outcome ℤ = first (cellOutcome s cell) rest₂ in
-    let f = first-done (askedOutcome s rs want) rest₁ v h in
-    let g = first-done (cellOutcome s cell) rest₂ v (f .1) in
-    let k = first-done (stepsOutcome s step) (reading s rs want cell step) v (g .1) in
-    let a = asked-parts s rs want (f .0) in
-    let r = reading-parts s rs want cell step v (k .1) in
-    record { shape = a .0; wanted = a .1; cells = g .0; inside = k .0; corners = r .0; is = r .1 }
 
 -- and back, for a slice of the right length
 pub asked-passes : (s : Shape) (rs : List ℤ) (want : Want) → length rs ≡ size s → shapeOutcome s ≡ done tt → wantOutcome s want ≡ done tt → askedOutcome s rs want ≡ done tt
@@ -168,24 +156,6 @@ module _ (s : Shape) (rs : List ℤ) (want : Want) (cell : List ℕ) (step : Pla
   unfolding reading
   stopped o h = h (answer (askAt s want (placeAt cell) step) (recordsField s rs))
 
--- two slices of one length: the same outcome, if the readings are the same where the tests before are passed
-pub by-cell-same : (s : Shape) (rs qs : List ℤ) (want : Want) (cell step : Place) → length rs ≡ length qs
-    → (wantOutcome s want ≡ done tt → cellOutcome s cell ≡ done tt → reading s rs want cell step ≡ reading s qs want cell step) → byCell s rs want cell step ≡ byCell s qs want cell step
-unfolding byCell askedOutcome
-by-cell-same s rs qs want cell step l h =
-    ap (λ (n : ℕ). first (asks n) (rest rs)) l
-    ∙ first-after (asks (length qs)) (rest rs) (rest qs)
-    (λ a. first-after (cellOutcome s cell) (then rs) (then qs) (λ c. ap (λ (o : Outcome ℤ). first (stepsOutcome s step) o) (h (asked-parts s qs want a .1) c)))
-  where
-    asks : ℕ → Check
-    asks n = first (shapeOutcome s) (first (refuseUnless (eqb n (size s)) 4 0) (wantOutcome s want))
-
-    then : List ℤ → Outcome ℤ
-    then rs = first (stepsOutcome s step) (reading s rs want cell step)
-
-    rest : List ℤ → Outcome ℤ
-    rest rs = first (cellOutcome s cell) (then rs)
-
 -- ---- positions
 
 pub record AskedAt (s : Shape) (rs : List ℤ) (want : Want) (p : Position) (v : ℤ) : Type 0 where
@@ -194,23 +164,6 @@ pub record AskedAt (s : Shape) (rs : List ℤ) (want : Want) (p : Position) (v :
   pub within : firstOf 3 (positionOutcome s p) ≡ done tt
   pub corners : cornersOutcome s rs (positionCell s p) ≡ done tt
   pub is : answer (askAt s want (positionCell s p) (positionStep s p)) (recordsField s rs) ≡ v
-
-pub by-position-parts : (s : Shape) (rs : List ℤ) (want : Want) (p : Position) (v : ℤ) → byPosition s rs want p ≡ done v → AskedAt s rs want p v
-unfolding byPosition
-by-position-parts s rs want p v h =
-    let rest : Outcome ℤ = first (firstOf 3 (positionOutcome s p)) (reading s rs want (positionCell s p) (positionStep s p)) in
-    let f = first-done (askedOutcome s rs want) rest v h in
-    let g = first-done (firstOf 3 (positionOutcome s p)) (reading s rs want (positionCell s p) (positionStep s p)) v (f .1) in
-    let a = asked-parts s rs want (f .0) in
-    let r = reading-parts s rs want (positionCell s p) (positionStep s p) v (g .1) in
-    record { shape = a .0; wanted = a .1; within = g .0; corners = r .0; is = r .1 }
-
-pub by-position-passes : (s : Shape) (rs : List ℤ) (want : Want) (p : Position) → length rs ≡ size s → shapeOutcome s ≡ done tt → wantOutcome s want ≡ done tt → firstOf 3 (positionOutcome s p) ≡ done tt
-    → cornersOutcome s rs (positionCell s p) ≡ done tt → byPosition s rs want p ≡ done (answer (askAt s want (positionCell s p) (positionStep s p)) (recordsField s rs))
-unfolding byPosition
-by-position-passes s rs want p l h w c k =
-    first-passed (askedOutcome s rs want) (first (firstOf 3 (positionOutcome s p)) (reading s rs want (positionCell s p) (positionStep s p))) (asked-passes s rs want l h w)
-    ∙ first-passed (firstOf 3 (positionOutcome s p)) (reading s rs want (positionCell s p) (positionStep s p)) c ∙ reading-passes s rs want (positionCell s p) (positionStep s p) k
 
 module _ (s : Shape) (rs : List ℤ) (want : Want) (p : Position) where
   abbrev read : Outcome ℤ
@@ -272,22 +225,6 @@ at-place s rs want p cell step a w c u =
       record { asked = a; cells = rw c (position-cells s p f w); inside = rw u (position-steps s p f w) },
       rw (c, u) (sym (by-position-reads s rs want p a w)),
     )
-
-pub position-point : (s : Shape) (p : Position) → Shaped s → firstOf 3 (positionOutcome s p) ≡ done tt → (a : ℕ) → a < s .axes → pos (steps * positionCell s p a + positionStep s p a) ≡ p a
-unfolding positionStep positionCell
-position-point s p f h a l =
-    let r = position-range s p h a (within a (s .axes) l (f .axes-high)) in
-    ap pos (rejoin (steps * cellOf steps (count s a) (natAbs (p a))) (natAbs (p a)) (in-cell (count s a) (natAbs (p a)) (f .used a l) (r .1) .1)) ∙ whole (p a) (r .0)
-  where
-    within : (a n : ℕ) → a < n → n ≤ 3 → a < 3
-    within a n l h = omega arith
-
-    rejoin : (x y : ℕ) → x ≤ y → x + (y - x) ≡ y
-    rejoin x y h = omega arith
-
-    whole : (z : ℤ) → nonNeg z ≡ true → pos (natAbs z) ≡ z
-    whole (pos n) e = refl
-    whole (negsuc n) e = cc
 
 -- a query by position is the query by its cell and in-cell step, where the position is one of the table
 pub by-position-is : (s : Shape) (rs : List ℤ) (want : Want) (p : Position) → firstOf 3 (positionOutcome s p) ≡ done tt → byPosition s rs want p ≡ byCell s rs want (positionCell s p) (positionStep s p)

@@ -1,15 +1,14 @@
 -- Texts put one after the other are one text: words make a line. How long a line is.
 use mathlib.Core.Path.{_≡_, refl, sym, ap, _∙_}
 use mathlib.Core.List.{List, [], _∷_, _++_}
-use Prim.Native.Nat.{ℕ, _+_, _<_, _≤_}
+use Prim.Native.Nat.{ℕ, _+_}
 use native.Mathlib.Omega.{arith}
-use lib.IntN.{ℤ, natAbs}
+use lib.IntN.{ℤ}
 use lib.ListN.{length, getD, set, length-append}
 use lib.Seq.{sets}
 use Rattle.text.specs.Decimal.{decimal, signedDecimal}
 use Rattle.text.specs.Lines.{word, line, cellLine, refusedWord, refusedLine}
 use Rattle.lattice.proofs.BufferLaws.{sets-append}
-use Rattle.text.proofs.DecimalLaws.{decimal-short, signed-short}
 
 -- `old` with a text from `at` on is `now`, and the text ends at `end`
 pub record Put (old : List ℕ) (at : ℕ) (text now : List ℕ) (end : ℕ) : Type 0 where
@@ -60,24 +59,6 @@ module _ (cell : List ℕ) (cubic quintic : ℤ) where
   unfolding cellLine line
   cell-put p₀ p₁ p₂ p₃ p₄ = put-then p₀ (put-then p₁ (put-then p₂ (put-then p₃ p₄)))
 
-  -- two digits for each index, eight and a sign for each dose
-  pub cell-short : getD cell 0 0 < 100 → getD cell 1 0 < 100 → getD cell 2 0 < 100 → natAbs cubic < 100000000 → natAbs quintic < 100000000
-      → length (cellLine cell cubic quintic) ≤ 29
-  cell-short h₀ h₁ h₂ h₃ h₄ = omega (
-    arith,
-    cell-length,
-    length-word (decimal (getD cell 0 0)) 32,
-    length-word (decimal (getD cell 1 0)) 32,
-    length-word (decimal (getD cell 2 0)) 32,
-    length-word (signedDecimal cubic) 32,
-    length-word (signedDecimal quintic) 10,
-    decimal-short 1 (getD cell 0 0) h₀,
-    decimal-short 1 (getD cell 1 0) h₁,
-    decimal-short 1 (getD cell 2 0) h₂,
-    signed-short 7 cubic h₃,
-    signed-short 7 quintic h₄,
-  )
-
 -- ---- the line of a refusal
 
 module _ (number : ℕ) where
@@ -88,6 +69,3 @@ module _ (number : ℕ) where
   pub refused-put : {s₀ s₁ s₂ : List ℕ} {e₀ e₁ e₂ : ℕ} → Put s₀ e₀ (word refusedWord 32) s₁ e₁ → Put s₁ e₁ (word (decimal number) 10) s₂ e₂ → Put s₀ e₀ (refusedLine number) s₂ e₂
   unfolding refusedLine line
   refused-put p q = put-then p q
-
-  pub refused-short : number < 100 → length (refusedLine number) ≤ 11
-  refused-short h = omega (arith, refused-length, length-word (decimal number) 10, decimal-short 1 number h)
