@@ -70,7 +70,7 @@ module _ (n number : ℕ) (x y : ℕ → Bool) where
 
 -- ---- a cell and u
 
-cell-passes : (s : Shape) (cell : Place) → Accepted s cell → cellOutcome s cell ≡ done tt
+pub cell-passes : (s : Shape) (cell : Place) → Accepted s cell → cellOutcome s cell ≡ done tt
 unfolding cellOutcome indexOutcome
 cell-passes s cell h =
     sides-pass (s .axes) 14 (λ a. leb (cell a + 2) (count s a)) (λ a. eqb (cell a) 0) (λ a k. le-leb (cell a + 2) (count s a) (h .used a k)) (λ a k. eq-eqb (cell a) 0 (h .unused a k))

@@ -56,11 +56,11 @@ module _ (s : Shape) (xs : List ℤ) (room : ℕ) (e : Estimable s xs room) (cel
   inside : (p : Place) → InCorners (orders s) (s .axes) cell p → (a : ℕ) → a < s .axes → p a / orders s < count s a
   inside p x a l = let h = here .used a l in let k = at-node p x a l .1 in omega arith
 
-  field-same : (p : Place) → InCorners (orders s) (s .axes) cell p → recordsField s (recordsOf s xs) p ≡ tableRecords s xs p
+  pub field-same : (p : Place) → InCorners (orders s) (s .axes) cell p → recordsField s (recordsOf s xs) p ≡ tableRecords s xs p
   field-same p x =
       read-back s xs p (e .shape .axes-high) (in-table s (λ a. p a / orders s) (e .shape) (inside p x) (λ a l. ap (λ (k : ℕ). k / orders s) (x .unused a l) ∙ zero-div (orders s))) (x .unused)
 
-  corners-done : cornersOutcome s (recordsOf s xs) cell ≡ done tt
+  pub corners-done : cornersOutcome s (recordsOf s xs) cell ≡ done tt
   corners-done = corners-pass s (recordsOf s xs) cell (λ p x. le-trans (le-of-eq (ap natAbs (field-same p x))) (entry-limit s xs room e p)) (e .shape) here
 
   -- what a query reads there
