@@ -50,6 +50,7 @@ pub grids : (s : Shape) → Shaped s → Grids (gridOf s)
 unfolding gridOf
 grids s ok =
     record {
+      x-low = ok .used 0 (ok .axes-low);
       y-low = ok .low 1 (lit< tt);
       x-high = ok .high 0 (lit< tt);
       y-high = ok .high 1 (lit< tt);

@@ -4,7 +4,7 @@ use mathlib.Core.Path.{_≡_, refl, sym, ap, subst, _∙_, fun-ext}
 use mathlib.Core.Logic.{⊎-elim}
 use mathlib.Core.List.{List, [], _∷_}
 use Prim.Native.Nat.{ℕ, zero, suc, _+_, _*_, _/_, _%_, _^_, _≤_, _<_}
-use native.Mathlib.Nat.{add-comm, mul-assoc, mul-add-div, mul-add-mod-self-left, mul-add-mod-self-right, mul-add-div-right, mod-one, div-one, zero-mod, zero-div, mod-eq-of-lt, div-eq-of-lt, add-zero, eq-or-lt-of-le}
+use native.Mathlib.Nat.{add-comm, mul-add-mod-self-right, mul-add-div-right, mod-one, div-one, zero-mod, zero-div, mod-eq-of-lt, div-eq-of-lt, add-zero, eq-or-lt-of-le}
 use native.Mathlib.Decide.{decLt}
 use native.Mathlib.Omega.{arith}
 use lib.Dec.{ltb, lit<}
@@ -26,6 +26,7 @@ use Rattle.estimate.specs.declared.Grid.{Grid}
 use Rattle.estimate.specs.Estimate.{left, right, byOrder, estimate, records, tableRecords}
 use Rattle.estimate.specs.Passes.{passOf, ordersOn, gridOf, rowStart, rowZ, rowYZ, nodeOf, recordSize}
 use Rattle.estimate.proofs.EstimateLaws.{estimate-linear}
+use Rattle.estimate.proofs.PassesLaws.{group-of, member-of}
 
 -- ---- a single order
 
@@ -78,12 +79,6 @@ module _ (s : Shape) where
       linear a = estimate-linear (ordersOn s a) (count s a)
 
 -- ---- an entry by its node and its orders
-
-group-of : {a : ℕ} → 0 < a → (b x h : ℕ) → (a * b * x + h) / a ≡ b * x + h / a
-group-of {a} k b x h = rw (mul-assoc a b x) (mul-add-div k (b * x) h)
-
-member-of : (a b x h : ℕ) → (a * b * x + h) % a ≡ h % a
-member-of a b x h = rw (mul-assoc a b x) (mul-add-mod-self-left a (b * x) h)
 
 module _ (s : Shape) (xs : List ℤ) where
   sample : ℕ → ℕ → ℕ → ℤ

@@ -1,8 +1,9 @@
 -- One pass: its groups of orders, the machine's numbers that it reads, and the sizes of what it gives.
-use mathlib.Core.Path.{_≡_}
+use mathlib.Core.Path.{_≡_, refl, sym}
 use mathlib.Core.List.{List}
-use Prim.Native.Nat.{ℕ, zero, suc, _+_, _*_, _/_, _%_, _≤_, _<_}
-use native.Mathlib.Nat.{mul-le-mul, le-trans}
+use Prim.Native.Nat.{ℕ, zero, suc, _+_, _-_, _*_, _/_, _%_, _≤_, _<_}
+use native.Mathlib.Nat.{mul-le-mul, le-trans, mul-assoc, mul-add-div, mul-add-mod-self-left}
+use native.Mathlib.Numerals.{add-one}
 use native.Mathlib.Omega.{arith}
 use lib.Dec.{ltb}
 use lib.IntN.{ℤ, pos, _-ℤ_, _*ℤ_, natAbs}
@@ -10,9 +11,9 @@ use lib.ListN.{length}
 use mir.Syntax.{w32}
 use mir.Val.{toZ, ofZ}
 use mir.Facts.{toZ-ofZ}
-use borrow.Author.Tests.{ltb-true}
+use borrow.Author.Tests.{ltb-true, lt-ltb, le-ltb}
 use Rattle.arith.proofs.Abs.{abs-add, abs-minus, abs-mul, sfits-abs}
-use Rattle.arith.proofs.Choices.{on-pick}
+use Rattle.arith.proofs.Choices.{on-pick, pick-true, pick-false}
 use Rattle.lattice.specs.Buffer.{at}
 use Rattle.estimate.specs.declared.Grid.{Grid}
 use Rattle.estimate.specs.Estimate.{left, right, byOrder}
@@ -24,6 +25,23 @@ pub bits : (x : ℤ) → natAbs x ≤ passLimit → toZ w32 (ofZ w32 x) ≡ x
 bits x h = toZ-ofZ {w = w32} (sfits-abs x (omega arith))
 
 -- ---- neighbours
+
+pub low-is : (i : ℕ) → (i ≡ 0 → ⊥) → i - 1 ≡ left i
+unfolding left
+low-is zero h = absurd (h refl)
+low-is (suc i) h = omega arith
+
+pub low-none : (i : ℕ) → i ≡ 0 → i ≡ left i
+unfolding left
+low-none i e = rw e
+
+pub high-is : (count i : ℕ) → i + 1 < count → i + 1 ≡ right count i
+unfolding right
+high-is count i h = rw (add-one i) (sym (pick-true (ltb (suc i) count) (suc i) i (lt-ltb (suc i) count (omega arith))))
+
+pub high-none : (count i : ℕ) → count ≤ i + 1 → i ≡ right count i
+unfolding right
+high-none count i h = sym (pick-false (ltb (suc i) count) (suc i) i (le-ltb (suc i) count (omega arith)))
 
 pub left-below : (count i : ℕ) → i < count → left i < count
 unfolding left
@@ -39,6 +57,13 @@ right-below count i h = on-pick (λ k. k < count) (ltb (suc i) count) (suc i) i 
 pub pass-group : (m : ℕ) (l f r : ℕ → ℤ) (t o : ℕ) → o < m → byOrder o (l t) (f t) (r t) ≡ passOf m l f r (m * t + o)
 unfolding passOf
 pass-group m l f r t o h = rw (high-digit m t o h, low-digit m t o h)
+
+-- entry h of node x, where a node has b numbers of a orders each: its number, and its order
+pub group-of : {a : ℕ} → 0 < a → (b x h : ℕ) → (a * b * x + h) / a ≡ b * x + h / a
+group-of {a} k b x h = rw (mul-assoc a b x) (mul-add-div k (b * x) h)
+
+pub member-of : (a b x h : ℕ) → (a * b * x + h) % a ≡ h % a
+member-of a b x h = rw (mul-assoc a b x) (mul-add-mod-self-left a (b * x) h)
 
 -- what an order of numbers within B is within
 pub order-size : (o : ℕ) (l f r : ℤ) (B : ℕ) → natAbs l ≤ B → natAbs f ≤ B → natAbs r ≤ B → natAbs (byOrder o l f r) ≤ 4 * B

@@ -30,6 +30,10 @@ placed-more k n zero h g b e = rw (add-zero n)
 placed-more k n (suc l) h g b e =
     rw (placed-more k n l h g b (λ t i. e t (omega arith)), e l (omega arith), add-suc n l, add-assoc k n l)
 
+-- the same where lists and places have names
+pub placed-next : (k n l p : ℕ) (h g : ℕ → ℤ) (b out next : List ℤ) → p ≡ k + n → out ≡ placed k n h b → next ≡ placed p l g out → ((t : ℕ) → t < l → g t ≡ h (n + t)) → next ≡ placed k (n + l) h b
+placed-next k n l p h g b out next at-p inv e same = e ∙ rw (at-p, inv) (placed-more k n l h g b same)
+
 pub placed-at : (k n : ℕ) (h : ℕ → ℤ) (b : List ℤ) (t : ℕ) → t < n → k + n ≤ length b → at (placed k n h b) (k + t) ≡ h t
 unfolding placed
 placed-at k zero h b t i l = absurd (omega arith)
@@ -72,7 +76,7 @@ module _ (k m t : ℕ) (h : ℕ → ℤ) (b out : List ℤ) (p : ℕ) (at-p : p 
 
   pub stored-more : (g : ℕ → ℤ) (next : List ℤ) → next ≡ placed p m g out → ((o : ℕ) → o < m → g o ≡ h (m * t + o)) → next ≡ placed k (m * (t + 1)) h b
   stored-more g next e same =
-      e ∙ rw (at-p, inv) (placed-more k (m * t) m h g b same ∙ ap (λ (n : ℕ). placed k n h b) (turn m t))
+      placed-next k (m * t) m p h g b out next at-p inv e same ∙ ap (λ (n : ℕ). placed k n h b) (turn m t)
     where
       turn : (m t : ℕ) → m * t + m ≡ m * (t + 1)
       turn m t = omega arith

@@ -86,6 +86,7 @@ pub record Read (xs : List ℤ) (low count : ℕ) : Type 0 where
 
 -- the ranges of a grid
 pub record Grids (g : Grid) : Type 0 where
+  pub x-low : 2 ≤ g .cx
   pub y-low : 1 ≤ g .cy
   pub x-high : g .cx ≤ 64
   pub y-high : g .cy ≤ 64

@@ -161,18 +161,14 @@ fn fill_row(g: Grid, row: &[i32], out: &mut [i32], k: usize)
     ensures { λ _. ⌜ now (out .exit) ≡ placed k (rowSize g) (rowOf g (at (now (row .entry)))) (now (out .entry)) ⌝ }
 {
     let size = g.my * g.mz;
-    let step = g.mx * size;
-    let mut x: usize = 0;
-    let mut p = k;
-    while x < g.cx {
-        let n = neighbours_of(g.cx, x);
-        let low = size * n.low;
-        let mid = size * x;
-        let high = size * n.high;
-        pass(g.mx, row, low, mid, high, size, out, p);
-        p += step;
-        x += 1;
-    }
+    let inner = size * (g.cx - 2);
+    let last = inner + size;
+    let p = k + g.mx * size;
+    let q = p + g.mx * inner;
+    // The first node's lower neighbour and the last one's upper neighbour are the nodes themselves.
+    pass(g.mx, row, 0, 0, size, size, out, k);
+    pass(g.mx, row, 0, size, 2 * size, inner, out, p);
+    pass(g.mx, row, inner, last, last, size, out, q)
 }
 
 // The records of all rows; y, z and p follow the row's number r. What lies behind the records stays.

@@ -2,18 +2,19 @@
 -- the answer of the definition.
 use mathlib.Core.Path.{_≡_, refl, sym, ap, ap₂, subst, _∙_, fun-ext}
 use mathlib.Core.List.{List, [], _∷_}
-use Prim.Native.Nat.{ℕ, suc, _+_, _*_, _-_, _%_, _^_, _≤_, _<_}
-use native.Mathlib.Nat.{le-trans, le-of-eq, mul-le-mul-left, mod-eq-of-lt, add-mod-left, le-of-mul-le-mul-left, pow-zero}
+use Prim.Native.Nat.{ℕ, zero, suc, _+_, _*_, _-_, _%_, _^_, _≤_, _<_}
+use native.Mathlib.Nat.{le-trans, le-of-eq, mul-le-mul-left, mod-eq-of-lt, add-mod-left, le-of-mul-le-mul-left}
 use native.Mathlib.Omega.{arith}
 use native.Mathlib.Decide.{decLt}
-use lib.Dec.{lit≤}
+use lib.Dec.{ltb, lit≤}
 use lib.ListN.{length, getD}
 use lib.Pow.{pow-mono}
 use lib.IntN.{ℤ, pos, _*ℤ_, natAbs}
 use Rattle.arith.specs.Choice.{pick}
 use Rattle.arith.specs.Int.{roundHalfUp}
 use Rattle.arith.proofs.Abs.{abs-mul}
-use Rattle.arith.proofs.Choices.{by-m}
+use Rattle.arith.proofs.Choices.{pick-true, by-m}
+use borrow.Author.Tests.{lt-ltb}
 use Rattle.arith.proofs.Round.{half-up-nearly}
 use Rattle.lattice.specs.declared.Shape.{Shape}
 use Rattle.lattice.specs.Buffer.{at}
@@ -21,7 +22,7 @@ use Rattle.lattice.specs.Shape.{orders, Shaped}
 use Rattle.lattice.specs.Axes.{Place, put, axes, without}
 use Rattle.lattice.specs.Records.{totalOrder, entryLimit, entryIndex, recordsField}
 use Rattle.lattice.proofs.Along.{Each, Fresh, Distinct}
-use Rattle.lattice.proofs.ShapeLaws.{orders-range, pow-one, pow-two}
+use Rattle.lattice.proofs.ShapeLaws.{orders-range}
 use Rattle.hermite.specs.Hermite.{kindOf, Kind, value, divisor}
 use Rattle.hermite.specs.Stage.{steps, worth}
 use Rattle.hermite.proofs.StageLaws.{stage-fits}
@@ -30,7 +31,7 @@ use Rattle.cell.proofs.CellLaws.{Numbers, placed, entry-at, entry-below}
 use Rattle.cell.proofs.CornerLaws.{corners-within}
 use Rattle.evaluate.specs.declared.Axis.{Axis}
 use Rattle.evaluate.specs.Evaluate.{Want, Ask, askAt, kindOn, lastAxis, before, answer}
-use Rattle.evaluate.specs.Stages.{after, numbersAt, Prepared, AllPrepared, Safe, Made, later, AllMade, AllSteps, Workable, WorkedOff, Ready}
+use Rattle.evaluate.specs.Stages.{after, numbersAt, also, stridesOf, Prepared, AllPrepared, Safe, Made, later, AllMade, AllSteps, Workable, WorkedOff, Ready}
 use Rattle.evaluate.proofs.EndLaws.{offset-low, offset-high, number-at}
 use Rattle.evaluate.proofs.Sizes.{noughts, orders-left, cap, Plain, reads-size, plain-before, answer-small}
 use Rattle.evaluate.proofs.ByIndex.{Holds, offset-is, counts, AllHeld, Left, index, index-put, placed-put, left-put, got, after-is, index-base, nought, fresh-before, distinct-before, answer-is}
@@ -317,29 +318,22 @@ module _ (s : Shape) (rs : List ℤ) (cell step : Place) (want : Want) (l : Layo
     pub answer-in : (r : ℤ) → WorkedOff (l .orders) slope b vs (at rs) (l .base) r → r ≡ answer (askAt s want cell step) (recordsField s rs)
     answer-in = worked-answer slope (kind (s .axes)) b vs last-in are-in
 
--- the three axes of a layout
+-- the axes of a layout
 module _ (s : Shape) (cell : Place) (xs : List ℕ) (l : Layout) (laid : Laid s cell l) where
-  pub is-x : IsAxis s (placeAt xs) 0 (record { step = getD xs 0 0; far = getD (l .far) 0 0; near = 1 })
-  unfolding placeAt pick near
-  is-x = record { step-is = refl; far-is = laid .far-x; near-is = sym (pow-zero (orders s)) }
+  pub is-axis : (a : ℕ) → a < 3 → IsAxis s (placeAt xs) a (stridesOf (getD xs a 0) (getD (l .far) a 0) (l .orders ^ a))
+  unfolding placeAt near
+  is-axis a h = record { step-is = sym (pick-true (ltb a 3) (getD xs a 0) 0 (lt-ltb a 3 h)); far-is = strides a h; near-is = ap (λ (m : ℕ). m ^ a) (laid .orders-are) }
+    where
+      strides : (a : ℕ) → a < 3 → getD (l .far) a 0 ≡ far s a
+      strides zero h = laid .far-x
+      strides (suc zero) h = laid .far-y
+      strides (suc (suc zero)) h = laid .far-z
+      strides (suc (suc (suc a))) h = absurd (none a h)
+        where
+          none : (a : ℕ) → suc (suc (suc a)) < 3 → ⊥
+          none a h = omega arith
 
-  pub is-y : IsAxis s (placeAt xs) 1 (record { step = getD xs 1 0; far = getD (l .far) 1 0; near = l .orders })
-  unfolding placeAt pick near
-  is-y = record { step-is = refl; far-is = laid .far-y; near-is = laid .orders-are ∙ sym (pow-one (orders s)) }
-
-  pub is-z : IsAxis s (placeAt xs) 2 (record { step = getD xs 2 0; far = getD (l .far) 2 0; near = l .orders * l .orders })
-  unfolding placeAt pick near
-  is-z = record { step-is = refl; far-is = laid .far-z; near-is = ap (λ (m : ℕ). m * m) (laid .orders-are) ∙ sym (pow-two (orders s)) }
-
--- the last of n axes
-pub last-of-one : (n a : ℕ) → n ≡ 1 → a < n → a ≡ 0
-last-of-one n a e l = omega arith
-
-pub last-of-two : (n a : ℕ) → n ≡ 2 → a < n → (a ≡ 0 → ⊥) → a ≡ 1
-last-of-two n a e l k = omega arith
-
-pub last-of-three : (n a : ℕ) → n ≤ 3 → a < n → (a ≡ 0 → ⊥) → (a ≡ 1 → ⊥) → a ≡ 2
-last-of-three n a e l k h = omega arith
-
-pub three-axes : (n : ℕ) → 1 ≤ n → n ≤ 3 → (n ≡ 1 → ⊥) → (n ≡ 2 → ⊥) → n ≡ 3
-three-axes n h k a b = omega arith
+-- two axes, and a third between them where there is one
+pub are-axes : (s : Shape) (step : Place) (three : Bool) (i j : ℕ) (a b : Strides) → IsAxis s step i a → IsAxis s step j b → AreAxes s step (also three j (i ∷ [])) (also three b (a ∷ []))
+are-axes s step true i j a b h k = (k, (h, tt))
+are-axes s step false i j a b h k = (h, tt)

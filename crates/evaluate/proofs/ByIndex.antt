@@ -29,7 +29,7 @@ use Rattle.cell.specs.Cell.{Accepted, base, far, near, offset}
 use Rattle.cell.proofs.CellLaws.{Numbers, placed, entry-at}
 use Rattle.evaluate.specs.declared.Axis.{Axis}
 use Rattle.evaluate.specs.Evaluate.{Want, Ask, kindOn, lastAxis, stageOn, divisorOn, toEighth, toUnit, inEighths, before, answerBy, answer, askAt}
-use Rattle.evaluate.specs.Stages.{offsetOf, worked, after}
+use Rattle.evaluate.specs.Stages.{offsetBy, offsetOf, worked, after}
 use Rattle.evaluate.proofs.AnswerLaws.{answer-anywhere}
 use Rattle.evaluate.proofs.EndLaws.{stage-of}
 
@@ -46,7 +46,7 @@ pub record Holds (s : Shape) (want : Want) (step : Place) (from to a : ℕ) (x :
 
 module _ {s : Shape} {want : Want} {step : Place} {from to a : ℕ} {x : Axis} (h : Holds s want step from to a x) where
   pub offset-is : (t : ℕ) → offsetOf (orders s) x t ≡ offset s a t
-  unfolding offsetOf offset
+  unfolding offsetBy offset
   offset-is t = ap₂ (λ (f n : ℕ). t / orders s * f + t % orders s * n) (h .far-is) (h .near-is)
 
   -- the definition's stage of numbers X, which count `from` eighths each

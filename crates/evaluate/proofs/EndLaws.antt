@@ -20,7 +20,7 @@ use Rattle.hermite.specs.Stage.{steps, Folds, bothEnds, load}
 use Rattle.hermite.proofs.HermiteLaws.{stage-linear}
 use Rattle.hermite.proofs.StageLaws.{ends-low, ends-high}
 use Rattle.evaluate.specs.declared.Axis.{Axis}
-use Rattle.evaluate.specs.Stages.{offsetOf, worked, after, numbersAt, Prepared, Safe}
+use Rattle.evaluate.specs.Stages.{offsetBy, offsetOf, worked, after, numbersAt, Prepared, Safe}
 
 -- ---- a stage of the 2m numbers y, wherever they stand
 
@@ -36,11 +36,11 @@ stage-of k m N c u x y j h =
 
 module _ (m : ℕ) (x : Axis) (o : ℕ) (l : o < m) where
   pub offset-low : offsetOf m x o ≡ o * x .near
-  unfolding offsetOf
+  unfolding offsetBy
   offset-low = rw (div-eq-of-lt l, mod-eq-of-lt l) (omega arith)
 
   pub offset-high : offsetOf m x (m + o) ≡ x .far + o * x .near
-  unfolding offsetOf
+  unfolding offsetBy
   offset-high = ap₂ (λ (d r : ℕ). d * x .far + r * x .near) (above m o l) (add-mod-left m o ∙ mod-eq-of-lt l) ∙ omega arith
     where
       above : (m o : ℕ) → o < m → (m + o) / m ≡ 1

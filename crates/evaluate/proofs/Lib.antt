@@ -3,4 +3,5 @@ pub mod EndLaws
 pub mod Sizes
 pub mod ByIndex
 pub mod Filling
+pub mod Order
 pub mod Answering

@@ -3,7 +3,7 @@ use mathlib.Core.Path.{_≡_}
 use mathlib.Core.Bool.{Bool, true, false}
 use Prim.Native.Nat.{ℕ, _+_, _*_, _/_, _%_, _-_, _^_, _≤_, _<_}
 use mathlib.Core.List.{List, [], _∷_}
-use lib.Dec.{ltb}
+use lib.Dec.{ltb, eqb}
 use lib.IntN.{ℤ, pos}
 use lib.ListN.{length}
 use Rattle.arith.specs.Int.{roundHalfUp}
@@ -20,9 +20,12 @@ use Rattle.evaluate.specs.declared.Axis.{Axis}
 use Rattle.evaluate.specs.declared.Strides.{Strides}
 use Rattle.evaluate.specs.Evaluate.{Want, lastAxis}
 
--- number t = m·end + order along an axis, from the low end's value
-unfoldable pub offsetOf : ℕ → Axis → ℕ → ℕ
-offsetOf m x t = t / m * x .far + t % m * x .near
+-- number t = m·end + order along an axis of these strides, from the low end's value
+unfoldable pub offsetBy : ℕ → ℕ → ℕ → ℕ → ℕ
+offsetBy m near far t = t / m * far + t % m * near
+
+abbrev pub offsetOf : ℕ → Axis → ℕ → ℕ
+offsetOf m x = offsetBy m (x .near) (x .far)
 
 -- the number that the stage of axis x makes of the numbers g from index p on
 unfoldable pub worked : ℕ → Axis → (ℕ → ℤ) → ℕ → ℤ
@@ -52,6 +55,22 @@ Safe m n [] g p = p < n
 Safe m n (x ∷ xs) g p =
     ((t : ℕ) → t < 2 * m → Safe m n xs g (p + offsetOf m x t))
     × (load (x .basis) (numbersAt m (after m xs g) p (x .near)) (numbersAt m (after m xs g) (p + x .far) (x .near)) ≤ 2 ^ 63 - 2 ^ 45)
+
+-- the last of three stages takes the numbers of both its ends, the last of two is done with one
+unfoldable pub endsOf : ℕ → Bool → ℕ
+endsOf m three = pick three (2 * m) 1
+
+-- a list with one more in front where there is one
+abbrev pub also : {A : Type 0} → Bool → A → List A → List A
+also true x xs = x ∷ xs
+also false x xs = xs
+
+-- the axis that is worked off first of two or three, and the second of three
+unfoldable pub firstAxis : ℕ → ℕ
+firstAxis last = pick (eqb last 0) 1 0
+
+unfoldable pub middleAxis : ℕ → ℕ
+middleAxis last = pick (eqb last 2) 1 2
 
 -- the step and the strides of an axis
 abbrev pub stridesOf : ℕ → ℕ → ℕ → Strides

@@ -55,7 +55,7 @@ module _ (s : Shape) (ok : Shaped s) (x : ℕ → Float) where
   last-low a l = let h = ok .high a l in omega arith
 
   -- the held step passes the test of 11 where the step does
-  pub held-same : (a : ℕ) → a < 3 → (f : FloatStep) → Holds f (x a) → heldOutcome s f a ≡ floatOutcome s x a
+  pub held-same : (a : ℕ) → a < 3 → (f : FloatStep) → Holds f (x a) → heldOutcome (count s a) f a ≡ floatOutcome s x a
   unfolding heldOutcome floatOutcome positionOutcome
   held-same a l f h =
       ap₂ (λ (b : Bool) (z : ℤ). first (refuseUnless b 10 a) (refuseUnless (within z (last a)) 11 a)) (h .finite-is) (h .step-is)
@@ -64,10 +64,10 @@ module _ (s : Shape) (ok : Shaped s) (x : ℕ → Float) where
 
   -- three tests, axis by axis
   pub three-held : (f g h : FloatStep) → Holds f (x 0) → Holds g (x 1) → Holds h (x 2)
-      → first (first (heldOutcome s f 0) (heldOutcome s g 1)) (heldOutcome s h 2) ≡ firstOf 3 (floatOutcome s x)
+      → first (first (heldOutcome (count s 0) f 0) (heldOutcome (count s 1) g 1)) (heldOutcome (count s 2) h 2) ≡ firstOf 3 (floatOutcome s x)
   unfolding firstOf
   three-held f g h i j k =
-      ap₂ (λ (o p : Check). first (first o p) (heldOutcome s h 2)) (held-same 0 (lit< tt) f i) (held-same 1 (lit< tt) g j)
+      ap₂ (λ (o p : Check). first (first o p) (heldOutcome (count s 2) h 2)) (held-same 0 (lit< tt) f i) (held-same 1 (lit< tt) g j)
       ∙ ap (λ (o : Check). first (first (floatOutcome s x 0) (floatOutcome s x 1)) o) (held-same 2 (lit< tt) h k)
 
 -- ---- floats that pass

@@ -12,7 +12,7 @@ use Rattle.hermite.specs.Stage.{steps}
 use Rattle.floats.specs.declared.FloatStep.{FloatStep}
 use Rattle.floats.specs.Step.{step}
 use Rattle.evaluate.specs.Evaluate.{Want}
-use Rattle.query.specs.Queries.{Position, askedOutcome, positionOutcome, positionCell, positionStep, reading}
+use Rattle.query.specs.Queries.{Position, askedOutcome, coordinateOutcome, positionOutcome, positionCell, positionStep, reading}
 use Rattle.float_query.specs.declared.FloatPosition.{FloatPosition}
 
 -- the float on each axis
@@ -36,5 +36,5 @@ byFloat s rs want x =
     (first (firstOf 3 (floatOutcome s x)) (reading s rs want (positionCell s (stepsOf x)) (positionStep s (stepsOf x))))
 
 -- 10 and 11 of a float whose step is held in 32 bits
-unfoldable pub heldOutcome : Shape → FloatStep → ℕ → Check
-heldOutcome s f a = first (refuseUnless (f .finite) 10 a) (positionOutcome s (λ b. f .step) a)
+unfoldable pub heldOutcome : ℕ → FloatStep → ℕ → Check
+heldOutcome count f a = first (refuseUnless (f .finite) 10 a) (coordinateOutcome count (f .step) a)

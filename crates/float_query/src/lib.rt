@@ -1,10 +1,10 @@
 // Doses and slopes by three float positions, as floats.
 ghost use mathlib.Core.Path.{_≡_};
-ghost use Prim.Native.Nat.{_<_, _^_};
+ghost use Prim.Native.Nat.{_<_, _≤_, _^_};
 ghost use lib.IntN.{ℤ, natAbs};
 ghost use Rattle.lattice.specs.Outcome.{done, first};
 ghost use Rattle.lattice.specs.Answer.{meaning};
-ghost use Rattle.lattice.specs.Shape.{Shaped};
+ghost use Rattle.lattice.specs.Shape.{count, Shaped};
 ghost use Rattle.evaluate.specs.Wants.{wanted};
 ghost use Rattle.query.specs.Answers.{told};
 ghost use Rattle.float_query.specs.Floats.{floatsAt, byFloat, heldOutcome};
@@ -31,23 +31,23 @@ pub enum FloatReading {
 }
 
 // Refusals 10 and 11 of a float on one axis.
-fn check_float(s: Shape, f: FloatStep, axis: u32) -> Answer
-    requires { ⌜ Shaped s × (axis < 3) ⌝ }
-    ensures { λ r. ⌜ meaning r ≡ heldOutcome s f axis ⌝ }
+fn check_float(count: u32, f: FloatStep, axis: u32) -> Answer
+    requires { ⌜ (1 ≤ count) × (count ≤ 64) ⌝ }
+    ensures { λ r. ⌜ meaning r ≡ heldOutcome count f axis ⌝ }
 {
     let a = axis as usize;
     let finite = lattice::refuse_unless(f.finite, 10, a);
-    lattice::earlier(finite, query::check_coordinate(s, f.step, axis))
+    lattice::earlier(finite, query::check_coordinate(count, f.step, axis))
 }
 
 // Refusals 10 and 11 of three floats, axis by axis.
 fn check_floats(s: Shape, x: FloatStep, y: FloatStep, z: FloatStep) -> Answer
     requires { ⌜ Shaped s ⌝ }
-    ensures { λ r. ⌜ meaning r ≡ first (first (heldOutcome s x 0) (heldOutcome s y 1)) (heldOutcome s z 2) ⌝ }
+    ensures { λ r. ⌜ meaning r ≡ first (first (heldOutcome (count s 0) x 0) (heldOutcome (count s 1) y 1)) (heldOutcome (count s 2) z 2) ⌝ }
 {
-    let on_x = check_float(s, x, 0);
-    let on_y = check_float(s, y, 1);
-    let on_z = check_float(s, z, 2);
+    let on_x = check_float(s.counts[0], x, 0);
+    let on_y = check_float(s.counts[1], y, 1);
+    let on_z = check_float(s.counts[2], z, 2);
     lattice::earlier(lattice::earlier(on_x, on_y), on_z)
 }
 

@@ -1,5 +1,6 @@
 // The table's shape, the refusals, and what every call tests first.
 ghost use mathlib.Core.Path.{_≡_};
+ghost use mathlib.Core.List.{[], _∷_};
 ghost use Prim.Native.Nat.{_<_, _≤_};
 ghost use lib.ListN.{getD};
 ghost use Rattle.lattice.specs.Outcome.{refuseUnless, first};
@@ -81,20 +82,20 @@ fn check_count(n: u32, count: u32, axis: u32) -> Answer
     }
 }
 
-pub fn check_counts(n: u32, counts: [u32; 3]) -> Answer
-    ensures { λ r. ⌜ meaning r ≡ countsOutcome n (λ a. getD counts a 0) ⌝ }
+// Refusal 3.
+pub fn check_counts(n: u32, x: u32, y: u32, z: u32) -> Answer
+    ensures { λ r. ⌜ meaning r ≡ countsOutcome n (λ a. getD (x ∷ y ∷ z ∷ []) a 0) ⌝ }
 {
-    let x = check_count(n, counts[0], 0);
-    let y = check_count(n, counts[1], 1);
-    let z = check_count(n, counts[2], 2);
-    earlier(earlier(x, y), z)
+    let on_x = check_count(n, x, 0);
+    let on_y = check_count(n, y, 1);
+    let on_z = check_count(n, z, 2);
+    earlier(earlier(on_x, on_y), on_z)
 }
 
 pub fn check_shape(s: Shape) -> Answer
     ensures { λ r. ⌜ meaning r ≡ shapeOutcome s ⌝ }
 {
-    let counts = s.counts;
-    let last = check_counts(s.axes, counts);
+    let last = check_counts(s.axes, s.counts[0], s.counts[1], s.counts[2]);
     earlier(check_axes(s.axes), earlier(check_degree(s.degree), last))
 }
 

@@ -18,7 +18,7 @@ use Rattle.lattice.specs.Shape.{count}
 use Rattle.lattice.specs.Axes.{Place}
 use Rattle.hermite.specs.Stage.{steps}
 use Rattle.cell.specs.Cell.{placeAt}
-use Rattle.query.specs.Queries.{positionAt, positionOutcome, cellOf, positionCell, positionStep}
+use Rattle.query.specs.Queries.{positionAt, coordinateOutcome, positionOutcome, cellOf, positionCell, positionStep}
 
 -- ---- one axis
 
@@ -83,14 +83,14 @@ module _ (s : Shape) (p : List ℤ) where
   no-step a l = let h = position-beyond a l in omega arith
 
   -- the three tests of a position
-  pub together : (x y z xy all : Check) (u v w : ℤ) → all ≡ first xy z → xy ≡ first x y → x ≡ positionOutcome s (λ a. u) 0 → y ≡ positionOutcome s (λ a. v) 1 → z ≡ positionOutcome s (λ a. w) 2
+  pub together : (x y z xy all : Check) (u v w : ℤ) → all ≡ first xy z → xy ≡ first x y → x ≡ coordinateOutcome (count s 0) u 0 → y ≡ coordinateOutcome (count s 1) v 1 → z ≡ coordinateOutcome (count s 2) w 2
       → u ≡ at p 0 → v ≡ at p 1 → w ≡ at p 2 → all ≡ firstOf 3 (positionOutcome s (positionAt p))
   unfolding positionOutcome positionAt firstOf pick
   together x y z xy all u v w f g h i j k l m =
       f ∙ ap (λ (o : Check). first o z) g
-      ∙ ap (λ (o : Check). first (first o y) z) (h ∙ ap (λ (q : ℤ). positionOutcome s (λ a. q) 0) k)
-      ∙ ap (λ (o : Check). first (first (positionOutcome s (λ a. at p 0) 0) o) z) (i ∙ ap (λ (q : ℤ). positionOutcome s (λ a. q) 1) l)
-      ∙ ap (λ (o : Check). first (first (positionOutcome s (λ a. at p 0) 0) (positionOutcome s (λ a. at p 1) 1)) o) (j ∙ ap (λ (q : ℤ). positionOutcome s (λ a. q) 2) m)
+      ∙ ap (λ (o : Check). first (first o y) z) (h ∙ ap (λ (q : ℤ). coordinateOutcome (count s 0) q 0) k)
+      ∙ ap (λ (o : Check). first (first (coordinateOutcome (count s 0) (at p 0) 0) o) z) (i ∙ ap (λ (q : ℤ). coordinateOutcome (count s 1) q 1) l)
+      ∙ ap (λ (o : Check). first (first (coordinateOutcome (count s 0) (at p 0) 0) (coordinateOutcome (count s 1) (at p 1) 1)) o) (j ∙ ap (λ (q : ℤ). coordinateOutcome (count s 2) q 2) m)
 
   -- the in-cell step of a position whose cell is known
   module _ (cell : List ℕ) (is : placeAt cell ≡ positionCell s (positionAt p)) (a : ℕ) (l : a < 3) where

@@ -52,9 +52,13 @@ Position = ℕ → ℤ
 unfoldable pub positionAt : List ℤ → Position
 positionAt xs a = pick (ltb a 3) (at xs a) (pos 0)
 
--- 11: below 0 or beyond the last node, or not 0 on an unused axis (whose count is 1); place is the axis
+-- 11: below 0 or beyond the last of `count` nodes; place is the axis
+abbrev pub coordinateOutcome : ℕ → ℤ → ℕ → Check
+coordinateOutcome count p a = refuseUnless (nonNeg p && leb (natAbs p) (steps * (count - 1))) 11 a
+
+-- on an unused axis the count is 1, and every position but 0 is refused
 unfoldable pub positionOutcome : Shape → Position → ℕ → Check
-positionOutcome s p a = refuseUnless (nonNeg (p a) && leb (natAbs (p a)) (steps * (count s a - 1))) 11 a
+positionOutcome s p a = coordinateOutcome (count s a) (p a) a
 
 -- the smaller of p/256 rounded down and count − 2; the last node belongs to the last cell
 unfoldable pub cellOf : ℕ → ℕ → ℕ → ℕ

@@ -1,7 +1,7 @@
 // Doses and slopes by cell and in-cell step, and by table position.
 ghost use mathlib.Core.Path.{_≡_};
 ghost use mathlib.Core.Bool.{false};
-ghost use Prim.Native.Nat.{_<_};
+ghost use Prim.Native.Nat.{_<_, _≤_};
 ghost use mathlib.Core.List.{List};
 ghost use lib.Dec.{leb, ltb, eqb};
 ghost use lib.IntN.{ℤ, natAbs};
@@ -14,7 +14,7 @@ ghost use Rattle.hermite.specs.Stage.{steps};
 ghost use Rattle.cell.specs.Cell.{placeAt, cellOutcome, cornersOutcome, Accepted, Laid};
 ghost use Rattle.evaluate.specs.Wants.{wanted};
 ghost use Rattle.query.specs.Answers.{told};
-ghost use Rattle.query.specs.Queries.{wantOutcome, askedOutcome, reading, stepsOutcome, byCell, positionAt, positionOutcome, cellOf, positionCell, positionStep, byPosition};
+ghost use Rattle.query.specs.Queries.{wantOutcome, askedOutcome, reading, stepsOutcome, byCell, positionAt, coordinateOutcome, positionOutcome, cellOf, positionCell, positionStep, byPosition};
 use cell::Layout;
 use evaluate::SlopeAxis;
 use lattice::Answer;
@@ -89,12 +89,11 @@ fn distance(p: i32) -> u32
 }
 
 // Refusal 11 of a position on one axis.
-pub fn check_coordinate(s: Shape, p: i32, axis: u32) -> Answer
-    requires { ⌜ Shaped s × (axis < 3) ⌝ }
-    ensures { λ r. ⌜ meaning r ≡ positionOutcome s (λ a. p) axis ⌝ }
+pub fn check_coordinate(count: u32, p: i32, axis: u32) -> Answer
+    requires { ⌜ (1 ≤ count) × (count ≤ 64) ⌝ }
+    ensures { λ r. ⌜ meaning r ≡ coordinateOutcome count p axis ⌝ }
 {
     let a = axis as usize;
-    let count = s.counts[a];
     if p < 0 {
         return lattice::refuse_unless(false, 11, a);
     }
@@ -106,9 +105,9 @@ fn check_position(s: Shape, p: [i32; 3]) -> Answer
     requires { ⌜ Shaped s ⌝ }
     ensures { λ r. ⌜ meaning r ≡ firstOf 3 (positionOutcome s (positionAt p)) ⌝ }
 {
-    let x = check_coordinate(s, p[0], 0);
-    let y = check_coordinate(s, p[1], 1);
-    let z = check_coordinate(s, p[2], 2);
+    let x = check_coordinate(s.counts[0], p[0], 0);
+    let y = check_coordinate(s.counts[1], p[1], 1);
+    let z = check_coordinate(s.counts[2], p[2], 2);
     lattice::earlier(lattice::earlier(x, y), z)
 }
 

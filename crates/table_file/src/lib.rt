@@ -321,7 +321,7 @@ fn check_write(axes: u32, counts: [u32; 3], samples: &[i32], room: usize) -> Ans
 {
     let shape = lattice::earlier(
         lattice::check_axes(axes),
-        lattice::check_counts(axes, counts),
+        lattice::check_counts(axes, counts[0], counts[1], counts[2]),
     );
     match shape {
         Answer::Refused(r) => Answer::Refused(r),

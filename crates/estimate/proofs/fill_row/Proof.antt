@@ -1,18 +1,19 @@
--- `estimate::fill_row` meets its contract. The loop's invariant: the records of the nodes before x are written.
+-- `estimate::fill_row` meets its contract: the first node, the nodes between and the last node, one behind the other.
 use mathlib.Core.List.{List}
-use mathlib.Core.Path.{_≡_, subst}
-use Prim.Native.Nat.{ℕ, _≤_, _<_, _+_, _-_, _*_}
-use native.Mathlib.Nat.{mul-le-mul, zero-add}
+use mathlib.Core.Path.{_≡_, refl, sym, ap, subst, _∙_}
+use Prim.Native.Nat.{ℕ, _≤_, _<_, _+_, _-_, _*_, _/_, _%_}
+use native.Mathlib.Nat.{mul-le-mul, zero-add, mod-lt, div-add-mod}
 use native.Mathlib.Omega.{arith}
 use lib.IntN.{ℤ, natAbs}
-use denote.Ref.{now}
+use borrow.Author.Needs.{needs}
 use Rattle.lattice.specs.Buffer.{at}
 use Rattle.estimate.specs.declared.Grid.{Grid}
 use Rattle.estimate.specs.Estimate.{left, right}
-use Rattle.estimate.specs.Passes.{passLimit, placed, since, passOf, nodeOf, recordSize, rowOf, Read, Grids}
-use Rattle.lattice.proofs.DigitsLaws.{group-room, high-digit, low-digit}
-use Rattle.estimate.proofs.PlacedLaws.{stored-none, stored-length, stored-room, stored-more}
-use Rattle.estimate.proofs.PassesLaws.{left-below, right-below, column-high, record-high}
+use Rattle.estimate.specs.Passes.{passLimit, placed, since, passOf, nodeOf, recordSize, rowSize, rowOf, Read, Grids}
+use Rattle.lattice.proofs.DigitsLaws.{high-below, high-digit, low-digit}
+use Rattle.estimate.proofs.PlacedLaws.{placed-same, placed-next}
+use Rattle.estimate.proofs.PassesLaws.{low-is, low-none, high-is, high-none, group-of, member-of, column-high, record-high, row-high}
+use Rattle.estimate.proofs.RowsLaws.{record-some}
 use Rattle.estimate.proofs.fill_row.Statement.{statement}
 use Rattle.estimate.proofs.fill_row.Tie as tie
 
@@ -20,127 +21,177 @@ module _ (g : Grid) (ok : Grids g) where
   abbrev size : ℕ
   size = g .my * g .mz
 
-  place-high : (x : ℕ) → x < g .cx → size * x ≤ 576
-  place-high x l = let h = ok .x-high in let k : x ≤ 64 = omega arith in mul-le-mul (column-high g ok) k
+  abbrev step : ℕ
+  step = recordSize g
 
-  -- the numbers of one node
-  node-read : (row : List ℤ) → Read row 0 (size * g .cx) → (x : ℕ) → x < g .cx → Read row (size * x) size
-  node-read row r x l =
-      let h = group-room size x (g .cx) l in
+  abbrev run : List ℤ → ℕ → ℕ → ℕ → ℕ → ℤ
+  run row low mid high = passOf (g .mx) (since row low) (since row mid) (since row high)
+
+  -- one pass over nodes x, x + 1, .., whose lower neighbours are a, a + 1, .. and upper ones b, b + 1, ..
+  module _ (row : List ℤ) (a x b low mid high : ℕ) (low-at : low ≡ size * a) (mid-at : mid ≡ size * x) (high-at : high ≡ size * b) where
+    place : (a i t : ℕ) → size * a + (size * i + t) ≡ size * (a + i) + t
+    place a i t = omega arith
+
+    entry : (i o : ℕ) → left (x + i) ≡ a + i → right (g .cx) (x + i) ≡ b + i → o < step → run row low mid high (step * i + o) ≡ rowOf g (at row) (step * (x + i) + o)
+    unfolding rowOf nodeOf passOf
+    entry i o el er l =
+        let t : ℕ = o / g .mx in
+        rw (group-of (ok .mx-low) size i o, member-of (g .mx) size i o, high-digit step (x + i) o l, low-digit step (x + i) o l, el, er, low-at, mid-at, high-at, place a i t, place x i t, place b i t)
+
+    nodes : (n : ℕ) → ((i : ℕ) → i < n → (left (x + i) ≡ a + i) × (right (g .cx) (x + i) ≡ b + i)) → (j t : ℕ) → j < step * n → step * x + j ≡ t → run row low mid high j ≡ rowOf g (at row) t
+    nodes n next j t l e =
+        let h = next (j / step) (high-below (record-some g ok) l) in
+        let d = div-add-mod j step in
+        ap (run row low mid high) (sym d) ∙ entry (j / step) (j % step) (h .0) (h .1) (mod-lt j (record-some g ok)) ∙ ap (rowOf g (at row)) (turn step x (j / step) (j % step) j t d e)
+      where
+        turn : (s x i o j t : ℕ) → s * i + o ≡ j → s * x + j ≡ t → s * (x + i) + o ≡ t
+        turn s x i o j t d e = omega arith
+
+  -- n nodes lie between the first and the last
+  abbrev n : ℕ
+  n = g .cx - 2
+
+  abbrev inner : ℕ
+  inner = size * n
+
+  counted : g .cx ≡ n + 2
+  counted = let h = ok .x-low in omega arith
+
+  ends : (a n c : ℕ) → c ≡ n + 2 → a + a * n + a ≡ a * c
+  ends a n c e = rw e (omega arith)
+
+  numbers : size + inner + size ≡ size * g .cx
+  numbers = ends size n (g .cx) counted
+
+  entries : step + g .mx * inner + step ≡ rowSize g
+  entries = omega (arith, ends step n (g .cx) counted)
+
+  numbers-high : size + inner + size ≤ 576
+  numbers-high = rw numbers (mul-le-mul (column-high g ok) (ok .x-high))
+
+  -- their neighbours
+  first-next : (i : ℕ) → i < 1 → (left (0 + i) ≡ 0 + i) × (right (g .cx) (0 + i) ≡ 1 + i)
+  first-next i l =
+      let c = counted in
+      let z = high-is (g .cx) (0 + i) (omega arith) in
+      (sym (low-none (0 + i) (omega arith)), omega arith)
+
+  inner-next : (i : ℕ) → i < n → (left (1 + i) ≡ 0 + i) × (right (g .cx) (1 + i) ≡ 2 + i)
+  inner-next i l =
+      let c = counted in
+      let y = low-is (1 + i) (λ e. omega arith) in
+      let z = high-is (g .cx) (1 + i) (omega arith) in
+      (omega arith, omega arith)
+
+  last-next : (i : ℕ) → i < 1 → (left (n + 1 + i) ≡ n + i) × (right (g .cx) (n + 1 + i) ≡ n + 1 + i)
+  last-next i l =
+      let c = counted in
+      let y = low-is (n + 1 + i) (λ e. omega arith) in
+      (omega arith, sym (high-none (g .cx) (n + 1 + i) (omega arith)))
+
+  -- the passes read parts of the row
+  read : (row : List ℤ) → Read row 0 (size * g .cx) → (low count : ℕ) → low + count ≤ size + inner + size → Read row low count
+  read row r low count l =
+      let e = numbers in
       let i = r .inside in
-      record { inside = omega arith; small = λ t j. subst (λ (n : ℕ). natAbs (at row n) ≤ passLimit) (zero-add (size * x + t)) (r .small (size * x + t) (omega arith)) }
+      record { inside = omega arith; small = λ t j. subst (λ (n : ℕ). natAbs (at row n) ≤ passLimit) (zero-add (low + t)) (r .small (low + t) (omega arith)) }
 
-  -- a turn of the loop
-  module _ (row : List ℤ) (k : ℕ) (b out : List ℤ) (x p : ℕ) (at-p : p ≡ k + recordSize g * x) (inv : out ≡ placed k (recordSize g * x) (rowOf g (at row)) b) where
-    same : (low high : ℕ) → low ≡ left x → high ≡ right (g .cx) x → (o : ℕ) → o < recordSize g → passOf (g .mx) (since row (size * low)) (since row (size * x)) (since row (size * high)) o ≡ rowOf g (at row) (recordSize g * x + o)
-    unfolding rowOf nodeOf
-    same low high e f o l = rw (high-digit (recordSize g) x o l, low-digit (recordSize g) x o l, e, f)
+  -- and give the records one behind the other
+  module _ (row : List ℤ) (k : ℕ) (b b₁ b₂ b₃ : List ℤ) (e₁ : b₁ ≡ placed k step (run row 0 0 size) b) (e₂ : b₂ ≡ placed (k + step) (g .mx * inner) (run row 0 size (2 * size)) b₁)
+      (e₃ : b₃ ≡ placed (k + step + g .mx * inner) step (run row inner (inner + size) (inner + size)) b₂) where
+    abbrev h : ℕ → ℤ
+    h = rowOf g (at row)
 
-    turn : (low high : ℕ) → low ≡ left x → high ≡ right (g .cx) x → (next : List ℤ) → next ≡ placed p (recordSize g) (passOf (g .mx) (since row (size * low)) (since row (size * x)) (since row (size * high))) out → next ≡ placed k (recordSize g * (x + 1)) (rowOf g (at row)) b
-    turn low high e f next h = stored-more k (recordSize g) x (rowOf g (at row)) b out p at-p inv (passOf (g .mx) (since row (size * low)) (since row (size * x)) (since row (size * high))) next h (same low high e f)
+    first : b₁ ≡ placed k step h b
+    first = e₁ ∙ placed-same k step (run row 0 0 size) h b (λ j l. nodes row 0 0 1 0 0 size (omega arith) (omega arith) (omega arith) 1 first-next j j (omega arith) (omega arith))
 
-abbrev Inv-loop : tie.InvT-loop
-Inv-loop g row out₀ k size step x₀ p₀ out x p = (x ≤ g .cx) × (p ≡ k + recordSize g * x) × (out ≡ placed k (recordSize g * x) (rowOf g (at row)) out₀)
+    between : b₂ ≡ placed k (step + g .mx * inner) h b
+    between =
+        placed-next k step (g .mx * inner) (k + step) h (run row 0 size (2 * size)) b b₁ b₂ refl first e₂
+        (λ j l. nodes row 0 1 2 0 size (2 * size) (omega arith) (omega arith) (omega arith) n inner-next j (step + j) (omega arith) (omega arith))
 
-abbrev μ-loop : tie.MeasureT-loop
-μ-loop g row out₀ k size step x₀ p₀ out x p = g .cx - x
+    last : b₃ ≡ placed k (step + g .mx * inner + step) h b
+    last =
+        placed-next k (step + g .mx * inner) step (k + step + g .mx * inner) h (run row inner (inner + size) (inner + size)) b b₂ b₃ (omega arith) between e₃
+        (λ j l. nodes row n (n + 1) (n + 1) inner (inner + size) (inner + size) (omega arith) (omega arith) (omega arith) 1 last-next j (step + g .mx * inner + j) (omega arith) (omega arith))
 
-mul-size : tie.Need-mul-size Inv-loop μ-loop
+    result : b₃ ≡ placed k (rowSize g) h b
+    result = last ∙ ap (λ (m : ℕ). placed k m h b) entries
+
+mul-size : tie.Need-mul-size
 mul-size c = omega (arith, column-high (c .before .args .g) (c .before .pre .0 .0))
 
-mul-step : tie.Need-mul-step Inv-loop μ-loop
-mul-step c = omega (arith, record-high (c .before .before .args .g) (c .before .before .pre .0 .0))
+sub-inner : tie.Need-sub-inner
+sub-inner c = search needs
 
-loop-holds : tie.Need-loop-holds Inv-loop μ-loop
-loop-holds c = let a = c .before .before .args in (omega arith, omega arith, stored-none (a .k) (recordSize (a .g)) (rowOf (a .g) (at (a .row .now))) (a .out .now))
+mul-inner : tie.Need-mul-inner
+mul-inner c = let s = c .before .before in omega (arith, numbers-high (s .args .g) (s .pre .0 .0))
 
-neighbours-of-requires : tie.Need-neighbours-of-requires Inv-loop μ-loop
-neighbours-of-requires c κs = omega arith
+add-last : tie.Need-add-last
+add-last c = let s = c .before .before in omega (arith, numbers-high (s .args .g) (s .pre .0 .0))
 
-mul-low : tie.Need-mul-low Inv-loop μ-loop
-mul-low c =
-    let s = c .before .before .before .before .before .before .before in
-    let x = c .before .before .before .before .loop .x in
-    rw (c .before .neighbours-of .ensures .0) (omega (arith, place-high (s .args .g) (s .pre .0 .0) (left x) (left-below (s .args .g .cx) x (omega arith))))
+mul-p : tie.Need-mul-p
+mul-p c = let s = c .before .before .before in omega (arith, record-high (s .args .g) (s .pre .0 .0))
 
-mul-mid : tie.Need-mul-mid Inv-loop μ-loop
-mul-mid c =
-    let s = c .before .before .before .before .before .before .before in
-    let x = c .before .before .before .before .loop .x in
-    omega (arith, place-high (s .args .g) (s .pre .0 .0) x (omega arith))
+add-p : tie.Need-add-p
+add-p c = let s = c .before .before .before in omega (arith, entries (s .args .g) (s .pre .0 .0), s .pre .0 .1, s .good)
 
-mul-high : tie.Need-mul-high Inv-loop μ-loop
-mul-high c =
-    let s = c .before .before .before .before .before .before .before .before in
-    let x = c .before .before .before .before .before .loop .x in
-    rw (c .before .before .neighbours-of .ensures .1) (omega (arith, place-high (s .args .g) (s .pre .0 .0) (right (s .args .g .cx) x) (right-below (s .args .g .cx) x (omega arith))))
+mul-q : tie.Need-mul-q
+mul-q c = let s = c .before .before .before .before in omega (arith, entries (s .args .g) (s .pre .0 .0), row-high (s .args .g) (s .pre .0 .0))
 
-pass-requires : tie.Need-pass-requires Inv-loop μ-loop
+add-q : tie.Need-add-q
+add-q c = let s = c .before .before .before .before in omega (arith, entries (s .args .g) (s .pre .0 .0), s .pre .0 .1, s .good)
+
+pass-requires : tie.Need-pass-requires
 pass-requires c κs =
-    let s = c .before .before .before .before .before .before .before .before .before in
-    let a = s .args in
-    let l = c .before .before .before .before .before .before .loop in
-    let n = c .before .before .before .neighbours-of .ensures in
-    let h : l .x < a .g .cx = omega arith in (
-      (s .pre .0 .0 .mx-low, s .pre .0 .0 .mx-high, stored-room (a .k) (recordSize (a .g)) (l .x) (rowOf (a .g) (at (a .row .now))) (a .out .now) (l .out) (l .p) (l .inv .1) (l .inv .2) (a .g .cx) h (s .pre .0 .1)),
-      (
-        rw (n .0) (node-read (a .g) (s .pre .0 .0) (a .row .now) (s .pre .1) (left (l .x)) (left-below (a .g .cx) (l .x) h)),
-        node-read (a .g) (s .pre .0 .0) (a .row .now) (s .pre .1) (l .x) h,
-        rw (n .1) (node-read (a .g) (s .pre .0 .0) (a .row .now) (s .pre .1) (right (a .g .cx) (l .x)) (right-below (a .g .cx) (l .x) h)),
-      ),
-    )
+    let s = c .before .before .before .before .before in
+    let g = s .args .g in
+    let ok = s .pre .0 .0 in
+    let r = read g ok (s .args .row .now) (s .pre .1) in
+    ((ok .mx-low, ok .mx-high, omega (arith, entries g ok, s .pre .0 .1)), (r _ _ (omega arith), r _ _ (omega arith), r _ _ (omega arith)))
 
-add-p : tie.Need-add-p Inv-loop μ-loop
-add-p c =
+mul-pass : tie.Need-mul-pass
+mul-pass c = let s = c .before .before .before .before .before .before .before in omega (arith, column-high (s .args .g) (s .pre .0 .0))
+
+pass-requires-2 : tie.Need-pass-requires-2
+pass-requires-2 c κs =
+    let s = c .before .before .before .before .before .before .before .before in
+    let g = s .args .g in
+    let ok = s .pre .0 .0 in
+    let r = read g ok (s .args .row .now) (s .pre .1) in
+    ((ok .mx-low, ok .mx-high, omega (arith, entries g ok, s .pre .0 .1, c .before .before .pass .kept)), (r _ _ (omega arith), r _ _ (omega arith), r _ _ (omega arith)))
+
+pass-requires-3 : tie.Need-pass-requires-3
+pass-requires-3 c κs =
     let s = c .before .before .before .before .before .before .before .before .before .before .before in
-    let a = s .args in
-    let l = c .before .before .before .before .before .before .before .before .loop in
-    omega (arith, group-room (recordSize (a .g)) (l .x) (a .g .cx) (omega arith), s .pre .0 .1, s .good)
+    let g = s .args .g in
+    let ok = s .pre .0 .0 in
+    let r = read g ok (s .args .row .now) (s .pre .1) in
+    ((ok .mx-low, ok .mx-high, omega (arith, entries g ok, s .pre .0 .1, c .before .before .pass2 .kept, c .before .before .before .before .before .pass .kept)), (r _ _ (omega arith), r _ _ (omega arith), r _ _ (omega arith)))
 
-add-x : tie.Need-add-x Inv-loop μ-loop
-add-x c = omega arith
+same-length : tie.Need-same-length
+same-length c = search needs
 
-loop-less : tie.Need-loop-less Inv-loop μ-loop
-loop-less c = omega arith
-
-loop-again : tie.Need-loop-again Inv-loop μ-loop
-loop-again c =
-    let s = c .before .before .before .before .before .before .before .before .before .before .before in
-    let a = s .args in
-    let l = c .before .before .before .before .before .before .before .before .loop in
-    let n = c .before .before .before .before .before .neighbours-of in
-    (omega arith, omega arith, turn (a .g) (s .pre .0 .0) (a .row .now) (a .k) (a .out .now) (l .out) (l .x) (l .p) (l .inv .1) (l .inv .2) (n .result .low) (n .result .high) (n .ensures .0) (n .ensures .1) _ (c .before .pass .ensures))
-
-same-length : tie.Need-same-length Inv-loop μ-loop
-same-length c =
-    let a = c .before .before .before .before .before .args in
-    let l = c .before .before .loop in
-    stored-length (a .k) (recordSize (a .g)) (l .x) (rowOf (a .g) (at (a .row .now))) (a .out .now) (l .out) (l .p) (l .inv .1) (l .inv .2)
-
-returns : tie.Need-returns Inv-loop μ-loop
+returns : tie.Need-returns
 returns c =
-    let a = c .before .before .before .before .before .args in
-    let l = c .before .before .loop in
-    let e : l .x ≡ a .g .cx = omega arith in
-    rw e at (l .inv .2)
+    let s = c .before .before .before .before .before .before .before .before .before .before .before .before .before in
+    result (s .args .g) (s .pre .0 .0) (s .args .row .now) (s .args .k) (s .args .out .now) _ _ _ (c .before .before .before .before .before .before .before .pass .ensures) (c .before .before .before .before .pass2 .ensures) (c .before .pass3 .ensures)
 
 pub fill-row-spec : {M : Type 1} → statement M
 fill-row-spec =
     tie.close
     (tie.spec
-    Inv-loop
-    μ-loop
     mul-size
-    mul-step
-    loop-holds
-    neighbours-of-requires
-    mul-low
-    mul-mid
-    mul-high
-    pass-requires
+    sub-inner
+    mul-inner
+    add-last
+    mul-p
     add-p
-    add-x
-    loop-less
-    loop-again
+    mul-q
+    add-q
+    pass-requires
+    mul-pass
+    pass-requires-2
+    pass-requires-3
     same-length
     returns)

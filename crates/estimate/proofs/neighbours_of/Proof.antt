@@ -1,33 +1,10 @@
 -- `estimate::neighbours_of` meets its contract, at the borders and between them.
 use mathlib.Core.Logic.{⊎-elim}
-use mathlib.Core.Path.{_≡_, refl, sym, _∙_}
-use Prim.Native.Nat.{ℕ, zero, suc, _≤_, _<_, _+_, _-_}
-use native.Mathlib.Numerals.{add-one}
-use native.Mathlib.Omega.{arith}
-use lib.Dec.{ltb}
-use borrow.Author.Tests.{lt-ltb, le-ltb}
+use mathlib.Core.Path.{_∙_}
 use borrow.Author.Needs.{needs}
-use Rattle.arith.proofs.Choices.{pick-true, pick-false}
-use Rattle.estimate.specs.Estimate.{left, right}
+use Rattle.estimate.proofs.PassesLaws.{low-is, low-none, high-is, high-none}
 use Rattle.estimate.proofs.neighbours_of.Statement.{statement}
 use Rattle.estimate.proofs.neighbours_of.Tie as tie
-
-low-is : (i : ℕ) → (i ≡ 0 → ⊥) → i - 1 ≡ left i
-unfolding left
-low-is zero h = absurd (h refl)
-low-is (suc i) h = omega arith
-
-low-none : (i : ℕ) → i ≡ 0 → i ≡ left i
-unfolding left
-low-none i e = rw e
-
-high-is : (count i : ℕ) → i + 1 < count → i + 1 ≡ right count i
-unfolding right
-high-is count i h = rw (add-one i) (sym (pick-true (ltb (suc i) count) (suc i) i (lt-ltb (suc i) count (omega arith))))
-
-high-none : (count i : ℕ) → count ≤ i + 1 → i ≡ right count i
-unfolding right
-high-none count i h = sym (pick-false (ltb (suc i) count) (suc i) i (le-ltb (suc i) count (omega arith)))
 
 sub-low : tie.Need-sub-low
 sub-low c = search needs

@@ -1,61 +1,208 @@
+-- `evaluate::answer` meets its contract: the strides are those of the axes in their working order.
+use mathlib.Core.Path.{_≡_, refl, sym, ap, subst, _∙_}
+use mathlib.Core.Bool.{Bool}
+use mathlib.Core.List.{List, [], _∷_}
+use Prim.Native.Nat.{ℕ, _≤_, _<_, _^_}
 use native.Mathlib.Nat.{lt-of-lt-of-le}
 use native.Mathlib.Omega.{arith}
-use lib.Dec.{lit≤}
-use mir.Facts.{toZ-ofZ}
-use Rattle.arith.proofs.Abs.{sfits-abs}
-use Rattle.lattice.specs.Records.{recordsField}
-use Rattle.lattice.proofs.ShapeLaws.{orders-range}
-use Rattle.cell.specs.Cell.{placeAt}
-use Rattle.arith.proofs.Machine.{read}
-use Rattle.evaluate.specs.Evaluate.{askAt, answer}
-use Rattle.evaluate.specs.Wants.{wanted}
-use Rattle.evaluate.proofs.Answering.{answer-fits}
-use mathlib.Core.Path.{_≡_, sym, subst, _∙_}
-use Prim.Native.Nat.{_<_, _^_}
+use lib.Dec.{eqb, lit≤}
+use lib.ListN.{length, getD}
 use lib.IntN.{ℤ, natAbs}
 use lib.Signed.{mag}
 use mir.Syntax.{w32, w64}
 use mir.Val.{SFits, toZ, ofZ}
+use mir.Facts.{toZ-ofZ}
 use denote.Ref.{now}
 use borrow.Author.Needs.{needs}
+use Rattle.arith.specs.Choice.{pick}
+use Rattle.arith.proofs.Abs.{sfits-abs}
+use Rattle.arith.proofs.Machine.{read}
+use Rattle.lattice.specs.Axes.{axes, without}
+use Rattle.lattice.specs.Buffer.{at}
+use Rattle.lattice.specs.Records.{recordsField}
+use Rattle.lattice.proofs.ShapeLaws.{orders-range}
+use Rattle.cell.specs.Cell.{placeAt}
+use Rattle.evaluate.specs.declared.Strides.{Strides}
+use Rattle.evaluate.specs.Evaluate.{lastAxis, askAt, answer}
+use Rattle.evaluate.specs.Stages.{stridesOf, also, firstAxis, middleAxis, Workable, WorkedOff}
+use Rattle.evaluate.specs.Wants.{wanted}
+use Rattle.evaluate.proofs.Answering.{IsAxis, AreAxes, is-axis, are-axes, workable-in, answer-in, answer-fits}
+use Rattle.evaluate.proofs.Order.{axes-before, axes-low}
 use Rattle.evaluate.proofs.answer.Statement.{statement}
 use Rattle.evaluate.proofs.answer.Tie as tie
 
--- the stages' result r is the answer, and fits 32 bits
-module _ (s : tie.Start) (r : ℤ) (ok : mag r < 2 ^ 63)
-    (is : r ≡ answer (askAt (s .args .s) (wanted (s .args .want)) (placeAt (s .args .cell)) (placeAt (s .args .step))) (recordsField (s .args .s) (now (s .args .records)))) where
-  small : natAbs (toZ w64 (ofZ w64 r)) < 2 ^ 24
-  small =
-      subst (λ z. natAbs z < 2 ^ 24) (sym (read r ok ∙ is))
-      (answer-fits (s .args .s) (now (s .args .records)) (placeAt (s .args .cell)) (placeAt (s .args .step)) (wanted (s .args .want)) (s .args .l) (s .pre))
+module _ (t : tie.After-last-axis) where
+  abbrev b : tie.Start
+  b = t .before .before
 
-  fits : SFits w32 (toZ w64 (ofZ w64 r))
-  fits = sfits-abs (toZ w64 (ofZ w64 r)) (lt-of-lt-of-le small (lit≤ tt))
+  abbrev n : ℕ
+  n = b .args .s .axes
 
-  gives : toZ w32 (ofZ w32 (toZ w64 (ofZ w64 r))) ≡ answer (askAt (s .args .s) (wanted (s .args .want)) (placeAt (s .args .cell)) (placeAt (s .args .step))) (recordsField (s .args .s) (now (s .args .records)))
-  gives = toZ-ofZ {w = w32} fits ∙ read r ok ∙ is
+  abbrev last : ℕ
+  last = lastAxis n (wanted (b .args .want))
 
-all-axes-requires : tie.Need-all-axes-requires
-all-axes-requires c κs = (sym (c .if1 .taken), c .before .before .pre)
+  abbrev Is : ℕ → Strides → Type 0
+  Is = IsAxis (b .args .s) (placeAt (b .args .step))
+
+  abbrev result : ℤ
+  result = answer (askAt (b .args .s) (wanted (b .args .want)) (placeAt (b .args .cell)) (placeAt (b .args .step))) (recordsField (b .args .s) (now (b .args .records)))
+
+  m3 : b .args .l .orders ≤ 3
+  m3 = subst (λ (i : ℕ). i ≤ 3) (sym (b .pre .laid .orders-are)) (orders-range (b .args .s .degree) .1)
+
+  -- the strides of an axis
+  is : (a : ℕ) → a < 3 → (v : Strides) → v ≡ stridesOf (getD (b .args .step) a 0) (getD (b .args .l .far) a 0) (b .args .l .orders ^ a) → Is a v
+  is a h v e = subst (Is a) (sym e) (is-axis (b .args .s) (placeAt (b .args .cell)) (b .args .step) (b .args .l) (b .pre .laid) a h)
+
+  -- axis a, of strides v, is the last, and those of vs come before
+  module _ (k a : ℕ) (ek : n ≡ k) (ea : last ≡ a) (v : Strides) (vs : List Strides) (is-last : Is a v) (are : AreAxes (b .args .s) (placeAt (b .args .step)) (without a (axes k)) vs) where
+    asks : Workable (b .args .l .orders) (t .before .is-slope .result) v vs (length (now (b .args .records))) (at (now (b .args .records))) (b .args .l .base)
+    asks =
+        workable-in (b .args .s) (now (b .args .records)) (placeAt (b .args .cell)) (placeAt (b .args .step)) (wanted (b .args .want)) (b .args .l) (b .pre) k a ek ea
+        (t .before .is-slope .result) (t .before .is-slope .ensures) v vs is-last are
+
+    gives : (r : ℤ) → WorkedOff (b .args .l .orders) (t .before .is-slope .result) v vs (at (now (b .args .records))) (b .args .l .base) r → r ≡ result
+    gives =
+        answer-in (b .args .s) (now (b .args .records)) (placeAt (b .args .cell)) (placeAt (b .args .step)) (wanted (b .args .want)) (b .args .l) (b .pre) k a ek ea
+        (t .before .is-slope .result) (t .before .is-slope .ensures) v vs is-last are
+
+  -- the stages' result r is the answer, and fits 32 bits
+  module _ (r : ℤ) (ok : mag r < 2 ^ 63) (e : r ≡ result) where
+    fits : SFits w32 (toZ w64 (ofZ w64 r))
+    fits =
+        sfits-abs (toZ w64 (ofZ w64 r)) (lt-of-lt-of-le
+        (subst (λ z. natAbs z < 2 ^ 24) (sym (read r ok ∙ e))
+        (answer-fits (b .args .s) (now (b .args .records)) (placeAt (b .args .cell)) (placeAt (b .args .step)) (wanted (b .args .want)) (b .args .l) (b .pre))) (lit≤ tt))
+
+    cast : toZ w32 (ofZ w32 (toZ w64 (ofZ w64 r))) ≡ result
+    cast = toZ-ofZ {w = w32} fits ∙ read r ok ∙ e
+
+-- one axis
+module _ (c : tie.After-strides-of) where
+  abbrev only : tie.After-last-axis
+  only = c .before .before
+
+  only-last : last only ≡ 0
+  only-last = let h = b only .pre .last in omega (arith, c .before .if1 .taken)
+
+  only-axis : Is only 0 (c .strides-of .result)
+  only-axis = is only 0 (omega arith) (c .strides-of .result) (c .strides-of .ensures)
+
+-- two or three
+module _ (c : tie.After-strides-of4) where
+  abbrev more : tie.After-last-axis
+  more = c .before .before .before .before .before .before
+
+  abbrev begun : tie.Start
+  begun = more .before .before
+
+  three-low : (n more ≤ 3) × (last more < n more) × (last more < 3)
+  three-low = let h = begun .pre .shape .axes-high in let k = begun .pre .last in (h, k, omega arith)
+
+  two-axes : 2 ≤ n more
+  two-axes = let h = begun .pre .shape .axes-low in omega (arith, c .before .before .before .before .before .if1 .left)
+
+  -- the strides of the axis with a number that the code has found
+  found : (i a : ℕ) → i ≡ a → a < 3 → (v : Strides) → v ≡ stridesOf (getD (begun .args .step) i 0) (getD (begun .args .l .far) i 0) (begun .args .l .orders ^ i) → Is more a v
+  found i a e h v k = subst (λ (j : ℕ). Is more j v) e (is more i (subst (λ (j : ℕ). j < 3) (sym e) h) v k)
+
+  is-last : Is more (last more) (c .strides-of4 .result)
+  is-last = found (more .last-axis .result) (last more) (more .last-axis .ensures) (three-low .2) (c .strides-of4 .result) (c .strides-of4 .ensures)
+
+  is-middle : Is more (middleAxis (last more)) (c .before .strides-of3 .result)
+  is-middle =
+      let s = c .before in
+      found (s .before .middle-axis .result) (middleAxis (last more)) (s .before .middle-axis .ensures ∙ ap middleAxis (more .last-axis .ensures)) (axes-low (last more) .1) (s .strides-of3 .result) (s .strides-of3 .ensures)
+
+  is-first : Is more (firstAxis (last more)) (c .before .before .before .strides-of2 .result)
+  is-first =
+      let s = c .before .before .before in
+      found (s .before .first-axis .result) (firstAxis (last more)) (s .before .first-axis .ensures ∙ ap firstAxis (more .last-axis .ensures)) (axes-low (last more) .0) (s .strides-of2 .result) (s .strides-of2 .ensures)
+
+  abbrev others : List Strides
+  others = also (eqb (n more) 3) (c .before .strides-of3 .result) (c .before .before .before .strides-of2 .result ∷ [])
+
+  are : AreAxes (begun .args .s) (placeAt (begun .args .step)) (without (last more) (axes (n more))) others
+  are =
+      subst (λ (ls : List ℕ). AreAxes (begun .args .s) (placeAt (begun .args .step)) ls others) (sym (axes-before (n more) (last more) two-axes (three-low .0) (three-low .1)))
+      (are-axes (begun .args .s) (placeAt (begun .args .step)) (eqb (n more) 3) (firstAxis (last more)) (middleAxis (last more)) (c .before .before .before .strides-of2 .result) (c .before .strides-of3 .result) is-first is-middle)
+
+is-slope-requires : tie.Need-is-slope-requires
+is-slope-requires c κs = search needs
+
+last-axis-requires : tie.Need-last-axis-requires
+last-axis-requires c κs = search needs
+
+strides-of-requires : tie.Need-strides-of-requires
+strides-of-requires c κs = (m3 (c .before), omega arith)
+
+one-axis-requires : tie.Need-one-axis-requires
+unfolding axes without pick
+one-axis-requires c κs = asks (only c) 1 0 (c .before .if1 .taken) (only-last c) (c .strides-of .result) [] (only-axis c) tt
 
 cast-result : tie.Need-cast-result
-cast-result c = fits (c .before .before .before) (c .all-axes .result) (c .all-axes .ok) (c .all-axes .ensures)
+unfolding axes without pick
+cast-result c =
+    let d = c .before in
+    fits (only d) (c .one-axis .result) (c .one-axis .ok) (gives (only d) 1 0 (d .before .if1 .taken) (only-last d) (d .strides-of .result) [] (only-axis d) tt (c .one-axis .result) (c .one-axis .ensures))
 
 returns : tie.Need-returns
-returns c = gives (c .before .before .before) (c .all-axes .result) (c .all-axes .ok) (c .all-axes .ensures)
+unfolding axes without pick
+returns c =
+    let d = c .before in
+    cast (only d) (c .one-axis .result) (c .one-axis .ok) (gives (only d) 1 0 (d .before .if1 .taken) (only-last d) (d .strides-of .result) [] (only-axis d) tt (c .one-axis .result) (c .one-axis .ensures))
 
-all-axes-requires-2 : tie.Need-all-axes-requires-2
-all-axes-requires-2 c κs =
-    let s = c .before .before in
-    let h = orders-range (s .args .s .degree) in
-    let e = s .pre .laid .orders-are in
-    (omega (arith, c .if1 .left), s .pre)
+first-axis-requires : tie.Need-first-axis-requires
+first-axis-requires c κs = search needs
+
+strides-of-requires-2 : tie.Need-strides-of-requires-2
+strides-of-requires-2 c κs =
+    let t = c .before .before in
+    (m3 t, subst (λ (i : ℕ). i < 3) (sym (c .first-axis .ensures)) (axes-low (t .last-axis .result) .0))
+
+middle-axis-requires : tie.Need-middle-axis-requires
+middle-axis-requires c κs = search needs
+
+strides-of-requires-3 : tie.Need-strides-of-requires-3
+strides-of-requires-3 c κs =
+    let t = c .before .before .before .before in
+    (m3 t, subst (λ (i : ℕ). i < 3) (sym (c .middle-axis .ensures)) (axes-low (t .last-axis .result) .1))
+
+strides-of-requires-4 : tie.Need-strides-of-requires-4
+strides-of-requires-4 c κs =
+    let t = c .before .before .before .before .before in
+    let h = b t .pre .shape .axes-high in
+    let k = b t .pre .last in
+    (m3 t, subst (λ (i : ℕ). i < 3) (sym (t .last-axis .ensures)) (omega arith))
+
+more-axes-requires : tie.Need-more-axes-requires
+more-axes-requires c κs = asks (more c) (n (more c)) (last (more c)) refl refl (c .strides-of4 .result) (others c) (is-last c) (are c)
 
 cast-result-2 : tie.Need-cast-result-2
-cast-result-2 c = fits (c .before .before .before) (c .all-axes2 .result) (c .all-axes2 .ok) (c .all-axes2 .ensures)
+cast-result-2 c =
+    let d = c .before in
+    fits (more d) (c .more-axes .result) (c .more-axes .ok) (gives (more d) (n (more d)) (last (more d)) refl refl (d .strides-of4 .result) (others d) (is-last d) (are d) (c .more-axes .result) (c .more-axes .ensures))
 
 returns-2 : tie.Need-returns-2
-returns-2 c = gives (c .before .before .before) (c .all-axes2 .result) (c .all-axes2 .ok) (c .all-axes2 .ensures)
+returns-2 c =
+    let d = c .before in
+    cast (more d) (c .more-axes .result) (c .more-axes .ok) (gives (more d) (n (more d)) (last (more d)) refl refl (d .strides-of4 .result) (others d) (is-last d) (are d) (c .more-axes .result) (c .more-axes .ensures))
 
 pub answer-spec : {M : Type 1} → statement M
-answer-spec = tie.close (tie.spec all-axes-requires cast-result returns all-axes-requires-2 cast-result-2 returns-2)
+answer-spec =
+    tie.close
+    (tie.spec
+    is-slope-requires
+    last-axis-requires
+    strides-of-requires
+    one-axis-requires
+    cast-result
+    returns
+    first-axis-requires
+    strides-of-requires-2
+    middle-axis-requires
+    strides-of-requires-3
+    strides-of-requires-4
+    more-axes-requires
+    cast-result-2
+    returns-2)

@@ -1,28 +1,32 @@
--- `evaluate::third` meets its contract: the second stage fills both ends, order by order.
-use mathlib.Core.Path.{_∙_}
+-- `evaluate::third` meets its contract: the second stage gives the numbers one after the other.
+use mathlib.Core.Path.{_≡_, refl, sym, ap, subst, _∙_}
+use mathlib.Core.Bool.{Bool, true, false}
 use mathlib.Core.List.{List, [], _∷_}
-use Prim.Native.Nat.{ℕ, _+_, _-_}
+use Prim.Native.Nat.{ℕ, _+_, _*_, _-_, _≤_, _<_}
 use native.Mathlib.Omega.{arith}
-use lib.ListN.{length}
+use lib.ListN.{length, getD, length-set}
 use lib.IntN.{ℤ}
 use mir.Syntax.{w64}
 use mir.Val.{toZ, ofZ}
 use denote.Ref.{now}
+use borrow.Author.Tests.{not-true, not-false}
+use Rattle.arith.specs.Choice.{pick}
+use Rattle.arith.proofs.Machine.{read}
 use Rattle.lattice.specs.Buffer.{at}
 use Rattle.hermite.specs.Hermite.{kindOf}
-use Rattle.arith.proofs.Machine.{read}
 use Rattle.evaluate.specs.declared.Axis.{Axis}
-use Rattle.evaluate.specs.Stages.{after}
+use Rattle.evaluate.specs.Stages.{offsetOf, numbersAt, endsOf, also, after, Prepared, AllPrepared, Safe}
 use Rattle.evaluate.proofs.EndLaws.{safe-load, stage-after, no-third}
-use Rattle.evaluate.proofs.Filling.{low-safe, high-safe, low-below, high-below, near-below, BothFilled, both-none, both-more, both-all}
+use Rattle.evaluate.proofs.Filling.{safe-index, near-below, high-below}
+use Rattle.evaluate.proofs.Order.{Held, ends-few, held-more, held-two, held-three, safe-at, prepared-rest, held-one, held-low, held-high}
 use Rattle.evaluate.proofs.third.Statement.{statement}
 use Rattle.evaluate.proofs.third.Tie as tie
 
 abbrev Inv-loop : tie.InvT-loop
-Inv-loop m z y x records p near far low₀ high₀ o₀ low high o = BothFilled m z (after m (y ∷ x ∷ []) (at records)) p low high o
+Inv-loop m three z y x records p count place numbers₀ t₀ numbers t = (t ≤ count) × (length numbers ≡ 6) × Held m three z (after m (y ∷ x ∷ []) (at records)) p numbers t
 
 abbrev μ-loop : tie.MeasureT-loop
-μ-loop m z y x records p near far low₀ high₀ o₀ low high o = m - o
+μ-loop m three z y x records p count place numbers₀ t₀ numbers t = count - t
 
 module _ (s : tie.Start Inv-loop μ-loop) where
   abbrev n : ℕ
@@ -34,92 +38,163 @@ module _ (s : tie.Start Inv-loop μ-loop) where
   abbrev raw : ℕ → ℤ
   raw = at (now (s .args .records))
 
-mul-t14 : tie.Need-mul-t14 Inv-loop μ-loop
-mul-t14 c =
-    let s = c .before in
-    let f = s .pre .0 .0 .folds in
-    let h = near-below (s .args .m) (n s) (s .args .z) (xs s) (raw s) (s .args .p) (f .m-low) (f .m-high) (s .pre .1) in
-    omega arith
+  rest : AllPrepared (s .args .m) xs
+  rest = prepared-rest (s .args .m) n (s .args .z) xs raw (s .args .p) (s .args .three) (s .pre .0)
+
+  m2 : 2 ≤ s .args .m
+  m2 = rest .0 .folds .m-low
+
+  m3 : s .args .m ≤ 3
+  m3 = rest .0 .folds .m-high
+
+  -- the list of three axes
+  all-safe : s .args .three ≡ true → Safe (s .args .m) n (s .args .z ∷ xs) raw (s .args .p)
+  all-safe e = subst (λ (b : Bool). Safe (s .args .m) n (also b (s .args .z) xs) raw (s .args .p)) e (s .pre .1)
+
+  last-prepared : s .args .three ≡ true → Prepared (s .args .m) (s .args .z)
+  last-prepared e = (subst (λ (b : Bool). AllPrepared (s .args .m) (also b (s .args .z) xs)) e (s .pre .0)) .0
+
+-- a turn of the loop
+module _ (c : tie.In-loop Inv-loop μ-loop) where
+  abbrev start : tie.Start Inv-loop μ-loop
+  start = c .before .before .before .before
+
+  abbrev t : ℕ
+  t = c .before .loop .t
+
+  below : t < endsOf (start .args .m) (start .args .three)
+  below = subst (λ (k : ℕ). t < k) (c .before .before .before .places-of .ensures .0) (c .loop-test .taken)
+
+  low : t < 6
+  low = let h = ends-few (start .args .m) (start .args .three) (m3 start) in let k = below in omega arith
+
+  place-is : getD (c .before .before .before .places-of .result .place) t 0 ≡ pick (start .args .three) (offsetOf (start .args .m) (start .args .z) t) 0
+  place-is = c .before .before .before .places-of .ensures .1 t below
+
+  safe-here : Safe (start .args .m) (n start) (xs start) (raw start) (start .args .p + getD (c .before .before .before .places-of .result .place) t 0)
+  safe-here =
+      subst (λ (i : ℕ). Safe (start .args .m) (n start) (xs start) (raw start) (start .args .p + i)) (sym place-is)
+      (safe-at (start .args .m) (n start) (start .args .z) (xs start) (raw start) (start .args .p) (start .args .three) (start .pre .1) t below)
+
+places-of-requires : tie.Need-places-of-requires Inv-loop μ-loop
+places-of-requires c κs = (m2 c, m3 c, small)
+  where
+    small : c .args .three ≡ true → c .args .z .far + 2 * c .args .z .near < 18446744073709551616
+    small e =
+        let h = near-below (c .args .m) (n c) (c .args .z) (xs c) (raw c) (c .args .p) (m2 c) (m3 c) (all-safe c e) in
+        let k = high-below (c .args .m) (n c) (c .args .z) (xs c) (raw c) (c .args .p) (m2 c) (m3 c) (all-safe c e) 1 (let q = m2 c in omega arith) in
+        omega arith
 
 loop-holds : tie.Need-loop-holds Inv-loop μ-loop
-loop-holds c = let s = c .before in both-none (s .args .m) (s .args .z) (after (s .args .m) (xs s) (raw s)) (s .args .p)
+loop-holds c = (omega arith, refl, λ j l. absurd (none j l))
+  where
+    none : (j : ℕ) → j < 0 → ⊥
+    none j l = omega arith
 
-mul-i : tie.Need-mul-i Inv-loop μ-loop
-mul-i c = let h = c .before .before .before .pre .0 .0 .folds .m-high in omega arith
+mul-second : tie.Need-mul-second Inv-loop μ-loop
+mul-second c = let h = low c in omega arith
 
-array-read-i : tie.Need-array-read-i Inv-loop μ-loop
-array-read-i c = let h = c .before .before .before .pre .0 .0 .folds .m-high in omega arith
-
-add-i : tie.Need-add-i Inv-loop μ-loop
-add-i c =
-    let s = c .before .before .before in
-    let f = s .pre .0 .0 .folds in
-    let h = low-below (s .args .m) (n s) (s .args .z) (xs s) (raw s) (s .args .p) (f .m-low) (f .m-high) (s .pre .1) (c .before .loop .o) (c .loop-test .taken) in
-    omega arith
-
-second-requires : tie.Need-second-requires Inv-loop μ-loop
-second-requires c κs =
-    let s = c .before .before .before in
-    let f = s .pre .0 .0 .folds in
-    (s .pre .0 .1, low-safe (s .args .m) (n s) (s .args .z) (xs s) (raw s) (s .args .p) (f .m-low) (f .m-high) (s .pre .1) (c .before .loop .o) (c .loop-test .taken))
-
-mul-low : tie.Need-mul-low Inv-loop μ-loop
-mul-low c = let h = c .before .before .before .before .pre .0 .0 .folds .m-high in omega arith
-
-array-set-from-low : tie.Need-array-set-from-low Inv-loop μ-loop
-array-set-from-low c = let h = c .before .before .before .before .pre .0 .0 .folds .m-high in omega arith
+array-read-second : tie.Need-array-read-second Inv-loop μ-loop
+array-read-second c = low c
 
 add-second : tie.Need-add-second Inv-loop μ-loop
 add-second c =
-    let s = c .before .before .before .before in
-    let f = s .pre .0 .0 .folds in
-    let h = high-below (s .args .m) (n s) (s .args .z) (xs s) (raw s) (s .args .p) (f .m-low) (f .m-high) (s .pre .1) (c .before .before .loop .o) (c .before .loop-test .taken) in
+    let s = start c in
+    let h = safe-index (s .args .m) (n s) (xs s) (raw s) (s .args .p + getD (c .before .before .before .places-of .result .place) (t c) 0) (m2 s) (safe-here c) in
     omega arith
 
-second-requires-2 : tie.Need-second-requires-2 Inv-loop μ-loop
-second-requires-2 c κs =
-    let s = c .before .before .before .before in
-    let f = s .pre .0 .0 .folds in
-    (s .pre .0 .1, high-safe (s .args .m) (n s) (s .args .z) (xs s) (raw s) (s .args .p) (f .m-low) (f .m-high) (s .pre .1) (c .before .before .loop .o) (c .before .loop-test .taken))
+second-requires : tie.Need-second-requires Inv-loop μ-loop
+second-requires c κs = (rest (start c), safe-here c)
 
-mul-high : tie.Need-mul-high Inv-loop μ-loop
-mul-high c = let h = c .before .before .before .before .before .pre .0 .0 .folds .m-high in omega arith
+mul-numbers : tie.Need-mul-numbers Inv-loop μ-loop
+mul-numbers c = let h = low (c .before) in omega arith
 
-array-set-from-high : tie.Need-array-set-from-high Inv-loop μ-loop
-array-set-from-high c = let h = c .before .before .before .before .before .pre .0 .0 .folds .m-high in omega arith
+array-set-from-numbers : tie.Need-array-set-from-numbers Inv-loop μ-loop
+array-set-from-numbers c = low (c .before)
 
-add-o : tie.Need-add-o Inv-loop μ-loop
-add-o c = let h = c .before .before .before .before .before .pre .0 .0 .folds .m-high in omega arith
+add-t : tie.Need-add-t Inv-loop μ-loop
+add-t c = let h = low (c .before) in omega arith
 
 loop-less : tie.Need-loop-less Inv-loop μ-loop
 loop-less c = omega arith
 
 loop-again : tie.Need-loop-again Inv-loop μ-loop
 loop-again c =
-    let s = c .before .before .before .before .before in
-    let i = c .before .before .before .loop in
-    both-more (s .args .m) (s .args .z) (after (s .args .m) (xs s) (raw s)) (s .args .p) (s .pre .0 .0 .folds .m-high) (i .low) (i .high) (i .o) (c .before .before .loop-test .taken) (i .inv)
-    (toZ w64 (ofZ w64 (c .before .second .result))) (toZ w64 (ofZ w64 (c .second2 .result)))
-    (read (c .before .second .result) (c .before .second .ok) ∙ c .before .second .ensures) (read (c .second2 .result) (c .second2 .ok) ∙ c .second2 .ensures)
-
-stage-requires : tie.Need-stage-requires Inv-loop μ-loop
-stage-requires c κs =
-    let s = c .before .before .before .before in
-    let i = c .before .before .loop in
-    let all = both-all (s .args .m) (s .args .z) (after (s .args .m) (xs s) (raw s)) (s .args .p) (i .low) (i .high) (i .o) (i .inv) (c .before .loop-test .left) in
-    let numbers = after (s .args .m) (xs s) (raw s) in (
-      (s .pre .0 .0 .shift-low, safe-load (s .args .m) (n s) (s .args .z) (xs s) (raw s) (s .args .p) (s .pre .1) (at (i .low)) (at (i .high)) (all .0) (all .1)),
-      λ e. (no-third (s .args .m) numbers (s .args .p) (s .args .z .near) (at (i .low)) (all .0) e, no-third (s .args .m) numbers (s .args .p + s .args .z .far) (s .args .z .near) (at (i .high)) (all .1) e),
+    let d = c .before in
+    let s = start d in
+    let i = d .before .loop in (
+      omega arith,
+      simp length-set (i .inv .1),
+      held-more (s .args .m) (s .args .three) (s .args .z) (after (s .args .m) (xs s) (raw s)) (s .args .p) (i .numbers) (i .t) (toZ w64 (ofZ w64 (c .second .result))) (i .inv .1) (low d) (i .inv .2)
+          (read (c .second .result) (c .second .ok) ∙ c .second .ensures ∙ ap (λ (k : ℕ). after (s .args .m) (xs s) (raw s) (s .args .p + k)) (place-is d)),
     )
+
+array-copy-out-result : tie.Need-array-copy-out-result Inv-loop μ-loop
+array-copy-out-result c = omega arith
 
 returns : tie.Need-returns Inv-loop μ-loop
 returns c =
-    let s = c .before .before .before .before .before in
-    let i = c .before .before .before .loop in
-    let f = s .pre .0 .0 .folds in
-    let all = both-all (s .args .m) (s .args .z) (after (s .args .m) (xs s) (raw s)) (s .args .p) (i .low) (i .high) (i .o) (i .inv) (c .before .before .loop-test .left) in
-    stage-after (s .args .m) (n s) (s .args .z) (xs s) (raw s) (s .args .p) (s .pre .1) (at (i .low)) (at (i .high)) (all .0) (all .1) (f .m-high)
-    (toZ w64 (ofZ w64 (c .stage .result))) (read (c .stage .result) (c .stage .ok) ∙ c .stage .ensures (kindOf (s .args .z .slope)) (s .args .m) (s .args .z .step) f)
+    let d = c .before .before in
+    let s = d .before .before .before .before in
+    let a = s .args in
+    let i = d .before .loop in
+    let full = subst (λ (k : ℕ). k ≤ i .t) (d .before .before .before .places-of .ensures .0) (d .loop-test .left) in
+    let two = not-true _ (c .before .if1 .taken) in
+    read (at (i .numbers) 0) (c .result .given)
+    ∙ held-one (a .m) (n s) (a .z) (xs s) (raw s) (a .p) (a .three) two (i .numbers) (held-two (a .m) (a .z) (after (a .m) (xs s) (raw s)) (a .p) (i .numbers) (i .t) (a .three) two full (i .inv .2))
+
+end-of-requires : tie.Need-end-of-requires Inv-loop μ-loop
+end-of-requires c κs = let s = c .before .before .before .before .before .before in let h = m3 s in (m2 s, m3 s, omega arith)
+
+end-of-requires-2 : tie.Need-end-of-requires-2 Inv-loop μ-loop
+end-of-requires-2 c κs = let s = c .before .before .before .before .before .before .before in let h = m3 s in (m2 s, m3 s, omega arith)
+
+-- three axes: both ends
+module _ (c : tie.After-end-of2 Inv-loop μ-loop) where
+  abbrev off : tie.After-basis Inv-loop μ-loop
+  off = c .before .before
+
+  abbrev begun : tie.Start Inv-loop μ-loop
+  begun = off .before .before .before .before .before .before
+
+  three : begun .args .three ≡ true
+  three = not-false _ (off .before .if1 .left)
+
+  numbers : Held (begun .args .m) true (begun .args .z) (after (begun .args .m) (xs begun) (raw begun)) (begun .args .p) (off .before .before .before .loop .numbers) (2 * begun .args .m)
+  numbers =
+      let a = begun .args in
+      let i = off .before .before .before .loop in
+      held-three (a .m) (a .z) (after (a .m) (xs begun) (raw begun)) (a .p) (i .numbers) (i .t) (a .three) three
+      (subst (λ (k : ℕ). k ≤ i .t) (off .before .before .before .before .before .places-of .ensures .0) (off .before .before .loop-test .left)) (i .inv .2)
+
+  lows : (o : ℕ) → o < 3 → at (c .before .end-of .result) o ≡ numbersAt (begun .args .m) (after (begun .args .m) (xs begun) (raw begun)) (begun .args .p) (begun .args .z .near) o
+  lows =
+      let a = begun .args in
+      held-low (a .m) (n begun) (a .z) (xs begun) (raw begun) (a .p) (off .before .before .before .loop .numbers) numbers (at (c .before .end-of .result)) (c .before .end-of .ensures)
+
+  highs : (o : ℕ) → o < 3 → at (c .end-of2 .result) o ≡ numbersAt (begun .args .m) (after (begun .args .m) (xs begun) (raw begun)) (begun .args .p + begun .args .z .far) (begun .args .z .near) o
+  highs =
+      let a = begun .args in
+      held-high (a .m) (n begun) (a .z) (xs begun) (raw begun) (a .p) (off .before .before .before .loop .numbers) numbers (at (c .end-of2 .result)) (c .end-of2 .ensures)
+
+stage-requires : tie.Need-stage-requires Inv-loop μ-loop
+stage-requires c κs =
+    let s = begun c in
+    let a = s .args in
+    let g = after (a .m) (xs s) (raw s) in (
+      (last-prepared s (three c) .shift-low, safe-load (a .m) (n s) (a .z) (xs s) (raw s) (a .p) (all-safe s (three c)) (at (c .before .end-of .result)) (at (c .end-of2 .result)) (lows c) (highs c)),
+      λ e. (no-third (a .m) g (a .p) (a .z .near) (at (c .before .end-of .result)) (lows c) e, no-third (a .m) g (a .p + a .z .far) (a .z .near) (at (c .end-of2 .result)) (highs c) e),
+    )
+
+returns-2 : tie.Need-returns-2 Inv-loop μ-loop
+returns-2 c =
+    let d = c .before in
+    let s = begun d in
+    let a = s .args in
+    let f = last-prepared s (three d) .folds in
+    stage-after (a .m) (n s) (a .z) (xs s) (raw s) (a .p) (all-safe s (three d)) (at (d .before .end-of .result)) (at (d .end-of2 .result)) (lows d) (highs d) (m3 s)
+    (toZ w64 (ofZ w64 (c .stage .result))) (read (c .stage .result) (c .stage .ok) ∙ c .stage .ensures (kindOf (a .z .slope)) (a .m) (a .z .step) f)
+    ∙ ap (λ (b : Bool). after (a .m) (also b (a .z) (xs s)) (raw s) (a .p)) (sym (three d))
 
 pub third-spec : {M : Type 1} → statement M
 third-spec =
@@ -127,20 +202,20 @@ third-spec =
     (tie.spec
     Inv-loop
     μ-loop
-    mul-t14
+    places-of-requires
     loop-holds
-    mul-i
-    array-read-i
-    add-i
-    second-requires
-    mul-low
-    array-set-from-low
+    mul-second
+    array-read-second
     add-second
-    second-requires-2
-    mul-high
-    array-set-from-high
-    add-o
+    second-requires
+    mul-numbers
+    array-set-from-numbers
+    add-t
     loop-less
     loop-again
+    array-copy-out-result
+    returns
+    end-of-requires
+    end-of-requires-2
     stage-requires
-    returns)
+    returns-2)

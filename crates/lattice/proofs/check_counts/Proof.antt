@@ -4,20 +4,11 @@ use borrow.Author.Needs.{needs}
 use Rattle.lattice.proofs.check_counts.Statement.{statement}
 use Rattle.lattice.proofs.check_counts.Tie as tie
 
-array-read-check-count : tie.Need-array-read-check-count
-array-read-check-count c = search needs
-
 check-count-requires : tie.Need-check-count-requires
 check-count-requires c κs = search needs
 
-array-read-check-count-2 : tie.Need-array-read-check-count-2
-array-read-check-count-2 c = search needs
-
 check-count-requires-2 : tie.Need-check-count-requires-2
 check-count-requires-2 c κs = search needs
-
-array-read-check-count-3 : tie.Need-array-read-check-count-3
-array-read-check-count-3 c = search needs
 
 check-count-requires-3 : tie.Need-check-count-requires-3
 check-count-requires-3 c κs = search needs
@@ -36,11 +27,8 @@ pub check-counts-spec : {M : Type 1} → statement M
 check-counts-spec =
     tie.close
     (tie.spec
-    array-read-check-count
     check-count-requires
-    array-read-check-count-2
     check-count-requires-2
-    array-read-check-count-3
     check-count-requires-3
     earlier-requires
     earlier-requires-2

@@ -3,7 +3,7 @@ use mathlib.Core.Path.{ap₂}
 use mathlib.Core.List.{List}
 use lib.Dec.{eqb, leb}
 use borrow.Author.Tests.{eqb-true}
-use Rattle.lattice.specs.Outcome.{Check, done, refused, refuseUnless, first}
+use Rattle.lattice.specs.Outcome.{Check, done, refused, refuseUnless, first, firstOf}
 use Rattle.lattice.specs.Answer.{meaning}
 use Rattle.lattice.specs.Shape.{count, nodes, axesOutcome, countsOutcome, Shaped}
 use Rattle.lattice.specs.Records.{sampleLimit, limitOutcome}
@@ -59,11 +59,21 @@ module _ (n : ℕ) (cs : List ℕ) (xs : List ℤ) (room : ℕ) where
           ∙ sym (put-is ∙ first-passed shape _ e)
 
 -- the shape's tests
-shape-is : (b : tie.After-earlier) → meaning (b .earlier .result) ≡ shape (b .before .before .before .args .axes) (b .before .before .before .args .counts) (b .before .before .before .args .samples .now) (b .before .before .before .args .room)
+shape-is : (b : tie.After-earlier) → meaning (b .earlier .result) ≡ shape (b .before .before .before .args .axes) (b .before .before .before .args .t2) (b .before .before .before .args .samples .now) (b .before .before .before .args .room)
+unfolding countsOutcome firstOf
 shape-is b = b .earlier .ensures ∙ ap₂ first (b .before .before .check-axes .ensures) (b .before .check-counts .ensures)
 
 check-axes-requires : tie.Need-check-axes-requires
 check-axes-requires c κs = search needs
+
+array-read-check-counts : tie.Need-array-read-check-counts
+array-read-check-counts c = search needs
+
+array-read-check-counts-2 : tie.Need-array-read-check-counts-2
+array-read-check-counts-2 c = search needs
+
+array-read-check-counts-3 : tie.Need-array-read-check-counts-3
+array-read-check-counts-3 c = search needs
 
 check-counts-requires : tie.Need-check-counts-requires
 check-counts-requires c κs = search needs
@@ -81,7 +91,7 @@ node-count-requires : tie.Need-node-count-requires
 node-count-requires c κs =
     let b = c .before .before in
     let a = b .before .before .before .args in
-    is-shaped (a .axes) (a .counts) (a .samples .now) (a .room) (sym (shape-is b) ∙ ap meaning (c .enum-told .given .1))
+    is-shaped (a .axes) (a .t2) (a .samples .now) (a .room) (sym (shape-is b) ∙ ap meaning (c .enum-told .given .1))
 
 mul-needed : tie.Need-mul-needed
 mul-needed c = search needs
@@ -93,13 +103,13 @@ mul-needed-2 : tie.Need-mul-needed-2
 mul-needed-2 c =
     let b = c .before .before .before in
     let a = b .before .before .before .args in
-    omega (arith, few (a .axes) (a .counts) (a .samples .now) (a .room) (sym (shape-is b) ∙ ap meaning (c .before .enum-told .given .1)) (c .node-count .result) (c .node-count .ensures))
+    omega (arith, few (a .axes) (a .t2) (a .samples .now) (a .room) (sym (shape-is b) ∙ ap meaning (c .before .enum-told .given .1)) (c .node-count .result) (c .node-count .ensures))
 
 add-needed-2 : tie.Need-add-needed-2
 add-needed-2 c =
     let b = c .before .before .before in
     let a = b .before .before .before .args in
-    omega (arith, few (a .axes) (a .counts) (a .samples .now) (a .room) (sym (shape-is b) ∙ ap meaning (c .before .enum-told .given .1)) (c .node-count .result) (c .node-count .ensures))
+    omega (arith, few (a .axes) (a .t2) (a .samples .now) (a .room) (sym (shape-is b) ∙ ap meaning (c .before .enum-told .given .1)) (c .node-count .result) (c .node-count .ensures))
 
 refuse-unless-requires : tie.Need-refuse-unless-requires
 refuse-unless-requires c κs = search needs
@@ -121,7 +131,7 @@ returns c =
     let b = c .before .before .before in
     let a = b .before .before .before .args in
     let r = c .before .shape .given .0 .0 in
-    stopped (a .axes) (a .counts) (a .samples .now) (a .room) (r .number) (r .place) (sym (shape-is b) ∙ ap meaning (c .before .shape .given .1))
+    stopped (a .axes) (a .t2) (a .samples .now) (a .room) (r .number) (r .place) (sym (shape-is b) ∙ ap meaning (c .before .shape .given .1))
 
 returns-2 : tie.Need-returns-2
 returns-2 c =
@@ -130,13 +140,16 @@ returns-2 c =
     let a = b .before .before .before .args in
     c .earlier3 .ensures
     ∙ ap₂ first (c .before .before .before .before .refuse-unless .ensures) (c .before .earlier2 .ensures ∙ ap₂ first (c .before .before .before .refuse-unless2 .ensures) (c .before .before .check-limit .ensures))
-    ∙ passed (a .axes) (a .counts) (a .samples .now) (a .room) (sym (shape-is b) ∙ ap meaning (d .before .enum-told .given .1)) (d .node-count .result) (d .node-count .ensures) (omega (arith, b .before .before .before .good .1 .0))
+    ∙ passed (a .axes) (a .t2) (a .samples .now) (a .room) (sym (shape-is b) ∙ ap meaning (d .before .enum-told .given .1)) (d .node-count .result) (d .node-count .ensures) (omega (arith, b .before .before .before .good .1 .0))
 
 pub check-write-spec : {M : Type 1} → statement M
 check-write-spec =
     tie.close
     (tie.spec
     check-axes-requires
+    array-read-check-counts
+    array-read-check-counts-2
+    array-read-check-counts-3
     check-counts-requires
     earlier-requires
     enum-known-shape
