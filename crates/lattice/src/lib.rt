@@ -95,8 +95,13 @@ pub fn check_counts(n: u32, x: u32, y: u32, z: u32) -> Answer
 pub fn check_shape(s: Shape) -> Answer
     ensures { λ r. ⌜ meaning r ≡ shapeOutcome s ⌝ }
 {
-    let last = check_counts(s.axes, s.counts[0], s.counts[1], s.counts[2]);
-    earlier(check_axes(s.axes), earlier(check_degree(s.degree), last))
+    let axes = check_axes(s.axes);
+    let degree = check_degree(s.degree);
+    let kind = earlier(axes, degree);
+    if let Answer::Refused(_) = kind {
+        return kind;
+    }
+    check_counts(s.axes, s.counts[0], s.counts[1], s.counts[2])
 }
 
 // m, the numbers that a record holds along one axis.

@@ -82,15 +82,10 @@ module _ (s : Shape) (p : List ℤ) where
   unfolding positionStep
   no-step a l = let h = position-beyond a l in omega arith
 
-  -- the three tests of a position
-  pub together : (x y z xy all : Check) (u v w : ℤ) → all ≡ first xy z → xy ≡ first x y → x ≡ coordinateOutcome (count s 0) u 0 → y ≡ coordinateOutcome (count s 1) v 1 → z ≡ coordinateOutcome (count s 2) w 2
-      → u ≡ at p 0 → v ≡ at p 1 → w ≡ at p 2 → all ≡ firstOf 3 (positionOutcome s (positionAt p))
-  unfolding positionOutcome positionAt firstOf pick
-  together x y z xy all u v w f g h i j k l m =
-      f ∙ ap (λ (o : Check). first o z) g
-      ∙ ap (λ (o : Check). first (first o y) z) (h ∙ ap (λ (q : ℤ). coordinateOutcome (count s 0) q 0) k)
-      ∙ ap (λ (o : Check). first (first (coordinateOutcome (count s 0) (at p 0) 0) o) z) (i ∙ ap (λ (q : ℤ). coordinateOutcome (count s 1) q 1) l)
-      ∙ ap (λ (o : Check). first (first (coordinateOutcome (count s 0) (at p 0) 0) (coordinateOutcome (count s 1) (at p 1) 1)) o) (j ∙ ap (λ (q : ℤ). coordinateOutcome (count s 2) q 2) m)
+  -- the test of one coordinate
+  pub coordinate-is : (a : ℕ) → a < 3 → (z : ℤ) → z ≡ at p a → coordinateOutcome (count s a) z a ≡ positionOutcome s (positionAt p) a
+  unfolding positionOutcome positionAt
+  coordinate-is a l z e = ap (λ (q : ℤ). coordinateOutcome (count s a) q a) (e ∙ sym (pick-true (ltb a 3) (at p a) (pos 0) (lt-ltb a 3 l)))
 
   -- the in-cell step of a position whose cell is known
   module _ (cell : List ℕ) (is : placeAt cell ≡ positionCell s (positionAt p)) (a : ℕ) (l : a < 3) where
@@ -108,9 +103,3 @@ module _ (s : Shape) (p : List ℤ) where
     step-is d e =
         ap (λ (n : ℕ). n - 256 * getD cell a 0) e ∙ ap (λ (n : ℕ). natAbs (at p a) - 256 * n) cell-is
         ∙ ap (λ (z : ℤ). natAbs z - 256 * cellOf steps (count s a) (natAbs z)) (sym (pick-true (ltb a 3) (at p a) (pos 0) (lt-ltb a 3 l)))
-
--- ---- three tests in their order
-
-pub in-order : (x y z yz all f g h : Check) → all ≡ first x yz → yz ≡ first y z → x ≡ f → y ≡ g → z ≡ h → all ≡ first f (first g h)
-in-order x y z yz all f g h a b i j k =
-    a ∙ ap (λ (o : Check). first x o) b ∙ ap (λ (o : Check). first o (first y z)) i ∙ ap (λ (o : Check). first f (first o z)) j ∙ ap (λ (o : Check). first f (first g o)) k

@@ -106,9 +106,14 @@ fn check_position(s: Shape, p: [i32; 3]) -> Answer
     ensures { λ r. ⌜ meaning r ≡ firstOf 3 (positionOutcome s (positionAt p)) ⌝ }
 {
     let x = check_coordinate(s.counts[0], p[0], 0);
+    if let Answer::Refused(_) = x {
+        return x;
+    }
     let y = check_coordinate(s.counts[1], p[1], 1);
-    let z = check_coordinate(s.counts[2], p[2], 2);
-    lattice::earlier(lattice::earlier(x, y), z)
+    if let Answer::Refused(_) = y {
+        return y;
+    }
+    check_coordinate(s.counts[2], p[2], 2)
 }
 
 // The cell of a position on an axis of `count` nodes.
@@ -149,9 +154,14 @@ fn check_cell_query(s: Shape, given: usize, q: CellQuery) -> Answer
     let cell = q.cell;
     let step = q.step;
     let asked = check_asked(s, given, slope_axis);
+    if let Answer::Refused(_) = asked {
+        return asked;
+    }
     let here = cell::check_cell(s, cell);
-    let inside = check_steps(s, step);
-    lattice::earlier(asked, lattice::earlier(here, inside))
+    if let Answer::Refused(_) = here {
+        return here;
+    }
+    check_steps(s, step)
 }
 
 // Refusals 1, 2, 3, 4, 12 and 11 of a query by position.

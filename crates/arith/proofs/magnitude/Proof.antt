@@ -68,9 +68,6 @@ returns c =
     let f = c .before .fits .x in
     rw (kept (c .before .args .x) f (c .if1 .taken)) (one-more (c .before .args .x) f (c .if1 .taken))
 
-returns-2 : tie.Need-returns-2
-returns-2 c = search needs
-
 pub magnitude-spec : {M : Type 1} → statement M
 magnitude-spec =
-    tie.close (tie.spec sub-result cast-result add-result cast-result-2 returns returns-2)
+    tie.close (tie.spec sub-result cast-result add-result cast-result-2 returns (λ c. search needs))

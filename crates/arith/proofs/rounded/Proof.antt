@@ -43,27 +43,12 @@ module _ (x : ℤ) (k : ℕ) (f : SFits w64 x) (hk : k ≤ 61) (small : natAbs x
   ends : toZ w64 (ofZ w64 (shrZ (toZ w64 (ofZ w64 (toZ w64 (ofZ w64 x) +ℤ toZ w64 (1 * 2 ^ k % 18446744073709551616)))) (2 ^ (k + 1)))) ≡ roundHalfUp x (2 ^ (k + 1))
   ends = rw (toZ-ofZ f, half, toZ-ofZ sum-fits, toZ-ofZ (sfits-shr (x +ℤ pos (2 ^ k)) (2 ^ (k + 1)) sum-fits)) nearest
 
-cast-half : tie.Need-cast-half
-cast-half c = search needs
-
-shl-half : tie.Need-shl-half
-shl-half c = search needs
-
 add-result : tie.Need-add-result
 add-result c = raised (c .args .x) (c .args .k) (c .fits .x) (c .pre .0) (c .pre .1)
-
-add-result-2 : tie.Need-add-result-2
-add-result-2 c = search needs
-
-cast-result : tie.Need-cast-result
-cast-result c = search needs
-
-shr-result : tie.Need-shr-result
-shr-result c = search needs
 
 returns : tie.Need-returns
 returns c = ends (c .args .x) (c .args .k) (c .fits .x) (c .pre .0) (c .pre .1)
 
 pub rounded-spec : {M : Type 1} → statement M
 rounded-spec =
-    tie.close (tie.spec cast-half shl-half add-result add-result-2 cast-result shr-result returns)
+    tie.close (tie.spec (λ c. search needs) (λ c. search needs) add-result (λ c. search needs) (λ c. search needs) (λ c. search needs) returns)

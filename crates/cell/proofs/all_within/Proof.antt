@@ -51,9 +51,6 @@ returns c =
 add-c : tie.Need-add-c Inv-loop μ-loop
 add-c c = let r = c .before in let h = start r .pre .0 .1 in omega arith
 
-loop-less : tie.Need-loop-less Inv-loop μ-loop
-loop-less c = omega arith
-
 loop-again : tie.Need-loop-again Inv-loop μ-loop
 loop-again c =
     let r = c .before in
@@ -80,6 +77,6 @@ all-within-spec =
     record-within-requires
     returns
     add-c
-    loop-less
+    (λ c. omega arith)
     loop-again
     returns-2)

@@ -90,14 +90,8 @@ enum-told c = search needs
 returns : tie.Need-returns Inv-loop μ-loop
 returns c = stops (c .before .before) _ _ (ap meaning (c .enum-told .given .1))
 
-enum-told-2 : tie.Need-enum-told-2 Inv-loop μ-loop
-enum-told-2 c = search needs
-
 add-c : tie.Need-add-c Inv-loop μ-loop
 add-c c = let a = c .before .before .before .before .before .before in let h = inside a (c .before .before .before .before .before .loop-test .taken) in omega arith
-
-loop-less : tie.Need-loop-less Inv-loop μ-loop
-loop-less c = omega arith
 
 loop-again : tie.Need-loop-again Inv-loop μ-loop
 loop-again c =
@@ -126,8 +120,8 @@ check-corners-spec =
     check-record-requires
     enum-told
     returns
-    enum-told-2
+    (λ c. search needs)
     add-c
-    loop-less
+    (λ c. omega arith)
     loop-again
     returns-2)

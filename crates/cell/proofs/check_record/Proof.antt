@@ -21,32 +21,11 @@ loop-holds : tie.Need-loop-holds Inv-loop μ-loop
 unfolding firstOf
 loop-holds c = (omega arith, refl)
 
-add-beyond : tie.Need-add-beyond Inv-loop μ-loop
-add-beyond c = omega arith
-
-mul-beyond : tie.Need-mul-beyond Inv-loop μ-loop
-mul-beyond c = search needs
-
-shared-slice-copy-out-beyond : tie.Need-shared-slice-copy-out-beyond Inv-loop μ-loop
-shared-slice-copy-out-beyond c = omega arith
-
-mul-beyond-2 : tie.Need-mul-beyond-2 Inv-loop μ-loop
-mul-beyond-2 c = search needs
-
-element-copy-out-beyond : tie.Need-element-copy-out-beyond Inv-loop μ-loop
-element-copy-out-beyond c = omega arith
-
 beyond-requires : tie.Need-beyond-requires Inv-loop μ-loop
 beyond-requires c κs =
     let l = c .before .before .before in
     let a = l .before .args in
     rw (element (at (a .limits .now) (l .loop .e)) (c .beyond-arg2 .given)) (l .before .pre .2 (l .loop .e) (omega arith))
-
-add-refuse-unless : tie.Need-add-refuse-unless Inv-loop μ-loop
-add-refuse-unless c = omega arith
-
-refuse-unless-requires : tie.Need-refuse-unless-requires Inv-loop μ-loop
-refuse-unless-requires c κs = search needs
 
 returns : tie.Need-returns Inv-loop μ-loop
 unfolding recordOutcome
@@ -59,12 +38,6 @@ returns c =
     ∙ sym (firstOf-stops (a .n) (l .loop .e) (test (a .limits .now) (a .records .now) (a .start)) 5 (a .start + l .loop .e) (omega arith) (l .loop .inv .1)
     (test-stopped (a .limits .now) (a .records .now) (a .start) (l .loop .e)
     (sym (limit-told (a .limits .now) (a .records .now) (a .start) (l .loop .e) _ (b .before .before .beyond-arg .given) (b .before .beyond-arg2 .given) (b .beyond .ensures)) ∙ t .if1 .taken)))
-
-add-e : tie.Need-add-e Inv-loop μ-loop
-add-e c = omega arith
-
-loop-less : tie.Need-loop-less Inv-loop μ-loop
-loop-less c = omega arith
 
 loop-again : tie.Need-loop-again Inv-loop μ-loop
 loop-again c =
@@ -91,16 +64,16 @@ check-record-spec =
     Inv-loop
     μ-loop
     loop-holds
-    add-beyond
-    mul-beyond
-    shared-slice-copy-out-beyond
-    mul-beyond-2
-    element-copy-out-beyond
+    (λ c. omega arith)
+    (λ c. search needs)
+    (λ c. omega arith)
+    (λ c. search needs)
+    (λ c. omega arith)
     beyond-requires
-    add-refuse-unless
-    refuse-unless-requires
+    (λ c. omega arith)
+    (λ c κs. search needs)
     returns
-    add-e
-    loop-less
+    (λ c. omega arith)
+    (λ c. omega arith)
     loop-again
     returns-2)

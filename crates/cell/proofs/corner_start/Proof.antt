@@ -8,15 +8,6 @@ use Rattle.cell.proofs.corner_start.Tie as tie
 steps : (c : tie.Start) → Steps (c .args .t1) (c .args .c)
 steps c = small-steps (c .args .t1) (c .args .c) (c .pre)
 
-element-copy-out-x : tie.Need-element-copy-out-x
-element-copy-out-x c = search needs
-
-element-copy-out-y : tie.Need-element-copy-out-y
-element-copy-out-y c = search needs
-
-element-copy-out-z : tie.Need-element-copy-out-z
-element-copy-out-z c = search needs
-
 mul-result : tie.Need-mul-result
 mul-result c = omega (arith, steps (c .before .before .before))
 
@@ -35,20 +26,17 @@ add-result-2 c = omega (arith, steps (c .before .before .before))
 add-result-3 : tie.Need-add-result-3
 add-result-3 c = omega (arith, steps (c .before .before .before), c .before .before .before .pre .1 .base-low)
 
-returns : tie.Need-returns
-returns c = search needs
-
 pub corner-start-spec : {M : Type 1} → statement M
 corner-start-spec =
     tie.close
     (tie.spec
-    element-copy-out-x
-    element-copy-out-y
-    element-copy-out-z
+    (λ c. search needs)
+    (λ c. search needs)
+    (λ c. search needs)
     mul-result
     mul-result-2
     mul-result-3
     add-result
     add-result-2
     add-result-3
-    returns)
+    (λ c. search needs))

@@ -64,9 +64,6 @@ three b f g = let l = b .pre .0 .0 .axes-low in let h = b .pre .0 .0 .axes-high 
 quintic : (b : tie.Start) → (b .args .l .orders ≡ 2 → ⊥) → b .args .l .orders ≡ 3
 quintic b f = let r = orders-range (b .args .s .degree) in let e = b .pre .1 .1 .orders-are in omega (arith, f)
 
-entry-limits-requires : tie.Need-entry-limits-requires
-entry-limits-requires c κs = search needs
-
 facts : (c : tie.After-limits) → let e = c .before .before in Called (e .before .before .before) (e .entry-limits .result) 2 2
 facts c =
     let e = c .before .before in
@@ -99,9 +96,6 @@ all-within-requires-3 c κs = (facts-3 c .asked, facts-3 c .within)
 
 returns-3 : tie.Need-returns-3
 returns-3 c = c .all-within3 .ensures ∙ facts-3 (c .before) .same
-
-entry-limits-requires-2 : tie.Need-entry-limits-requires-2
-entry-limits-requires-2 c κs = search needs
 
 facts-4 : (c : tie.After-limits4) → let e = c .before .before in Called (e .before .before .before) (e .entry-limits2 .result) 3 2
 facts-4 c =
@@ -140,14 +134,14 @@ pub corners-within-spec : {M : Type 1} → statement M
 corners-within-spec =
     tie.close
     (tie.spec
-    entry-limits-requires
+    (λ c κs. search needs)
     all-within-requires
     returns
     all-within-requires-2
     returns-2
     all-within-requires-3
     returns-3
-    entry-limits-requires-2
+    (λ c κs. search needs)
     all-within-requires-4
     returns-4
     all-within-requires-5

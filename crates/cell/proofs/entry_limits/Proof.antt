@@ -33,15 +33,9 @@ by-test m n row e l t =
     whole (pos n) h = refl
     whole (negsuc n) h = absurd h
 
-array-copy-out-result : tie.Need-array-copy-out-result
-array-copy-out-result c = search needs
-
 returns : tie.Need-returns
 unfolding right all limitOf cubic quintic
 returns c = λ e l. by-test 2 8 cubic e (subst (λ (m : ℕ). e < m ^ 3) (c .before .if1 .taken) l) tt ∙ ap (λ (m : ℕ). pos (limitOf m e)) (sym (c .before .if1 .taken))
-
-array-copy-out-result-2 : tie.Need-array-copy-out-result-2
-array-copy-out-result-2 c = search needs
 
 returns-2 : tie.Need-returns-2
 unfolding right all limitOf cubic quintic
@@ -51,4 +45,4 @@ returns-2 c = λ e l.
 
 pub entry-limits-spec : {M : Type 1} → statement M
 entry-limits-spec =
-    tie.close (tie.spec array-copy-out-result returns array-copy-out-result-2 returns-2)
+    tie.close (tie.spec (λ c. search needs) returns (λ c. search needs) returns-2)

@@ -45,39 +45,6 @@ module _ (s : Shape) (ok : Shaped s) (cell : List ℕ) (here : Accepted s (place
   sheet : count s 1 * (count s 0 * size) ≤ 64 * (64 * 27)
   sheet = mul-le-mul {m₂ = 1728} (ok .high 1 (lit< tt)) line
 
-record-entries-requires : tie.Need-record-entries-requires
-record-entries-requires c κs = search needs
-
-element-copy-out-rows : tie.Need-element-copy-out-rows
-element-copy-out-rows c = search needs
-
-cast-rows : tie.Need-cast-rows
-cast-rows c = search needs
-
-element-copy-out-planes : tie.Need-element-copy-out-planes
-element-copy-out-planes c = search needs
-
-cast-planes : tie.Need-cast-planes
-cast-planes c = search needs
-
-array-read-node : tie.Need-array-read-node
-array-read-node c = search needs
-
-cast-node : tie.Need-cast-node
-cast-node c = search needs
-
-array-read-node-2 : tie.Need-array-read-node-2
-array-read-node-2 c = search needs
-
-cast-node-2 : tie.Need-cast-node-2
-cast-node-2 c = search needs
-
-array-read-node-3 : tie.Need-array-read-node-3
-array-read-node-3 c = search needs
-
-cast-node-3 : tie.Need-cast-node-3
-cast-node-3 c = search needs
-
 mul-node : tie.Need-mul-node
 unfolding placeAt count pick
 mul-node c = let b = c .before .before in omega (arith, plane (b .before .args .t1) (b .before .pre .0) (b .before .args .t2) (b .before .pre .1) _ (b .record-entries .ensures))
@@ -93,9 +60,6 @@ mul-node-2 c = let b = c .before .before in omega (arith, row (b .before .args .
 add-node-2 : tie.Need-add-node-2
 unfolding placeAt count pick
 add-node-2 c = let b = c .before .before in omega (arith, node (b .before .args .t1) (b .before .pre .0) (b .before .args .t2) (b .before .pre .1) _ (b .record-entries .ensures))
-
-orders-requires : tie.Need-orders-requires
-orders-requires c κs = search needs
 
 mul-t27 : tie.Need-mul-t27
 unfolding placeAt count pick
@@ -132,22 +96,22 @@ pub lay-out-spec : {M : Type 1} → statement M
 lay-out-spec =
     tie.close
     (tie.spec
-    record-entries-requires
-    element-copy-out-rows
-    cast-rows
-    element-copy-out-planes
-    cast-planes
-    array-read-node
-    cast-node
-    array-read-node-2
-    cast-node-2
-    array-read-node-3
-    cast-node-3
+    (λ c κs. search needs)
+    (λ c. search needs)
+    (λ c. search needs)
+    (λ c. search needs)
+    (λ c. search needs)
+    (λ c. search needs)
+    (λ c. search needs)
+    (λ c. search needs)
+    (λ c. search needs)
+    (λ c. search needs)
+    (λ c. search needs)
     mul-node
     add-node
     mul-node-2
     add-node-2
-    orders-requires
+    (λ c κs. search needs)
     mul-t27
     mul-t26
     mul-t25

@@ -26,21 +26,6 @@ loop-holds : tie.Need-loop-holds Inv-loop μ-loop
 unfolding firstOf
 loop-holds c = (omega arith, refl)
 
-add-beyond : tie.Need-add-beyond Inv-loop μ-loop
-add-beyond c = omega arith
-
-mul-beyond : tie.Need-mul-beyond Inv-loop μ-loop
-mul-beyond c = search needs
-
-shared-slice-copy-out-beyond : tie.Need-shared-slice-copy-out-beyond Inv-loop μ-loop
-shared-slice-copy-out-beyond c = omega arith
-
-mul-beyond-2 : tie.Need-mul-beyond-2 Inv-loop μ-loop
-mul-beyond-2 c = search needs
-
-element-copy-out-beyond : tie.Need-element-copy-out-beyond Inv-loop μ-loop
-element-copy-out-beyond c = omega arith
-
 beyond-requires : tie.Need-beyond-requires Inv-loop μ-loop
 beyond-requires c κs =
     let l = c .before .before .before in
@@ -49,9 +34,6 @@ beyond-requires c κs =
 
 add-e : tie.Need-add-e Inv-loop μ-loop
 add-e c = let l = c .before .before .before .before .before in omega arith
-
-loop-less : tie.Need-loop-less Inv-loop μ-loop
-loop-less c = omega arith
 
 loop-again : tie.Need-loop-again Inv-loop μ-loop
 loop-again c =
@@ -79,13 +61,13 @@ record-within-spec =
     Inv-loop
     μ-loop
     loop-holds
-    add-beyond
-    mul-beyond
-    shared-slice-copy-out-beyond
-    mul-beyond-2
-    element-copy-out-beyond
+    (λ c. omega arith)
+    (λ c. search needs)
+    (λ c. omega arith)
+    (λ c. search needs)
+    (λ c. omega arith)
     beyond-requires
     add-e
-    loop-less
+    (λ c. omega arith)
     loop-again
     returns)

@@ -8,24 +8,6 @@ use borrow.Author.Needs.{needs}
 use Rattle.claims.proofs.ask.Statement.{statement}
 use Rattle.claims.proofs.ask.Tie as tie
 
-enum-known-q : tie.Need-enum-known-q
-enum-known-q c = search needs
-
-by-position-requires : tie.Need-by-position-requires
-by-position-requires c κs = search needs
-
-enum-known-q-2 : tie.Need-enum-known-q-2
-enum-known-q-2 c = search needs
-
-by-cell-requires : tie.Need-by-cell-requires
-by-cell-requires c κs = search needs
-
-enum-known-q-3 : tie.Need-enum-known-q-3
-enum-known-q-3 c = search needs
-
-at-float-requires : tie.Need-at-float-requires
-at-float-requires c κs = search needs
-
 returns : tie.Need-returns
 unfolding queried
 returns c =
@@ -51,12 +33,12 @@ pub ask-spec : {M : Type 1} → statement M
 ask-spec =
     tie.close
     (tie.spec
-    enum-known-q
-    by-position-requires
-    enum-known-q-2
-    by-cell-requires
-    enum-known-q-3
-    at-float-requires
+    (λ c. search needs)
+    (λ c κs. search needs)
+    (λ c. search needs)
+    (λ c κs. search needs)
+    (λ c. search needs)
+    (λ c κs. search needs)
     returns
     returns-2
     returns-3)

@@ -12,9 +12,6 @@ use Rattle.claims.proofs.by_position.Tie as tie
 three : (x y z u v w : ℤ) → x ≡ u → y ≡ v → z ≡ w → _≡_ {A = List ℤ} (x ∷ y ∷ z ∷ []) (u ∷ v ∷ w ∷ [])
 three x y z u v w e f g = ap₂ (λ (a b : ℤ). a ∷ b ∷ z ∷ []) e f ∙ ap (λ (c : ℤ). u ∷ v ∷ c ∷ []) g
 
-at-position-requires : tie.Need-at-position-requires
-at-position-requires c κs = search needs
-
 returns : tie.Need-returns
 returns c =
     let b = c .before .before in
@@ -25,4 +22,4 @@ returns c =
     (three _ _ _ (a .p .x) (a .p .y) (a .p .z) (element (a .p .x) (g .0 .1)) (element (a .p .y) (g .1 .0 .1)) (element (a .p .z) (g .1 .1 .0 .1)))
 
 pub by-position-spec : {M : Type 1} → statement M
-by-position-spec = tie.close (tie.spec at-position-requires returns)
+by-position-spec = tie.close (tie.spec (λ c κs. search needs) returns)

@@ -34,12 +34,6 @@ module _ (c : tie.After-enum-told) where
   taken : AcceptedTable (start .args .s) (start .args .samples .now) (start .args .records .now)
   taken = sym (c .before .before .before .estimate .ensures .0) ∙ ap meaning (c .enum-told .given .1)
 
-estimate-requires : tie.Need-estimate-requires
-estimate-requires c κs = search needs
-
-enum-known-answer : tie.Need-enum-known-answer
-enum-known-answer c = search needs
-
 enum-told : tie.Need-enum-told
 enum-told c = search needs
 
@@ -54,12 +48,6 @@ slice-reshare-prefix-ask c =
 slice-aggregate-ask : tie.Need-slice-aggregate-ask
 slice-aggregate-ask c = simp length-take (let h = slice-reshare-prefix-ask (c .before) in omega arith)
 
-ask-requires : tie.Need-ask-requires
-ask-requires c κs = search needs
-
-same-length : tie.Need-same-length
-same-length c = search needs
-
 returns : tie.Need-returns
 returns c =
     let b = c .before .before .before .before .before .before in
@@ -67,9 +55,6 @@ returns c =
     let e = c .before .before .before .before .estimate .ensures in
     let g = ap (inFloat (want b)) (both-refused (a .s) (a .samples .now) (a .records .now) (want b) (question b) (sym (e .0) ∙ ap meaning (c .before .answer .given .1))) in
     (g, (e .1, claimed-told (a .s) (a .samples .now) (a .records .now) (want b) (question b) _ g))
-
-same-length-2 : tie.Need-same-length-2
-same-length-2 c = search needs
 
 returns-2 : tie.Need-returns-2
 returns-2 c =
@@ -86,14 +71,14 @@ pub estimate-and-ask-spec : {M : Type 1} → statement M
 estimate-and-ask-spec =
     tie.close
     (tie.spec
-    estimate-requires
-    enum-known-answer
+    (λ c κs. search needs)
+    (λ c. search needs)
     enum-told
     table-entries-requires
     slice-reshare-prefix-ask
     slice-aggregate-ask
-    ask-requires
-    same-length
+    (λ c κs. search needs)
+    (λ c. search needs)
     returns
-    same-length-2
+    (λ c. search needs)
     returns-2)

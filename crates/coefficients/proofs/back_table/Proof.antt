@@ -54,21 +54,6 @@ module _ (c : tie.After-s) where
   abbrev d : tie.After-multipliers2
   d = c .before .before .before
 
-multipliers-requires : tie.Need-multipliers-requires
-multipliers-requires c κs = search needs
-
-multipliers-requires-2 : tie.Need-multipliers-requires-2
-multipliers-requires-2 c κs = search needs
-
-array-copy-out-p : tie.Need-array-copy-out-p
-array-copy-out-p c = search needs
-
-array-copy-out-q : tie.Need-array-copy-out-q
-array-copy-out-q c = search needs
-
-array-copy-out-s : tie.Need-array-copy-out-s
-array-copy-out-s c = search needs
-
 sub-t10 : tie.Need-sub-t10
 sub-t10 c = minus-fits (S c .args .m) (S c .pre .0) (S c .pre .1) _ _ _ (b c .multipliers .ensures 0) (d c .multipliers2 .ensures 0) (d c .multipliers2 .ensures 1)
 
@@ -93,11 +78,11 @@ pub back-table-spec : {M : Type 1} → statement M
 back-table-spec =
     tie.close
     (tie.spec
-    multipliers-requires
-    multipliers-requires-2
-    array-copy-out-p
-    array-copy-out-q
-    array-copy-out-s
+    (λ c κs. search needs)
+    (λ c κs. search needs)
+    (λ c. search needs)
+    (λ c. search needs)
+    (λ c. search needs)
     sub-t10
     mul-t15
     sub-t16

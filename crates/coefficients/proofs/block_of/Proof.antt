@@ -21,12 +21,6 @@ module _ (n d m g : ℕ) (low : 1 ≤ n) (high : n ≤ 3) (hm : m ≡ ordersOf d
   entries-low : m * g ≤ 27
   entries-low = rw entries-are (pow-range 3 m n (range .1) high (lit< tt))
 
-orders-requires : tie.Need-orders-requires
-orders-requires c κs = search needs
-
-sub-power : tie.Need-sub-power
-sub-power c = search needs
-
 power-requires : tie.Need-power-requires
 power-requires c κs = let h = orders-range (c .before .args .degree) in let e = c .orders .ensures in (omega arith, omega arith)
 
@@ -50,4 +44,4 @@ returns c =
     )
 
 pub block-of-spec : {M : Type 1} → statement M
-block-of-spec = tie.close (tie.spec orders-requires sub-power power-requires mul-t6 returns)
+block-of-spec = tie.close (tie.spec (λ c κs. search needs) (λ c. search needs) power-requires mul-t6 returns)

@@ -93,9 +93,6 @@ store-requires c κs =
 add-c : tie.Need-add-c Inv-loop μ-loop
 add-c c = let h = few (c .before .before .before .before .before .before) in omega arith
 
-loop-less : tie.Need-loop-less Inv-loop μ-loop
-loop-less c = omega arith
-
 loop-again : tie.Need-loop-again Inv-loop μ-loop
 loop-again c =
     let i = c .before .before .before .before .before .before in
@@ -129,6 +126,6 @@ cell-coefficients-spec =
     corner-block-requires
     store-requires
     add-c
-    loop-less
+    (λ c. omega arith)
     loop-again
     returns)

@@ -13,9 +13,6 @@ use borrow.Author.Needs.{needs}
 use Rattle.coefficients.proofs.check_asked.Statement.{statement}
 use Rattle.coefficients.proofs.check_asked.Tie as tie
 
-check-shape-requires : tie.Need-check-shape-requires
-check-shape-requires c κs = search needs
-
 enum-told : tie.Need-enum-told
 enum-told c = search needs
 
@@ -26,17 +23,8 @@ returns c =
     let e = ap meaning (c .enum-told .given .1) in
     e ∙ sym (refused-first _ (sym (b .check-shape .ensures) ∙ e))
 
-enum-told-2 : tie.Need-enum-told-2
-enum-told-2 c = search needs
-
 check-sizes-requires : tie.Need-check-sizes-requires
 check-sizes-requires c κs = let b = c .before .before in shaped (b .before .args .s) (sym (b .check-shape .ensures) ∙ ap meaning (c .enum-told2 .given .1))
-
-check-cell-requires : tie.Need-check-cell-requires
-check-cell-requires c κs = search needs
-
-earlier-requires : tie.Need-earlier-requires
-earlier-requires c κs = search needs
 
 returns-2 : tie.Need-returns-2
 unfolding askedOutcome
@@ -52,11 +40,11 @@ pub check-asked-spec : {M : Type 1} → statement M
 check-asked-spec =
     tie.close
     (tie.spec
-    check-shape-requires
+    (λ c κs. search needs)
     enum-told
     returns
-    enum-told-2
+    (λ c. search needs)
     check-sizes-requires
-    check-cell-requires
-    earlier-requires
+    (λ c κs. search needs)
+    (λ c κs. search needs)
     returns-2)

@@ -8,24 +8,6 @@ use borrow.Author.Needs.{needs}
 use Rattle.coefficients.proofs.check_sizes.Statement.{statement}
 use Rattle.coefficients.proofs.check_sizes.Tie as tie
 
-table-entries-requires : tie.Need-table-entries-requires
-table-entries-requires c κs = search needs
-
-block-of-requires : tie.Need-block-of-requires
-block-of-requires c κs = search needs
-
-coefficient-count-requires : tie.Need-coefficient-count-requires
-coefficient-count-requires c κs = search needs
-
-refuse-unless-requires : tie.Need-refuse-unless-requires
-refuse-unless-requires c κs = search needs
-
-refuse-unless-requires-2 : tie.Need-refuse-unless-requires-2
-refuse-unless-requires-2 c κs = search needs
-
-earlier-requires : tie.Need-earlier-requires
-earlier-requires c κs = search needs
-
 returns : tie.Need-returns
 returns c =
     let s = c .before .before .before .before .before .before in
@@ -39,10 +21,10 @@ pub check-sizes-spec : {M : Type 1} → statement M
 check-sizes-spec =
     tie.close
     (tie.spec
-    table-entries-requires
-    block-of-requires
-    coefficient-count-requires
-    refuse-unless-requires
-    refuse-unless-requires-2
-    earlier-requires
+    (λ c κs. search needs)
+    (λ c κs. search needs)
+    (λ c κs. search needs)
+    (λ c κs. search needs)
+    (λ c κs. search needs)
+    (λ c κs. search needs)
     returns)

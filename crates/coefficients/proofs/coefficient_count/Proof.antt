@@ -4,14 +4,8 @@ use borrow.Author.Needs.{needs}
 use Rattle.coefficients.proofs.coefficient_count.Statement.{statement}
 use Rattle.coefficients.proofs.coefficient_count.Tie as tie
 
-mul-power : tie.Need-mul-power
-mul-power c = search needs
-
-power-requires : tie.Need-power-requires
-power-requires c κs = search needs
-
 returns : tie.Need-returns
 returns c = (c .power .ensures, rw (c .power .ensures) (count-low (c .before .before .args .b) (c .before .before .pre)))
 
 pub coefficient-count-spec : {M : Type 1} → statement M
-coefficient-count-spec = tie.close (tie.spec mul-power power-requires returns)
+coefficient-count-spec = tie.close (tie.spec (λ c. search needs) (λ c κs. search needs) returns)

@@ -44,9 +44,6 @@ module _ (c : tie.After-enum-told4) where
   tested : cornersOutcome (start two .args .s) (now (start two .args .records)) (placeAt (start two .args .cell)) ≡ done tt
   tested = sym (c .before .before .check-corners .ensures) ∙ ap meaning (c .enum-told4 .given .1)
 
-check-asked-requires : tie.Need-check-asked-requires
-check-asked-requires c κs = search needs
-
 enum-told : tie.Need-enum-told
 enum-told c = search needs
 
@@ -58,17 +55,11 @@ returns c =
     let h = refused-first (cornersOutcome (a .s) (now (a .records)) (placeAt (a .cell))) (sym (gate c .check-asked .ensures) ∙ e) in
     (e ∙ sym h, when-refused (overwrite (coefficientList (orders (a .s)) (a .s .axes) (placeAt (a .cell)) (recordsField (a .s) (now (a .records)))) (now (a .out))) (now (a .out)) h)
 
-enum-told-2 : tie.Need-enum-told-2
-enum-told-2 c = search needs
-
 lay-out-requires : tie.Need-lay-out-requires
 lay-out-requires c κs = (facts c .shape, facts c .here)
 
 check-corners-requires : tie.Need-check-corners-requires
 check-corners-requires c κs = let f = facts (c .before) in ((f .shape, f .many), (f .here, c .lay-out .ensures))
-
-enum-told-3 : tie.Need-enum-told-3
-enum-told-3 c = search needs
 
 returns-2 : tie.Need-returns-2
 unfolding coefficientsOutcome coefficientsWrites
@@ -79,9 +70,6 @@ returns-2 c =
     let e = ap meaning (c .enum-told3 .given .1) in
     let h = first-passed (askedOutcome (a .s) (length (now (a .records))) (placeAt (a .cell)) (length (now (a .out)))) (cornersOutcome (a .s) (now (a .records)) (placeAt (a .cell))) (passed t) ∙ sym (d .check-corners .ensures) ∙ e in
     (e ∙ sym h, when-refused (overwrite (coefficientList (orders (a .s)) (a .s .axes) (placeAt (a .cell)) (recordsField (a .s) (now (a .records)))) (now (a .out))) (now (a .out)) h)
-
-enum-told-4 : tie.Need-enum-told-4
-enum-told-4 c = search needs
 
 block-of-requires : tie.Need-block-of-requires
 block-of-requires c κs = let f = facts (two c) .shape in (f .axes-low, f .axes-high)
@@ -94,9 +82,6 @@ cell-coefficients-requires c κs =
     let l = d .before .before .before .lay-out in
     (c .block-of .ensures .0, corners-gathered (a .s) (f .shape) (placeAt (a .cell)) (f .here) (now (a .records)) (f .many) (l .result) (l .ensures) (tested d) (c .block-of .result) (c .block-of .ensures .0) (c .block-of .ensures .1) (c .block-of .ensures .2))
 
-coefficient-count-requires : tie.Need-coefficient-count-requires
-coefficient-count-requires c κs = search needs
-
 copy-out-requires : tie.Need-copy-out-requires
 copy-out-requires c κs =
     let d = c .before .before .before .before .before in
@@ -105,9 +90,6 @@ copy-out-requires c κs =
     let n = c .before .before .coefficient-count .ensures in
     let e = ap₂ coefficientCount (b .ensures .2) (b .ensures .1) in
     (n .1, omega arith)
-
-same-length : tie.Need-same-length
-same-length c = search needs
 
 returns-3 : tie.Need-returns-3
 unfolding coefficientsOutcome coefficientsWrites
@@ -130,18 +112,18 @@ pub coefficients-spec : {M : Type 1} → statement M
 coefficients-spec =
     tie.close
     (tie.spec
-    check-asked-requires
+    (λ c κs. search needs)
     enum-told
     returns
-    enum-told-2
+    (λ c. search needs)
     lay-out-requires
     check-corners-requires
-    enum-told-3
+    (λ c. search needs)
     returns-2
-    enum-told-4
+    (λ c. search needs)
     block-of-requires
     cell-coefficients-requires
-    coefficient-count-requires
+    (λ c κs. search needs)
     copy-out-requires
-    same-length
+    (λ c. search needs)
     returns-3)

@@ -31,9 +31,6 @@ convert-axis-requires c κs =
 add-a : tie.Need-add-a Inv-loop μ-loop
 add-a c = let h = c .before .before .before .before .pre .0 .axes-high in omega arith
 
-loop-less : tie.Need-loop-less Inv-loop μ-loop
-loop-less c = omega arith
-
 loop-again : tie.Need-loop-again Inv-loop μ-loop
 loop-again c =
     let s = c .before .before .before .before in
@@ -58,4 +55,4 @@ returns c = (λ k l. last c k l ∙ after-all (S c .args .b) (S c .pre .0) (at (
 pub convert-spec : {M : Type 1} → statement M
 convert-spec =
     tie.close
-    (tie.spec Inv-loop μ-loop loop-holds convert-axis-requires add-a loop-less loop-again returns)
+    (tie.spec Inv-loop μ-loop loop-holds convert-axis-requires add-a (λ c. omega arith) loop-again returns)

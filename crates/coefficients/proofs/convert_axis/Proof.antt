@@ -29,9 +29,6 @@ convert-row-requires c κs = let w = c .before .before .loop in let p = c .befor
 add-k : tie.Need-add-k Inv-loop μ-loop
 add-k c = let h = c .before .before .before .before .pre .0 .orders-high in omega arith
 
-loop-less : tie.Need-loop-less Inv-loop μ-loop
-loop-less c = omega arith
-
 loop-again : tie.Need-loop-again Inv-loop μ-loop
 loop-again c = (omega arith, c .convert-row .ensures .0, c .convert-row .ensures .1)
 
@@ -45,4 +42,4 @@ returns c i l =
 pub convert-axis-spec : {M : Type 1} → statement M
 convert-axis-spec =
     tie.close
-    (tie.spec Inv-loop μ-loop loop-holds convert-row-requires add-k loop-less loop-again returns)
+    (tie.spec Inv-loop μ-loop loop-holds convert-row-requires add-k (λ c. omega arith) loop-again returns)

@@ -75,9 +75,6 @@ element-set-from-z c = spot-in (c .before)
 add-g : tie.Need-add-g Inv-loop μ-loop
 add-g c = let h = spot-in (c .before) in omega arith
 
-loop-less : tie.Need-loop-less Inv-loop μ-loop
-loop-less c = omega arith
-
 loop-again : tie.Need-loop-again Inv-loop μ-loop
 loop-again c =
     let a = s (c .before) .args in
@@ -111,6 +108,6 @@ convert-row-spec =
     mul-z-2
     element-set-from-z
     add-g
-    loop-less
+    (λ c. omega arith)
     loop-again
     returns)

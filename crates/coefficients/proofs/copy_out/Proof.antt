@@ -35,9 +35,6 @@ slice-set-from-out c = let s = c .before .before .before in let w = c .before .b
 add-k : tie.Need-add-k Inv-loop μ-loop
 add-k c = let h = c .before .before .before .pre in omega arith
 
-loop-less : tie.Need-loop-less Inv-loop μ-loop
-loop-less c = omega arith
-
 loop-again : tie.Need-loop-again Inv-loop μ-loop
 loop-again c = let s = c .before .before .before in let w = c .before .before .loop in (omega arith, filled-more (at (s .args .xs .now)) (s .args .out .now) (w .k) (w .out) _ (pos 0) (omega arith) (w .inv .1) (toZ-ofZ (sfits-of (c .out .given))))
 
@@ -63,7 +60,7 @@ copy-out-spec =
     mul-t10
     slice-set-from-out
     add-k
-    loop-less
+    (λ c. omega arith)
     loop-again
     same-length
     returns)

@@ -10,12 +10,6 @@ use borrow.Author.Needs.{needs}
 use Rattle.coefficients.proofs.corner_block.Statement.{statement}
 use Rattle.coefficients.proofs.corner_block.Tie as tie
 
-load-requires : tie.Need-load-requires
-load-requires c κs = search needs
-
-convert-requires : tie.Need-convert-requires
-convert-requires c κs = search needs
-
 returns : tie.Need-returns
 unfolding blockNumber
 returns c k l =
@@ -27,4 +21,4 @@ returns c k l =
     (λ j q. c .before .load .ensures .0 j (rw e q)) k (subst (λ (i : ℕ). k < i) e l)
 
 pub corner-block-spec : {M : Type 1} → statement M
-corner-block-spec = tie.close (tie.spec load-requires convert-requires returns)
+corner-block-spec = tie.close (tie.spec (λ c κs. search needs) (λ c κs. search needs) returns)

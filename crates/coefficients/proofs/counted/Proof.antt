@@ -24,15 +24,6 @@ high m e o l k n =
     let z : m * e + o ≡ m + o = rw one (omega arith) in
     rw z (let d : 3 * m - 1 - (m + o) ≡ 2 * m - 1 - o = omega arith in sym (pick-false (ltb (m + o) m) (m + o) (3 * m - 1 - (m + o)) (le-ltb (m + o) m (omega arith)) ∙ d))
 
-mul-result : tie.Need-mul-result
-mul-result c = search needs
-
-sub-result : tie.Need-sub-result
-sub-result c = search needs
-
-sub-result-2 : tie.Need-sub-result-2
-sub-result-2 c = search needs
-
 returns : tie.Need-returns
 returns c = let s = c .before in (low (s .args .m) (s .args .e) (s .args .o) (s .pre .2) (c .if1 .taken), omega arith)
 
@@ -40,4 +31,4 @@ returns-2 : tie.Need-returns-2
 returns-2 c = let s = c .before in (high (s .args .m) (s .args .e) (s .args .o) (s .pre .2) (s .pre .1) (c .if1 .left), omega arith)
 
 pub counted-spec : {M : Type 1} → statement M
-counted-spec = tie.close (tie.spec mul-result sub-result sub-result-2 returns returns-2)
+counted-spec = tie.close (tie.spec (λ c. search needs) (λ c. search needs) (λ c. search needs) returns returns-2)

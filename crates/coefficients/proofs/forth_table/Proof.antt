@@ -26,42 +26,6 @@ module _ (m : ℕ) (m2 : 2 ≤ m) (m3 : m ≤ 3) (a b c : ℕ → ℤ) (ha : (o 
       let z = entry 2 (lit< tt) c hc in
       rw (x 0 (lit< tt), x 1 (lit< tt), x 2 (lit< tt), y 0 (lit< tt), y 1 (lit< tt), y 2 (lit< tt), z 0 (lit< tt), z 1 (lit< tt), z 2 (lit< tt)) refl
 
-multipliers-requires : tie.Need-multipliers-requires
-multipliers-requires c κs = search needs
-
-multipliers-requires-2 : tie.Need-multipliers-requires-2
-multipliers-requires-2 c κs = search needs
-
-multipliers-requires-3 : tie.Need-multipliers-requires-3
-multipliers-requires-3 c κs = search needs
-
-array-copy-out-t8 : tie.Need-array-copy-out-t8
-array-copy-out-t8 c = search needs
-
-array-copy-out-t11 : tie.Need-array-copy-out-t11
-array-copy-out-t11 c = search needs
-
-array-copy-out-t14 : tie.Need-array-copy-out-t14
-array-copy-out-t14 c = search needs
-
-array-copy-out-t17 : tie.Need-array-copy-out-t17
-array-copy-out-t17 c = search needs
-
-array-copy-out-t20 : tie.Need-array-copy-out-t20
-array-copy-out-t20 c = search needs
-
-array-copy-out-t23 : tie.Need-array-copy-out-t23
-array-copy-out-t23 c = search needs
-
-array-copy-out-t26 : tie.Need-array-copy-out-t26
-array-copy-out-t26 c = search needs
-
-array-copy-out-t29 : tie.Need-array-copy-out-t29
-array-copy-out-t29 c = search needs
-
-array-copy-out-t32 : tie.Need-array-copy-out-t32
-array-copy-out-t32 c = search needs
-
 returns : tie.Need-returns
 returns c =
     let b = c .before .before .before .before .before .before .before .before .before in
@@ -73,16 +37,16 @@ pub forth-table-spec : {M : Type 1} → statement M
 forth-table-spec =
     tie.close
     (tie.spec
-    multipliers-requires
-    multipliers-requires-2
-    multipliers-requires-3
-    array-copy-out-t8
-    array-copy-out-t11
-    array-copy-out-t14
-    array-copy-out-t17
-    array-copy-out-t20
-    array-copy-out-t23
-    array-copy-out-t26
-    array-copy-out-t29
-    array-copy-out-t32
+    (λ c κs. search needs)
+    (λ c κs. search needs)
+    (λ c κs. search needs)
+    (λ c. search needs)
+    (λ c. search needs)
+    (λ c. search needs)
+    (λ c. search needs)
+    (λ c. search needs)
+    (λ c. search needs)
+    (λ c. search needs)
+    (λ c. search needs)
+    (λ c. search needs)
     returns)

@@ -53,9 +53,6 @@ array-set-from-xs c = let h = entries-low (c .before .before .before .before .ar
 add-k : tie.Need-add-k Inv-loop μ-loop
 add-k c = let h = entries-low (c .before .before .before .before .args .b) (c .before .before .before .before .pre .0) in omega arith
 
-loop-less : tie.Need-loop-less Inv-loop μ-loop
-loop-less c = omega arith
-
 loop-again : tie.Need-loop-again Inv-loop μ-loop
 loop-again c =
     let s = c .before .before .before .before in
@@ -94,6 +91,6 @@ load-spec =
     mul-xs
     array-set-from-xs
     add-k
-    loop-less
+    (λ c. omega arith)
     loop-again
     returns)

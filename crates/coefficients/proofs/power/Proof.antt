@@ -24,12 +24,6 @@ loop-holds c = (omega arith, sym (pow-zero (c .args .b)))
 mul-r : tie.Need-mul-r Inv-loop μ-loop
 mul-r c = fits-le (subst (λ (x : ℕ). x ≤ 6 ^ 3) (sym (next c)) (le-trans (pow-le-pow-left (c .before .before .pre .0) (suc (c .before .loop .i))) (pow-le-pow-right {n = 6} (lit< tt) {j = 3} (omega arith)))) (fits-lit tt)
 
-add-i : tie.Need-add-i Inv-loop μ-loop
-add-i c = omega arith
-
-loop-less : tie.Need-loop-less Inv-loop μ-loop
-loop-less c = omega arith
-
 loop-again : tie.Need-loop-again Inv-loop μ-loop
 loop-again c = (omega arith, rw add-one (next c))
 
@@ -38,4 +32,4 @@ returns c = c .before .loop .inv .1 ∙ ap (λ (x : ℕ). c .before .before .arg
 
 pub power-spec : {M : Type 1} → statement M
 power-spec =
-    tie.close (tie.spec Inv-loop μ-loop loop-holds mul-r add-i loop-less loop-again returns)
+    tie.close (tie.spec Inv-loop μ-loop loop-holds mul-r (λ c. omega arith) (λ c. omega arith) loop-again returns)

@@ -72,60 +72,6 @@ module _ (m k i : ℕ) (T xs : ℕ → ℤ) (m2 : 2 ≤ m) (m3 : m ≤ 3) (hk : 
 abbrev S : tie.After-dot-arg6 → tie.Start
 S c = c .before .before .before .before .before .before
 
-mul-t : tie.Need-mul-t
-mul-t c = search needs
-
-mul-dot : tie.Need-mul-dot
-mul-dot c = search needs
-
-element-copy-out-dot : tie.Need-element-copy-out-dot
-element-copy-out-dot c = search needs
-
-add-dot : tie.Need-add-dot
-add-dot c = search needs
-
-mul-dot-2 : tie.Need-mul-dot-2
-mul-dot-2 c = search needs
-
-element-copy-out-dot-2 : tie.Need-element-copy-out-dot-2
-element-copy-out-dot-2 c = search needs
-
-add-dot-2 : tie.Need-add-dot-2
-add-dot-2 c = search needs
-
-mul-dot-3 : tie.Need-mul-dot-3
-mul-dot-3 c = search needs
-
-element-copy-out-dot-3 : tie.Need-element-copy-out-dot-3
-element-copy-out-dot-3 c = search needs
-
-mul-dot-4 : tie.Need-mul-dot-4
-mul-dot-4 c = search needs
-
-element-copy-out-dot-4 : tie.Need-element-copy-out-dot-4
-element-copy-out-dot-4 c = search needs
-
-add-dot-3 : tie.Need-add-dot-3
-add-dot-3 c = search needs
-
-mul-dot-5 : tie.Need-mul-dot-5
-mul-dot-5 c = search needs
-
-element-copy-out-dot-5 : tie.Need-element-copy-out-dot-5
-element-copy-out-dot-5 c = search needs
-
-sub-dot : tie.Need-sub-dot
-sub-dot c = search needs
-
-add-dot-4 : tie.Need-add-dot-4
-add-dot-4 c = search needs
-
-mul-dot-6 : tie.Need-mul-dot-6
-mul-dot-6 c = search needs
-
-element-copy-out-dot-6 : tie.Need-element-copy-out-dot-6
-element-copy-out-dot-6 c = search needs
-
 dot-requires : tie.Need-dot-requires
 dot-requires c κs = let a = S c .args in let p = S c .pre in asked (a .m) (a .k) (a .i) (at (now (a .table))) (at (now (a .xs))) (p .0 .0) (p .0 .1) (p .0 .2) (p .1 .0) (p .1 .1)
 
@@ -139,23 +85,23 @@ pub row-at-spec : {M : Type 1} → statement M
 row-at-spec =
     tie.close
     (tie.spec
-    mul-t
-    mul-dot
-    element-copy-out-dot
-    add-dot
-    mul-dot-2
-    element-copy-out-dot-2
-    add-dot-2
-    mul-dot-3
-    element-copy-out-dot-3
-    mul-dot-4
-    element-copy-out-dot-4
-    add-dot-3
-    mul-dot-5
-    element-copy-out-dot-5
-    sub-dot
-    add-dot-4
-    mul-dot-6
-    element-copy-out-dot-6
+    (λ c. search needs)
+    (λ c. search needs)
+    (λ c. search needs)
+    (λ c. search needs)
+    (λ c. search needs)
+    (λ c. search needs)
+    (λ c. search needs)
+    (λ c. search needs)
+    (λ c. search needs)
+    (λ c. search needs)
+    (λ c. search needs)
+    (λ c. search needs)
+    (λ c. search needs)
+    (λ c. search needs)
+    (λ c. search needs)
+    (λ c. search needs)
+    (λ c. search needs)
+    (λ c. search needs)
     dot-requires
     returns)

@@ -45,44 +45,14 @@ module _ (m c k : ℕ) (e o : ℕ → ℕ) (he : (a : ℕ) → a < 3 → e a ≡
       last : (a b : ℕ) → a ≡ a + b * 0
       last a b = omega (arith, mul-zero b)
 
-digits-requires : tie.Need-digits-requires
-digits-requires c κs = search needs
-
-digits-requires-2 : tie.Need-digits-requires-2
-digits-requires-2 c κs = search needs
-
-array-read-counted : tie.Need-array-read-counted
-array-read-counted c = search needs
-
-array-read-counted-2 : tie.Need-array-read-counted-2
-array-read-counted-2 c = search needs
-
 counted-requires : tie.Need-counted-requires
 counted-requires c κs = let s = c .before .before in (s .pre .1, below 2 (s .args .c) 0 _ (lit< tt) (c .before .digits .ensures 0 (lit< tt)), below (s .args .m) (s .args .k) 0 _ (omega arith) (c .digits2 .ensures 0 (lit< tt)))
-
-array-read-counted-3 : tie.Need-array-read-counted-3
-array-read-counted-3 c = search needs
-
-array-read-counted-4 : tie.Need-array-read-counted-4
-array-read-counted-4 c = search needs
 
 counted-requires-2 : tie.Need-counted-requires-2
 counted-requires-2 c κs = let s = c .before .before .before in (s .pre .1, below 2 (s .args .c) 1 _ (lit< tt) (c .before .before .digits .ensures 1 (lit< tt)), below (s .args .m) (s .args .k) 1 _ (omega arith) (c .before .digits2 .ensures 1 (lit< tt)))
 
-array-read-counted-5 : tie.Need-array-read-counted-5
-array-read-counted-5 c = search needs
-
-array-read-counted-6 : tie.Need-array-read-counted-6
-array-read-counted-6 c = search needs
-
 counted-requires-3 : tie.Need-counted-requires-3
 counted-requires-3 c κs = let s = c .before .before .before .before in (s .pre .1, below 2 (s .args .c) 2 _ (lit< tt) (c .before .before .before .digits .ensures 2 (lit< tt)), below (s .args .m) (s .args .k) 2 _ (omega arith) (c .before .before .digits2 .ensures 2 (lit< tt)))
-
-mul-result : tie.Need-mul-result
-mul-result c = search needs
-
-mul-result-2 : tie.Need-mul-result-2
-mul-result-2 c = search needs
 
 mul-result-3 : tie.Need-mul-result-3
 mul-result-3 c = let h = sums c in omega arith
@@ -105,19 +75,19 @@ pub spot-at-spec : {M : Type 1} → statement M
 spot-at-spec =
     tie.close
     (tie.spec
-    digits-requires
-    digits-requires-2
-    array-read-counted
-    array-read-counted-2
+    (λ c κs. search needs)
+    (λ c κs. search needs)
+    (λ c. search needs)
+    (λ c. search needs)
     counted-requires
-    array-read-counted-3
-    array-read-counted-4
+    (λ c. search needs)
+    (λ c. search needs)
     counted-requires-2
-    array-read-counted-5
-    array-read-counted-6
+    (λ c. search needs)
+    (λ c. search needs)
     counted-requires-3
-    mul-result
-    mul-result-2
+    (λ c. search needs)
+    (λ c. search needs)
     mul-result-3
     add-result
     mul-result-4

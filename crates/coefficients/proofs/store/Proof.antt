@@ -83,9 +83,6 @@ element-set-from-out c = place-low (c .before)
 add-k : tie.Need-add-k Inv-loop μ-loop
 add-k c = let h = few (c .before .before) in omega arith
 
-loop-less : tie.Need-loop-less Inv-loop μ-loop
-loop-less c = omega arith
-
 loop-again : tie.Need-loop-again Inv-loop μ-loop
 loop-again c =
     let a = s (c .before .before) .args in
@@ -113,6 +110,6 @@ store-spec =
     mul-t15
     element-set-from-out
     add-k
-    loop-less
+    (λ c. omega arith)
     loop-again
     returns)

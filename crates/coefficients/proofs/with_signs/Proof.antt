@@ -36,35 +36,8 @@ all-axes : (m c k : ℕ) (z : ℤ) (e o : ℕ → ℕ) → ((a : ℕ) → a < 3 
 unfolding signed
 all-axes m c k z e o he ho = rw (he 0 (lit< tt), he 1 (lit< tt), he 2 (lit< tt), ho 0 (lit< tt), ho 1 (lit< tt), ho 2 (lit< tt)) refl
 
-digits-requires : tie.Need-digits-requires
-digits-requires c κs = search needs
-
-digits-requires-2 : tie.Need-digits-requires-2
-digits-requires-2 c κs = search needs
-
-array-read-facing : tie.Need-array-read-facing
-array-read-facing c = search needs
-
-array-read-facing-2 : tie.Need-array-read-facing-2
-array-read-facing-2 c = search needs
-
-facing-requires : tie.Need-facing-requires
-facing-requires c κs = search needs
-
-array-read-facing-3 : tie.Need-array-read-facing-3
-array-read-facing-3 c = search needs
-
-array-read-facing-4 : tie.Need-array-read-facing-4
-array-read-facing-4 c = search needs
-
 facing-requires-2 : tie.Need-facing-requires-2
 facing-requires-2 c κs = once-low c
-
-array-read-facing-5 : tie.Need-array-read-facing-5
-array-read-facing-5 c = search needs
-
-array-read-facing-6 : tie.Need-array-read-facing-6
-array-read-facing-6 c = search needs
 
 facing-requires-3 : tie.Need-facing-requires-3
 facing-requires-3 c κs = twice-low c
@@ -80,15 +53,15 @@ pub with-signs-spec : {M : Type 1} → statement M
 with-signs-spec =
     tie.close
     (tie.spec
-    digits-requires
-    digits-requires-2
-    array-read-facing
-    array-read-facing-2
-    facing-requires
-    array-read-facing-3
-    array-read-facing-4
+    (λ c κs. search needs)
+    (λ c κs. search needs)
+    (λ c. search needs)
+    (λ c. search needs)
+    (λ c κs. search needs)
+    (λ c. search needs)
+    (λ c. search needs)
     facing-requires-2
-    array-read-facing-5
-    array-read-facing-6
+    (λ c. search needs)
+    (λ c. search needs)
     facing-requires-3
     returns)

@@ -30,15 +30,6 @@ kind-is c = c .earlier .ensures ∙ ap₂ first (c .before .before .check-axes .
 kind-done : (c : tie.After-enum-told2) → first (axesOutcome (c .before .before .before .before .before .args .axes)) (degreeOutcome (c .before .before .before .before .before .args .degree)) ≡ done tt
 kind-done c = sym (kind-is (c .before .before)) ∙ ap meaning (c .enum-told2 .given .1)
 
-check-axes-requires : tie.Need-check-axes-requires
-check-axes-requires c κs = search needs
-
-check-degree-requires : tie.Need-check-degree-requires
-check-degree-requires c κs = search needs
-
-earlier-requires : tie.Need-earlier-requires
-earlier-requires c κs = search needs
-
 enum-told : tie.Need-enum-told
 enum-told c = search needs
 
@@ -47,9 +38,6 @@ returns c =
     let a = c .before .before .before .before .before .args in
     let e = ap meaning (c .enum-told .given .1) in
     e ∙ sym (regroup (a .axes) (a .degree) (a .given) (a .room) ∙ refused-first (lengthsOf (a .axes) (a .degree) (a .given) (a .room)) (sym (kind-is (c .before .before)) ∙ e))
-
-enum-told-2 : tie.Need-enum-told-2
-enum-told-2 c = search needs
 
 check-lengths-requires : tie.Need-check-lengths-requires
 check-lengths-requires c κs = let s = c .before .before .before .before .before in axes-range (s .args .axes) (first-done (axesOutcome (s .args .axes)) (degreeOutcome (s .args .degree)) tt (kind-done c) .0)
@@ -64,11 +52,11 @@ pub check-numbers-spec : {M : Type 1} → statement M
 check-numbers-spec =
     tie.close
     (tie.spec
-    check-axes-requires
-    check-degree-requires
-    earlier-requires
+    (λ c κs. search needs)
+    (λ c κs. search needs)
+    (λ c κs. search needs)
     enum-told
     returns
-    enum-told-2
+    (λ c. search needs)
     check-lengths-requires
     returns-2)

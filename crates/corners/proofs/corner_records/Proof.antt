@@ -95,14 +95,8 @@ returns c =
     let stop = e ∙ sym (rows (s .args .b) (s .pre .0) (now (s .args .cs)) ∙ firstOf-stops (2 ^ s .args .b .axes) (inside w .before .loop .c) (row (s .args .b) (now (s .args .cs))) _ _ (corner (inside w)) (inside w .before .loop .inv .2) (tested w ∙ e)) in
     (stop, λ h. absurd (done-refused _ _ _ h e))
 
-enum-told-2 : tie.Need-enum-told-2 Inv-loop μ-loop
-enum-told-2 c = search needs
-
 add-c : tie.Need-add-c Inv-loop μ-loop
 add-c c = let h = few (inside (c .before .before)) in omega arith
-
-loop-less : tie.Need-loop-less Inv-loop μ-loop
-loop-less c = omega arith
 
 loop-again : tie.Need-loop-again Inv-loop μ-loop
 loop-again c =
@@ -140,8 +134,8 @@ corner-records-spec =
     store-requires
     enum-told
     returns
-    enum-told-2
+    (λ c. search needs)
     add-c
-    loop-less
+    (λ c. omega arith)
     loop-again
     returns-2)

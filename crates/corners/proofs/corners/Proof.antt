@@ -42,9 +42,6 @@ module _ (c : tie.After-corner-records) where
       first-passed (numbersOutcome (S two .args .axes) (S two .args .degree) (length (now (S two .args .coefficients))) (length (now (S two .args .out)))) _ (passed two)
       ∙ sym (c .corner-records .ensures .0 ∙ ap (λ (m : ℕ). possibleOutcome m (b .result .axes) (now (S two .args .coefficients))) (b .ensures .2) ∙ ap (λ (n : ℕ). possibleOutcome (ordersOf (S two .args .degree)) n (now (S two .args .coefficients))) (b .ensures .1))
 
-check-numbers-requires : tie.Need-check-numbers-requires
-check-numbers-requires c κs = search needs
-
 enum-told : tie.Need-enum-told
 enum-told c = search needs
 
@@ -57,9 +54,6 @@ returns c =
     let h = refused-first (possibleOutcome (ordersOf (a .degree)) (a .axes) (now (a .coefficients))) (sym (w .check-numbers .ensures) ∙ e) in
     (e ∙ sym h, when-refused (overwrite (entryList (ordersOf (a .degree)) (a .axes) (now (a .coefficients))) (now (a .out))) (now (a .out)) h)
 
-enum-told-2 : tie.Need-enum-told-2
-enum-told-2 c = search needs
-
 block-of-requires : tie.Need-block-of-requires
 block-of-requires c κs = axes-range (S c .args .axes) (facts c .axes-done)
 
@@ -70,9 +64,6 @@ corner-records-requires c κs =
     let a = S (c .before .before) .args in
     (b .ensures .0, f .many ∙ sym (count-same (a .axes) (a .degree) (b .result) (b .ensures .1) (b .ensures .2)), refl)
 
-enum-told-3 : tie.Need-enum-told-3
-enum-told-3 c = search needs
-
 returns-2 : tie.Need-returns-2
 unfolding backOutcome backWrites
 returns-2 c =
@@ -80,12 +71,6 @@ returns-2 c =
     let a = S (two w) .args in
     let e = ap meaning (c .enum-told3 .given .1) in
     (sym (last w), when-refused (overwrite (entryList (ordersOf (a .degree)) (a .axes) (now (a .coefficients))) (now (a .out))) (now (a .out)) (last w ∙ e))
-
-enum-told-4 : tie.Need-enum-told-4
-enum-told-4 c = search needs
-
-coefficient-count-requires : tie.Need-coefficient-count-requires
-coefficient-count-requires c κs = search needs
 
 copy-out-requires : tie.Need-copy-out-requires
 copy-out-requires c κs =
@@ -96,9 +81,6 @@ copy-out-requires c κs =
     let n = c .before .before .coefficient-count .ensures in
     let e = count-same (a .axes) (a .degree) (b .result) (b .ensures .1) (b .ensures .2) in
     (n .1, omega arith)
-
-same-length : tie.Need-same-length
-same-length c = search needs
 
 returns-3 : tie.Need-returns-3
 unfolding backOutcome backWrites
@@ -120,16 +102,16 @@ pub corners-spec : {M : Type 1} → statement M
 corners-spec =
     tie.close
     (tie.spec
-    check-numbers-requires
+    (λ c κs. search needs)
     enum-told
     returns
-    enum-told-2
+    (λ c. search needs)
     block-of-requires
     corner-records-requires
-    enum-told-3
+    (λ c. search needs)
     returns-2
-    enum-told-4
-    coefficient-count-requires
+    (λ c. search needs)
+    (λ c κs. search needs)
     copy-out-requires
-    same-length
+    (λ c. search needs)
     returns-3)

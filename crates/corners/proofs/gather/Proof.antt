@@ -58,9 +58,6 @@ array-set-from-xs c = let h = entries-low (S (c .before) .args .b) (S (c .before
 add-k : tie.Need-add-k Inv-loop μ-loop
 add-k c = let h = entries-low (S (c .before) .args .b) (S (c .before) .pre .0) in omega arith
 
-loop-less : tie.Need-loop-less Inv-loop μ-loop
-loop-less c = omega arith
-
 loop-again : tie.Need-loop-again Inv-loop μ-loop
 loop-again c =
     let s = S (c .before) in
@@ -94,6 +91,6 @@ gather-spec =
     mul-xs-2
     array-set-from-xs
     add-k
-    loop-less
+    (λ c. omega arith)
     loop-again
     returns)

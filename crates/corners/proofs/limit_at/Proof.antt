@@ -33,20 +33,8 @@ module _ (m k : ℕ) (m2 : 2 ≤ m) (m3 : m ≤ 3) (o : ℕ → ℕ) (is : (a : 
 abbrev order : tie.After-digits → ℕ → ℕ
 order c a = getD (c .digits .result) a 0
 
-digits-requires : tie.Need-digits-requires
-digits-requires c κs = search needs
-
-array-read-result : tie.Need-array-read-result
-array-read-result c = search needs
-
-array-read-result-2 : tie.Need-array-read-result-2
-array-read-result-2 c = search needs
-
 add-result : tie.Need-add-result
 add-result c = let h = sum-low (c .before .args .m) (c .before .args .k) (c .before .pre .0) (c .before .pre .1) (order c) (c .digits .ensures) in omega arith
-
-array-read-result-3 : tie.Need-array-read-result-3
-array-read-result-3 c = search needs
 
 add-result-2 : tie.Need-add-result-2
 add-result-2 c = let h = sum-low (c .before .args .m) (c .before .args .k) (c .before .pre .0) (c .before .pre .1) (order c) (c .digits .ensures) in omega arith
@@ -65,11 +53,11 @@ pub limit-at-spec : {M : Type 1} → statement M
 limit-at-spec =
     tie.close
     (tie.spec
-    digits-requires
-    array-read-result
-    array-read-result-2
+    (λ c κs. search needs)
+    (λ c. search needs)
+    (λ c. search needs)
     add-result
-    array-read-result-3
+    (λ c. search needs)
     add-result-2
     shl-result
     returns)

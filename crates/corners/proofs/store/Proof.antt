@@ -156,9 +156,6 @@ mul-t22 c = let h = place-low (c .before) in omega arith
 element-set-from-out : tie.Need-element-set-from-out Inv-loop μ-loop
 element-set-from-out c = place-low (c .before)
 
-refuse-unless-requires : tie.Need-refuse-unless-requires Inv-loop μ-loop
-refuse-unless-requires c κs = search needs
-
 returns : tie.Need-returns Inv-loop μ-loop
 returns c =
     let w = c .before .before in
@@ -168,9 +165,6 @@ returns c =
 
 add-k : tie.Need-add-k Inv-loop μ-loop
 add-k c = let h = few (i (c .before)) in omega arith
-
-loop-less : tie.Need-loop-less Inv-loop μ-loop
-loop-less c = omega arith
 
 loop-again : tie.Need-loop-again Inv-loop μ-loop
 loop-again c =
@@ -211,9 +205,9 @@ store-spec =
     add-t21
     mul-t22
     element-set-from-out
-    refuse-unless-requires
+    (λ c κs. search needs)
     returns
     add-k
-    loop-less
+    (λ c. omega arith)
     loop-again
     returns-2)

@@ -18,35 +18,14 @@ use Rattle.estimate.proofs.check_estimate.Tie as tie
 told : (c : tie.After-enum-told2) → Shaped (c .before .before .before .args .s)
 told c = shaped (c .before .before .before .args .s) (sym (c .before .before .check-shape .ensures) ∙ ap meaning (c .enum-told2 .given .1))
 
-check-shape-requires : tie.Need-check-shape-requires
-check-shape-requires c κs = search needs
-
 enum-told : tie.Need-enum-told
 enum-told c = search needs
-
-enum-told-2 : tie.Need-enum-told-2
-enum-told-2 c = search needs
 
 node-count-requires : tie.Need-node-count-requires
 node-count-requires c κs = told c
 
-refuse-unless-requires : tie.Need-refuse-unless-requires
-refuse-unless-requires c κs = search needs
-
 table-entries-requires : tie.Need-table-entries-requires
 table-entries-requires c κs = told (c .before .before)
-
-refuse-unless-requires-2 : tie.Need-refuse-unless-requires-2
-refuse-unless-requires-2 c κs = search needs
-
-check-limit-requires : tie.Need-check-limit-requires
-check-limit-requires c κs = search needs
-
-earlier-requires : tie.Need-earlier-requires
-earlier-requires c κs = search needs
-
-earlier-requires-2 : tie.Need-earlier-requires-2
-earlier-requires-2 c κs = search needs
 
 returns : tie.Need-returns
 unfolding estimateOutcome
@@ -68,15 +47,15 @@ pub check-estimate-spec : {M : Type 1} → statement M
 check-estimate-spec =
     tie.close
     (tie.spec
-    check-shape-requires
+    (λ c κs. search needs)
     enum-told
-    enum-told-2
+    (λ c. search needs)
     node-count-requires
-    refuse-unless-requires
+    (λ c κs. search needs)
     table-entries-requires
-    refuse-unless-requires-2
-    check-limit-requires
-    earlier-requires
-    earlier-requires-2
+    (λ c κs. search needs)
+    (λ c κs. search needs)
+    (λ c κs. search needs)
+    (λ c κs. search needs)
     returns
     returns-2)

@@ -10,9 +10,6 @@ use Rattle.estimate.proofs.CallLaws.{estimated}
 use Rattle.estimate.proofs.estimate.Statement.{statement}
 use Rattle.estimate.proofs.estimate.Tie as tie
 
-check-estimate-requires : tie.Need-check-estimate-requires
-check-estimate-requires c κs = search needs
-
 enum-told : tie.Need-enum-told
 enum-told c = search needs
 
@@ -20,12 +17,6 @@ fill-records-requires : tie.Need-fill-records-requires
 fill-records-requires c κs =
     let a = c .before .before .before .before .args in
     estimated (a .s) (a .samples .now) (length (a .records .now)) (sym (c .before .before .before .check-estimate .ensures) ∙ ap meaning (c .before .enum-told .given .1))
-
-enum-told-2 : tie.Need-enum-told-2
-enum-told-2 c = search needs
-
-same-length : tie.Need-same-length
-same-length c = search needs
 
 returns : tie.Need-returns
 unfolding estimateWrites
@@ -45,10 +36,10 @@ pub estimate-spec : {M : Type 1} → statement M
 estimate-spec =
     tie.close
     (tie.spec
-    check-estimate-requires
+    (λ c κs. search needs)
     enum-told
     fill-records-requires
-    enum-told-2
-    same-length
+    (λ c. search needs)
+    (λ c. search needs)
     returns
     returns-2)

@@ -68,17 +68,11 @@ module _ (s : Shape) (xs b : List ℤ) (ok : Estimable s xs (length b)) (g : Gri
         (e ∙ placed-same 0 (rowSize g) (rowOf g (at xs)) (rowsOf g xs) b (line-rows g xs my mz (ready .0 .grid))
         ∙ ap (λ (k : ℕ). placed 0 k (rowsOf g xs) b) (sym (ap (λ (k : ℕ). rowSize g * k) rows ∙ mul-one (rowSize g))))
 
-grid-of-requires : tie.Need-grid-of-requires
-grid-of-requires c κs = search needs
-
 fill-row-requires : tie.Need-fill-row-requires
 fill-row-requires c κs =
     let g = c .before .before .before in
     let s = g .before in
     line-ready (s .args .s) (s .args .samples .now) (s .args .records .now) (s .pre) (g .grid-of .result) (g .grid-of .ensures) (c .before .if1 .taken)
-
-same-length : tie.Need-same-length
-same-length c = search needs
 
 returns : tie.Need-returns
 returns c =
@@ -93,9 +87,6 @@ fill-rows-requires c κs =
     let s = g .before in
     ready (s .args .s) (s .args .samples .now) (s .args .records .now) (s .pre) (g .grid-of .result) (g .grid-of .ensures)
 
-same-length-2 : tie.Need-same-length-2
-same-length-2 c = search needs
-
 returns-2 : tie.Need-returns-2
 returns-2 c =
     let g = c .before .before .before .before .before in
@@ -103,4 +94,4 @@ returns-2 c =
     result (s .args .s) (s .args .samples .now) (s .args .records .now) (s .pre) (g .grid-of .result) (g .grid-of .ensures) _ (c .before .fill-rows .ensures)
 
 pub fill-records-spec : {M : Type 1} → statement M
-fill-records-spec = tie.close (tie.spec grid-of-requires fill-row-requires fill-rows-requires same-length returns same-length-2 returns-2)
+fill-records-spec = tie.close (tie.spec (λ c κs. search needs) fill-row-requires fill-rows-requires (λ c. search needs) returns (λ c. search needs) returns-2)

@@ -121,9 +121,6 @@ module _ (g : Grid) (ok : Grids g) where
 mul-size : tie.Need-mul-size
 mul-size c = omega (arith, column-high (c .before .args .g) (c .before .pre .0 .0))
 
-sub-inner : tie.Need-sub-inner
-sub-inner c = search needs
-
 mul-inner : tie.Need-mul-inner
 mul-inner c = let s = c .before .before in omega (arith, numbers-high (s .args .g) (s .pre .0 .0))
 
@@ -169,9 +166,6 @@ pass-requires-3 c κs =
     let r = read g ok (s .args .row .now) (s .pre .1) in
     ((ok .mx-low, ok .mx-high, omega (arith, entries g ok, s .pre .0 .1, c .before .before .pass2 .kept, c .before .before .before .before .before .pass .kept)), (r _ _ (omega arith), r _ _ (omega arith), r _ _ (omega arith)))
 
-same-length : tie.Need-same-length
-same-length c = search needs
-
 returns : tie.Need-returns
 returns c =
     let s = c .before .before .before .before .before .before .before .before .before .before .before .before .before in
@@ -182,7 +176,7 @@ fill-row-spec =
     tie.close
     (tie.spec
     mul-size
-    sub-inner
+    (λ c. search needs)
     mul-inner
     add-last
     mul-p
@@ -193,5 +187,5 @@ fill-row-spec =
     mul-pass
     pass-requires-2
     pass-requires-3
-    same-length
+    (λ c. search needs)
     returns)

@@ -54,20 +54,11 @@ mul-step-3 c = omega (arith, row-high (c .before .before .before .before .args .
 loop-holds : tie.Need-loop-holds Inv-loop μ-loop
 loop-holds c = let s = c .before .before .before .before in (omega arith, omega arith, s .pre .0 .grid .y-low, omega arith, stored-none 0 (rowSize (s .args .g)) (rowsOf (s .args .g) (s .args .samples .now)) (s .args .records .now), refl, refl)
 
-slice-aggregate-row-yz : tie.Need-slice-aggregate-row-yz Inv-loop μ-loop
-slice-aggregate-row-yz c = search needs
-
-slice-aggregate-row-yz-2 : tie.Need-slice-aggregate-row-yz-2 Inv-loop μ-loop
-slice-aggregate-row-yz-2 c = search needs
-
 row-yz-requires : tie.Need-row-yz-requires Inv-loop μ-loop
 row-yz-requires c κs =
     let s = c .before .before .before .before .before .before .before .before in
     let l = c .before .before .before .loop in
     (s .pre .0, (l .inv .2, row-in-z (s .args .g) (s .args .samples .now) (l .y) (l .z) (l .r) (l .inv .2) (l .inv .1) (omega arith), l .inv .5, l .inv .6))
-
-slice-aggregate-fill-row : tie.Need-slice-aggregate-fill-row Inv-loop μ-loop
-slice-aggregate-fill-row c = search needs
 
 fill-row-requires : tie.Need-fill-row-requires Inv-loop μ-loop
 fill-row-requires c κs =
@@ -99,9 +90,6 @@ add-z c =
     let h = row-in-z (s .args .g) (s .args .samples .now) (l .y) (l .z) (l .r) (l .inv .2) (l .inv .1) (omega arith) in
     omega (arith, s .pre .0 .grid .z-high)
 
-loop-less : tie.Need-loop-less Inv-loop μ-loop
-loop-less c = omega arith
-
 loop-again : tie.Need-loop-again Inv-loop μ-loop
 loop-again c =
     let s = c .before .before .before .before .before .before .before .before .before .before .before .before .before .before .before .before .before in
@@ -115,9 +103,6 @@ loop-again c =
       omega (arith, q .kept, l .inv .5),
       omega (arith, q .kept, l .inv .6),
     )
-
-loop-less-2 : tie.Need-loop-less-2 Inv-loop μ-loop
-loop-less-2 c = omega arith
 
 loop-again-2 : tie.Need-loop-again-2 Inv-loop μ-loop
 loop-again-2 c =
@@ -157,18 +142,18 @@ fill-rows-spec =
     mul-step-2
     mul-step-3
     loop-holds
-    slice-aggregate-row-yz
-    slice-aggregate-row-yz-2
+    (λ c. search needs)
+    (λ c. search needs)
     row-yz-requires
-    slice-aggregate-fill-row
+    (λ c. search needs)
     fill-row-requires
     add-p
     add-r
     add-y
     add-z
-    loop-less
+    (λ c. omega arith)
     loop-again
-    loop-less-2
+    (λ c. omega arith)
     loop-again-2
     same-length
     returns)

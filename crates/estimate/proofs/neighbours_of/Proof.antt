@@ -6,15 +6,6 @@ use Rattle.estimate.proofs.PassesLaws.{low-is, low-none, high-is, high-
 use Rattle.estimate.proofs.neighbours_of.Statement.{statement}
 use Rattle.estimate.proofs.neighbours_of.Tie as tie
 
-sub-low : tie.Need-sub-low
-sub-low c = search needs
-
-add-if2 : tie.Need-add-if2
-add-if2 c = search needs
-
-add-high : tie.Need-add-high
-add-high c = search needs
-
 returns : tie.Need-returns
 returns c = let i = c .before .before .args .i in (⊎-elim (λ w. w .1 ∙ low-none i (w .0 .taken)) (λ w. w .1 ∙ low-is i (w .0 .left)) (c .before .if1 .came), high-is (c .before .before .args .count) i (c .if2 .taken))
 
@@ -22,4 +13,4 @@ returns-2 : tie.Need-returns-2
 returns-2 c = let i = c .before .before .args .i in (⊎-elim (λ w. w .1 ∙ low-none i (w .0 .taken)) (λ w. w .1 ∙ low-is i (w .0 .left)) (c .before .if1 .came), high-none (c .before .before .args .count) i (c .if2 .left))
 
 pub neighbours-of-spec : {M : Type 1} → statement M
-neighbours-of-spec = tie.close (tie.spec sub-low add-if2 add-high returns returns-2)
+neighbours-of-spec = tie.close (tie.spec (λ c. search needs) (λ c. search needs) (λ c. search needs) returns returns-2)

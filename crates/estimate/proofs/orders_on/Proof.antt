@@ -20,9 +20,6 @@ unused : (s : Shape) (a : ℕ) → s .axes ≤ a → 1 ≡ ordersOn s a
 unfolding ordersOn
 unused s a h = sym (pick-false (ltb a (s .axes)) (orders s) 1 (le-ltb a (s .axes) h))
 
-orders-requires : tie.Need-orders-requires
-orders-requires c κs = search needs
-
 returns : tie.Need-returns
 returns c = let a = c .before .before .before .args in c .orders .ensures ∙ used (a .s) (a .axis) (omega arith)
 
@@ -30,4 +27,4 @@ returns-2 : tie.Need-returns-2
 returns-2 c = let a = c .before .before .args in unused (a .s) (a .axis) (omega arith)
 
 pub orders-on-spec : {M : Type 1} → statement M
-orders-on-spec = tie.close (tie.spec orders-requires returns returns-2)
+orders-on-spec = tie.close (tie.spec (λ c κs. search needs) returns returns-2)

@@ -51,33 +51,6 @@ abbrev μ-loop : tie.MeasureT-loop
 loop-holds : tie.Need-loop-holds Inv-loop μ-loop
 loop-holds c = (omega arith, omega arith, stored-none (c .args .k) (c .args .m) _ (c .args .out .now))
 
-add-put-orders : tie.Need-add-put-orders Inv-loop μ-loop
-add-put-orders c = omega arith
-
-mul-put-orders : tie.Need-mul-put-orders Inv-loop μ-loop
-mul-put-orders c = omega arith
-
-shared-slice-copy-out-put-orders : tie.Need-shared-slice-copy-out-put-orders Inv-loop μ-loop
-shared-slice-copy-out-put-orders c = omega arith
-
-add-put-orders-2 : tie.Need-add-put-orders-2 Inv-loop μ-loop
-add-put-orders-2 c = omega arith
-
-mul-put-orders-2 : tie.Need-mul-put-orders-2 Inv-loop μ-loop
-mul-put-orders-2 c = omega arith
-
-shared-slice-copy-out-put-orders-2 : tie.Need-shared-slice-copy-out-put-orders-2 Inv-loop μ-loop
-shared-slice-copy-out-put-orders-2 c = omega arith
-
-add-put-orders-3 : tie.Need-add-put-orders-3 Inv-loop μ-loop
-add-put-orders-3 c = omega arith
-
-mul-put-orders-3 : tie.Need-mul-put-orders-3 Inv-loop μ-loop
-mul-put-orders-3 c = omega arith
-
-shared-slice-copy-out-put-orders-3 : tie.Need-shared-slice-copy-out-put-orders-3 Inv-loop μ-loop
-shared-slice-copy-out-put-orders-3 c = omega arith
-
 put-orders-requires : tie.Need-put-orders-requires Inv-loop μ-loop
 put-orders-requires c κs =
     let s = c .before .before .before .before .before .before in
@@ -92,12 +65,6 @@ add-p c =
     let a = s .args in
     let l = c .before .before .before .before .before .before .before .loop in
     omega (arith, group-room (a .m) (l .t) (a .count) (omega arith), s .pre .0 .2, s .good)
-
-add-t : tie.Need-add-t Inv-loop μ-loop
-add-t c = omega arith
-
-loop-less : tie.Need-loop-less Inv-loop μ-loop
-loop-less c = omega arith
 
 loop-again : tie.Need-loop-again Inv-loop μ-loop
 loop-again c =
@@ -126,19 +93,19 @@ pass-spec =
     Inv-loop
     μ-loop
     loop-holds
-    add-put-orders
-    mul-put-orders
-    shared-slice-copy-out-put-orders
-    add-put-orders-2
-    mul-put-orders-2
-    shared-slice-copy-out-put-orders-2
-    add-put-orders-3
-    mul-put-orders-3
-    shared-slice-copy-out-put-orders-3
+    (λ c. omega arith)
+    (λ c. omega arith)
+    (λ c. omega arith)
+    (λ c. omega arith)
+    (λ c. omega arith)
+    (λ c. omega arith)
+    (λ c. omega arith)
+    (λ c. omega arith)
+    (λ c. omega arith)
     put-orders-requires
     add-p
-    add-t
-    loop-less
+    (λ c. omega arith)
+    (λ c. omega arith)
     loop-again
     same-length
     returns)

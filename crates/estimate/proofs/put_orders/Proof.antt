@@ -75,20 +75,8 @@ module _ (l f r : ℤ) (small : (natAbs l ≤ passLimit) × (natAbs f ≤ passLi
     unfolding placed byOrder
     three e = rw (e, S, D, bits f (small .1), add-zero k)
 
-mul-f : tie.Need-mul-f
-mul-f c = search needs
-
-slice-set-from-f : tie.Need-slice-set-from-f
-slice-set-from-f c = search needs
-
 sub-out : tie.Need-sub-out
 sub-out c = let s = c .before in fits? (search (param (s .args .l) (s .pre .1 .0), param (s .args .r) (s .pre .1 .2), sizes)) (omega arith)
-
-add-t11 : tie.Need-add-t11
-add-t11 c = search needs
-
-mul-t12 : tie.Need-mul-t12
-mul-t12 c = search needs
 
 slice-set-from-out : tie.Need-slice-set-from-out
 slice-set-from-out c = simp length-set (omega arith)
@@ -102,29 +90,14 @@ sub-out-2 c = let s = c .before .before in step-less (s .args .l) (s .args .f) (
 add-out : tie.Need-add-out
 add-out c = let s = c .before .before in step-S (s .args .l) (s .args .f) (s .args .r) (s .pre .1)
 
-add-t18 : tie.Need-add-t18
-add-t18 c = search needs
-
-mul-t19 : tie.Need-mul-t19
-mul-t19 c = search needs
-
 slice-set-from-out-2 : tie.Need-slice-set-from-out-2
 slice-set-from-out-2 c = simp length-set (omega arith)
-
-same-length : tie.Need-same-length
-same-length c = search needs
 
 returns : tie.Need-returns
 returns c = let s = c .before .before in three (s .args .l) (s .args .f) (s .args .r) (s .pre .1) (s .args .k) (now (s .args .out)) (s .args .m) (omega arith)
 
-same-length-2 : tie.Need-same-length-2
-same-length-2 c = search needs
-
 returns-2 : tie.Need-returns-2
 returns-2 c = let s = c .before .before in two (s .args .l) (s .args .f) (s .args .r) (s .pre .1) (s .args .k) (now (s .args .out)) (s .args .m) (omega arith)
-
-same-length-3 : tie.Need-same-length-3
-same-length-3 c = search needs
 
 returns-3 : tie.Need-returns-3
 returns-3 c = let s = c .before in one (s .args .l) (s .args .f) (s .args .r) (s .pre .1) (s .args .k) (now (s .args .out)) (s .args .m) (omega arith)
@@ -133,21 +106,21 @@ pub put-orders-spec : {M : Type 1} → statement M
 put-orders-spec =
     tie.close
     (tie.spec
-    mul-f
-    slice-set-from-f
+    (λ c. search needs)
+    (λ c. search needs)
     sub-out
-    add-t11
-    mul-t12
+    (λ c. search needs)
+    (λ c. search needs)
     slice-set-from-out
     mul-out
     sub-out-2
     add-out
-    add-t18
-    mul-t19
+    (λ c. search needs)
+    (λ c. search needs)
     slice-set-from-out-2
-    same-length
+    (λ c. search needs)
     returns
-    same-length-2
+    (λ c. search needs)
     returns-2
-    same-length-3
+    (λ c. search needs)
     returns-3)

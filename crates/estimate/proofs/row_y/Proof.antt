@@ -42,14 +42,8 @@ module _ (g : Grid) (xs : List ℤ) (y z : ℕ) (ok : Samples g xs) (mz : g .mz 
       h : ℕ → ℤ
       h = passOf (g .my) (since xs (rowStart g (left y) z)) (since xs (rowStart g y z)) (since xs (rowStart g (right (g .cy) y) z))
 
-neighbours-of-requires : tie.Need-neighbours-of-requires
-neighbours-of-requires c κs = search needs
-
 row-start-requires : tie.Need-row-start-requires
 row-start-requires c κs = let s = c .before in (s .pre .0 .0 .grid, rw (c .neighbours-of .ensures .0) (left-below (s .args .g .cy) (s .args .y) (s .pre .1 .0)), s .pre .1 .1)
-
-row-start-requires-2 : tie.Need-row-start-requires-2
-row-start-requires-2 c κs = search needs
 
 row-start-requires-3 : tie.Need-row-start-requires-3
 row-start-requires-3 c κs = let s = c .before .before .before in (s .pre .0 .0 .grid, rw (c .before .before .neighbours-of .ensures .1) (right-below (s .args .g .cy) (s .args .y) (s .pre .1 .0)), s .pre .1 .1)
@@ -69,9 +63,6 @@ pass-requires c κs =
       ),
     )
 
-same-length : tie.Need-same-length
-same-length c = search needs
-
 returns : tie.Need-returns
 returns c =
     let s = c .before .before .before .before .before .before .before in
@@ -83,10 +74,10 @@ pub row-y-spec : {M : Type 1} → statement M
 row-y-spec =
     tie.close
     (tie.spec
-    neighbours-of-requires
+    (λ c κs. search needs)
     row-start-requires
-    row-start-requires-2
+    (λ c κs. search needs)
     row-start-requires-3
     pass-requires
-    same-length
+    (λ c. search needs)
     returns)

@@ -71,9 +71,6 @@ module _ (g : Grid) (xs : List ℤ) (y z low high : ℕ) (ok : Samples g xs) (lo
 row-y-requires : tie.Need-row-y-requires
 row-y-requires c κs = let s = c .before .before .before in ((s .pre .0, c .before .if1 .taken), (s .pre .1 .0, s .pre .1 .1, s .pre .1 .3))
 
-neighbours-of-requires : tie.Need-neighbours-of-requires
-neighbours-of-requires c κs = search needs
-
 mul-w : tie.Need-mul-w
 mul-w c = let s = c .before .before .before .before in omega (arith, row-z-high (s .args .g) (s .pre .0 .grid))
 
@@ -114,17 +111,8 @@ pass-requires c κs =
           (b .before .before .before .before .before .before .row-z .ensures) (b .before .before .before .row-z2 .ensures) (b .row-z3 .ensures),
     )
 
-same-length : tie.Need-same-length
-same-length c = search needs
-
 returns : tie.Need-returns
 returns c = c .before .row-y .ensures
-
-same-length-2 : tie.Need-same-length-2
-same-length-2 c = search needs
-
-same-length-3 : tie.Need-same-length-3
-same-length-3 c = search needs
 
 returns-2 : tie.Need-returns-2
 returns-2 c =
@@ -139,7 +127,7 @@ row-yz-spec =
     tie.close
     (tie.spec
     row-y-requires
-    neighbours-of-requires
+    (λ c κs. search needs)
     mul-w
     row-z-requires
     row-z-requires-2
@@ -147,8 +135,8 @@ row-yz-spec =
     row-z-requires-3
     add-pass
     pass-requires
-    same-length
+    (λ c. search needs)
     returns
-    same-length-2
-    same-length-3
+    (λ c. search needs)
+    (λ c. search needs)
     returns-2)

@@ -8,14 +8,8 @@ use Rattle.estimate.proofs.PassesLaws.{left-below, right-below, row-rea
 use Rattle.estimate.proofs.row_z.Statement.{statement}
 use Rattle.estimate.proofs.row_z.Tie as tie
 
-neighbours-of-requires : tie.Need-neighbours-of-requires
-neighbours-of-requires c κs = search needs
-
 row-start-requires : tie.Need-row-start-requires
 row-start-requires c κs = let s = c .before in (s .pre .0 .grid, s .pre .1 .0, rw (c .neighbours-of .ensures .0) (left-below (s .args .g .cz) (s .args .z) (s .pre .1 .1)))
-
-row-start-requires-2 : tie.Need-row-start-requires-2
-row-start-requires-2 c κs = search needs
 
 row-start-requires-3 : tie.Need-row-start-requires-3
 row-start-requires-3 c κs = let s = c .before .before .before in (s .pre .0 .grid, s .pre .1 .0, rw (c .before .before .neighbours-of .ensures .1) (right-below (s .args .g .cz) (s .args .z) (s .pre .1 .1)))
@@ -34,9 +28,6 @@ pass-requires c κs =
       ),
     )
 
-same-length : tie.Need-same-length
-same-length c = search needs
-
 returns : tie.Need-returns
 unfolding rowZ
 returns c =
@@ -47,10 +38,10 @@ pub row-z-spec : {M : Type 1} → statement M
 row-z-spec =
     tie.close
     (tie.spec
-    neighbours-of-requires
+    (λ c κs. search needs)
     row-start-requires
-    row-start-requires-2
+    (λ c κs. search needs)
     row-start-requires-3
     pass-requires
-    same-length
+    (λ c. search needs)
     returns)

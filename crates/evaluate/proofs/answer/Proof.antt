@@ -127,12 +127,6 @@ module _ (c : tie.After-strides-of4) where
       subst (λ (ls : List ℕ). AreAxes (begun .args .s) (placeAt (begun .args .step)) ls others) (sym (axes-before (n more) (last more) two-axes (three-low .0) (three-low .1)))
       (are-axes (begun .args .s) (placeAt (begun .args .step)) (eqb (n more) 3) (firstAxis (last more)) (middleAxis (last more)) (c .before .before .before .strides-of2 .result) (c .before .strides-of3 .result) is-first is-middle)
 
-is-slope-requires : tie.Need-is-slope-requires
-is-slope-requires c κs = search needs
-
-last-axis-requires : tie.Need-last-axis-requires
-last-axis-requires c κs = search needs
-
 strides-of-requires : tie.Need-strides-of-requires
 strides-of-requires c κs = (m3 (c .before), omega arith)
 
@@ -152,16 +146,10 @@ returns c =
     let d = c .before in
     cast (only d) (c .one-axis .result) (c .one-axis .ok) (gives (only d) 1 0 (d .before .if1 .taken) (only-last d) (d .strides-of .result) [] (only-axis d) tt (c .one-axis .result) (c .one-axis .ensures))
 
-first-axis-requires : tie.Need-first-axis-requires
-first-axis-requires c κs = search needs
-
 strides-of-requires-2 : tie.Need-strides-of-requires-2
 strides-of-requires-2 c κs =
     let t = c .before .before in
     (m3 t, subst (λ (i : ℕ). i < 3) (sym (c .first-axis .ensures)) (axes-low (t .last-axis .result) .0))
-
-middle-axis-requires : tie.Need-middle-axis-requires
-middle-axis-requires c κs = search needs
 
 strides-of-requires-3 : tie.Need-strides-of-requires-3
 strides-of-requires-3 c κs =
@@ -192,15 +180,15 @@ pub answer-spec : {M : Type 1} → statement M
 answer-spec =
     tie.close
     (tie.spec
-    is-slope-requires
-    last-axis-requires
+    (λ c κs. search needs)
+    (λ c κs. search needs)
     strides-of-requires
     one-axis-requires
     cast-result
     returns
-    first-axis-requires
+    (λ c κs. search needs)
     strides-of-requires-2
-    middle-axis-requires
+    (λ c κs. search needs)
     strides-of-requires-3
     strides-of-requires-4
     more-axes-requires

@@ -12,36 +12,12 @@ use Rattle.evaluate.proofs.Order.{end-numbers}
 use Rattle.evaluate.proofs.end_of.Statement.{statement}
 use Rattle.evaluate.proofs.end_of.Tie as tie
 
-mul-a : tie.Need-mul-a
-mul-a c = search needs
-
-array-copy-out-a : tie.Need-array-copy-out-a
-array-copy-out-a c = search needs
-
-add-b : tie.Need-add-b
-add-b c = search needs
-
-mul-b : tie.Need-mul-b
-mul-b c = search needs
-
-array-copy-out-b : tie.Need-array-copy-out-b
-array-copy-out-b c = search needs
-
 returns : tie.Need-returns
 returns c =
     let b = c .before .before .before in
     let a = b .args in
     end-numbers (a .m) (a .k) (a .t2) _ _ (pos 0) (b .pre .0) (read (at (a .t2) (a .k)) (c .before .before .a .given)) (read (at (a .t2) (a .k + 1)) (c .before .b .given))
     (sym (pick-false (ltb 2 (a .m)) (at (a .t2) (a .k + 2)) (pos 0) (le-ltb 2 (a .m) (omega (arith, c .if1 .taken)))))
-
-add-t7 : tie.Need-add-t7
-add-t7 c = search needs
-
-mul-t11 : tie.Need-mul-t11
-mul-t11 c = search needs
-
-array-copy-out-t10 : tie.Need-array-copy-out-t10
-array-copy-out-t10 c = search needs
 
 returns-2 : tie.Need-returns-2
 returns-2 c =
@@ -54,13 +30,13 @@ pub end-of-spec : {M : Type 1} → statement M
 end-of-spec =
     tie.close
     (tie.spec
-    mul-a
-    array-copy-out-a
-    add-b
-    mul-b
-    array-copy-out-b
+    (λ c. search needs)
+    (λ c. search needs)
+    (λ c. search needs)
+    (λ c. search needs)
+    (λ c. search needs)
     returns
-    add-t7
-    mul-t11
-    array-copy-out-t10
+    (λ c. search needs)
+    (λ c. search needs)
+    (λ c. search needs)
     returns-2)

@@ -6,12 +6,6 @@ use borrow.Author.Needs.{needs}
 use Rattle.evaluate.proofs.entry.Statement.{statement}
 use Rattle.evaluate.proofs.entry.Tie as tie
 
-mul-result : tie.Need-mul-result
-mul-result c = search needs
-
-shared-slice-copy-out-result : tie.Need-shared-slice-copy-out-result
-shared-slice-copy-out-result c = search needs
-
 cast-result : tie.Need-cast-result
 cast-result c = let s = c .before .args in widen-fits (getD (s .records .now) (s .i) (pos 0)) (c .result .given)
 
@@ -19,4 +13,4 @@ returns : tie.Need-returns
 returns c = let s = c .before .args in widened (getD (s .records .now) (s .i) (pos 0)) (c .result .given)
 
 pub entry-spec : {M : Type 1} → statement M
-entry-spec = tie.close (tie.spec mul-result shared-slice-copy-out-result cast-result returns)
+entry-spec = tie.close (tie.spec (λ c. search needs) (λ c. search needs) cast-result returns)

@@ -10,9 +10,6 @@ use Rattle.evaluate.proofs.is_slope.Tie as tie
 enum-told : tie.Need-enum-told
 enum-told c = search needs
 
-enum-told-2 : tie.Need-enum-told-2
-enum-told-2 c = search needs
-
 returns : tie.Need-returns
 unfolding kindOf kindOn
 returns c n = sym (ap (λ w. kindOn (wanted w) (lastAxis n (wanted w))) (c .enum-told .given .1))
@@ -22,4 +19,4 @@ unfolding kindOf
 returns-2 c n = sym (ap (λ w. kindOn (wanted w) (lastAxis n (wanted w))) (c .enum-told2 .given .1) ∙ kind-slope _ n)
 
 pub is-slope-spec : {M : Type 1} → statement M
-is-slope-spec = tie.close (tie.spec enum-told enum-told-2 returns returns-2)
+is-slope-spec = tie.close (tie.spec enum-told (λ c. search needs) returns returns-2)

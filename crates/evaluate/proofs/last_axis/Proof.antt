@@ -8,12 +8,6 @@ use Rattle.evaluate.proofs.last_axis.Tie as tie
 enum-told : tie.Need-enum-told
 enum-told c = search needs
 
-sub-result : tie.Need-sub-result
-sub-result c = search needs
-
-enum-known-want : tie.Need-enum-known-want
-enum-known-want c = search needs
-
 returns : tie.Need-returns
 unfolding lastAxis
 returns c = sym (ap (λ w. lastAxis (c .before .before .args .n) (wanted w)) (c .enum-told .given .1))
@@ -23,4 +17,4 @@ unfolding lastAxis
 returns-2 c = sym (ap (λ w. lastAxis (c .before .before .before .args .n) (wanted w)) (c .before .want .given .1))
 
 pub last-axis-spec : {M : Type 1} → statement M
-last-axis-spec = tie.close (tie.spec enum-told sub-result enum-known-want returns returns-2)
+last-axis-spec = tie.close (tie.spec enum-told (λ c. search needs) (λ c. search needs) returns returns-2)

@@ -3,16 +3,10 @@ use borrow.Author.Needs.{needs}
 use Rattle.evaluate.proofs.one_axis.Statement.{statement}
 use Rattle.evaluate.proofs.one_axis.Tie as tie
 
-axis-of-requires : tie.Need-axis-of-requires
-axis-of-requires c κs = search needs
-
 first-requires : tie.Need-first-requires
 first-requires c κs =
     let e = c .axis-of .ensures in
     ((e .prepared, tt), c .before .pre .safe (c .axis-of .result) [] e tt (e .prepared, tt))
 
-returns : tie.Need-returns
-returns c = search needs
-
 pub one-axis-spec : {M : Type 1} → statement M
-one-axis-spec = tie.close (tie.spec axis-of-requires first-requires returns)
+one-axis-spec = tie.close (tie.spec (λ c κs. search needs) first-requires (λ c. search needs))

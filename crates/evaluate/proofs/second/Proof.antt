@@ -91,9 +91,6 @@ array-set-from-high c = let h = c .before .before .before .before .before .pre .
 add-o : tie.Need-add-o Inv-loop μ-loop
 add-o c = let h = c .before .before .before .before .before .pre .0 .0 .folds .m-high in omega arith
 
-loop-less : tie.Need-loop-less Inv-loop μ-loop
-loop-less c = omega arith
-
 loop-again : tie.Need-loop-again Inv-loop μ-loop
 loop-again c =
     let s = c .before .before .before .before .before in
@@ -140,7 +137,7 @@ second-spec =
     mul-high
     array-set-from-high
     add-o
-    loop-less
+    (λ c. omega arith)
     loop-again
     stage-requires
     returns)

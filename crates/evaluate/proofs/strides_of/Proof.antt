@@ -12,24 +12,6 @@ use Rattle.evaluate.proofs.strides_of.Tie as tie
 mul-t9 : tie.Need-mul-t9
 mul-t9 c = let m = c .args .m in let k : m * m ≤ 3 * 3 = mul-le-mul (c .pre .0) (c .pre .0) in omega arith
 
-mul-t9-2 : tie.Need-mul-t9-2
-mul-t9-2 c = search needs
-
-array-read-t12 : tie.Need-array-read-t12
-array-read-t12 c = search needs
-
-mul-t13 : tie.Need-mul-t13
-mul-t13 c = search needs
-
-element-copy-out-t16 : tie.Need-element-copy-out-t16
-element-copy-out-t16 c = search needs
-
-mul-t17 : tie.Need-mul-t17
-mul-t17 c = search needs
-
-array-read-t20 : tie.Need-array-read-t20
-array-read-t20 c = search needs
-
 returns : tie.Need-returns
 returns c =
     let a = c .before .args in
@@ -40,10 +22,10 @@ strides-of-spec =
     tie.close
     (tie.spec
     mul-t9
-    mul-t9-2
-    array-read-t12
-    mul-t13
-    element-copy-out-t16
-    mul-t17
-    array-read-t20
+    (λ c. search needs)
+    (λ c. search needs)
+    (λ c. search needs)
+    (λ c. search needs)
+    (λ c. search needs)
+    (λ c. search needs)
     returns)

@@ -115,9 +115,6 @@ array-set-from-numbers c = low (c .before)
 add-t : tie.Need-add-t Inv-loop μ-loop
 add-t c = let h = low (c .before) in omega arith
 
-loop-less : tie.Need-loop-less Inv-loop μ-loop
-loop-less c = omega arith
-
 loop-again : tie.Need-loop-again Inv-loop μ-loop
 loop-again c =
     let d = c .before in
@@ -128,9 +125,6 @@ loop-again c =
       held-more (s .args .m) (s .args .three) (s .args .z) (after (s .args .m) (xs s) (raw s)) (s .args .p) (i .numbers) (i .t) (toZ w64 (ofZ w64 (c .second .result))) (i .inv .1) (low d) (i .inv .2)
           (read (c .second .result) (c .second .ok) ∙ c .second .ensures ∙ ap (λ (k : ℕ). after (s .args .m) (xs s) (raw s) (s .args .p + k)) (place-is d)),
     )
-
-array-copy-out-result : tie.Need-array-copy-out-result Inv-loop μ-loop
-array-copy-out-result c = omega arith
 
 returns : tie.Need-returns Inv-loop μ-loop
 returns c =
@@ -211,9 +205,9 @@ third-spec =
     mul-numbers
     array-set-from-numbers
     add-t
-    loop-less
+    (λ c. omega arith)
     loop-again
-    array-copy-out-result
+    (λ c. omega arith)
     returns
     end-of-requires
     end-of-requires-2

@@ -95,12 +95,6 @@ module _ (c : tie.After-enum-told2) where
   inside : firstOf 3 (positionOutcome (s here) (positionAt place)) ≡ done tt
   inside = subst (λ (p : Position). firstOf 3 (positionOutcome (s here) p) ≡ done tt) (sym place-is) (float-positions (s here) (x here) passed)
 
-check-asked-requires : tie.Need-check-asked-requires
-check-asked-requires c κs = search needs
-
-enum-known-asked : tie.Need-enum-known-asked
-enum-known-asked c = search needs
-
 returns : tie.Need-returns
 returns c =
     let b = c .before .before .before .before in
@@ -111,20 +105,8 @@ returns c =
 enum-told : tie.Need-enum-told
 enum-told c = search needs
 
-step-of-requires : tie.Need-step-of-requires
-step-of-requires c κs = search needs
-
-step-of-requires-2 : tie.Need-step-of-requires-2
-step-of-requires-2 c κs = search needs
-
-step-of-requires-3 : tie.Need-step-of-requires-3
-step-of-requires-3 c κs = search needs
-
 check-floats-requires : tie.Need-check-floats-requires
 check-floats-requires c κs = shape (c .before .before .before)
-
-enum-known-tested : tie.Need-enum-known-tested
-enum-known-tested c = search needs
 
 returns-2 : tie.Need-returns-2
 returns-2 c =
@@ -132,9 +114,6 @@ returns-2 c =
     let b = begun t in
     let r = c .before .tested .given .0 .0 in
     sym (ap (inFloat (want b)) (not-located (s b) (rs b) (want b) (x b) (r .number) (r .place) (asked (first-asked t)) (sym (tests t) ∙ ap meaning (c .before .tested .given .1))))
-
-enum-told-2 : tie.Need-enum-told-2
-enum-told-2 c = search needs
 
 read-position-requires : tie.Need-read-position-requires
 read-position-requires c κs = let e = c .before .before .before in (asked (first-asked (tested e)), inside e)
@@ -158,17 +137,17 @@ pub at-float-spec : {M : Type 1} → statement M
 at-float-spec =
     tie.close
     (tie.spec
-    check-asked-requires
-    enum-known-asked
+    (λ c κs. search needs)
+    (λ c. search needs)
     returns
     enum-told
-    step-of-requires
-    step-of-requires-2
-    step-of-requires-3
+    (λ c κs. search needs)
+    (λ c κs. search needs)
+    (λ c κs. search needs)
     check-floats-requires
-    enum-known-tested
+    (λ c. search needs)
     returns-2
-    enum-told-2
+    (λ c. search needs)
     read-position-requires
     in-float-requires
     returns-3)

@@ -8,15 +8,6 @@ use borrow.Author.Needs.{needs}
 use Rattle.float_query.proofs.check_float.Statement.{statement}
 use Rattle.float_query.proofs.check_float.Tie as tie
 
-refuse-unless-requires : tie.Need-refuse-unless-requires
-refuse-unless-requires c κs = search needs
-
-check-coordinate-requires : tie.Need-check-coordinate-requires
-check-coordinate-requires c κs = search needs
-
-earlier-requires : tie.Need-earlier-requires
-earlier-requires c κs = search needs
-
 returns : tie.Need-returns
 unfolding heldOutcome
 returns c =
@@ -27,4 +18,4 @@ returns c =
     (c .before .check-coordinate .ensures ∙ ap (λ (z : ℤ). coordinateOutcome (b .args .count) z (b .args .axis)) k)
 
 pub check-float-spec : {M : Type 1} → statement M
-check-float-spec = tie.close (tie.spec refuse-unless-requires check-coordinate-requires earlier-requires returns)
+check-float-spec = tie.close (tie.spec (λ c κs. search needs) (λ c κs. search needs) (λ c κs. search needs) returns)

@@ -34,20 +34,11 @@ module _ (c : tie.After-known-told2) where
   read : toZ w32 (ofZ w32 v) ≡ v
   read = toZ-ofZ {w = w32} (sfits-abs v (lt-of-lt-of-le small (lit≤ tt)))
 
-enum-known-a : tie.Need-enum-known-a
-enum-known-a c = search needs
-
-enum-known-a-2 : tie.Need-enum-known-a-2
-enum-known-a-2 c = search needs
-
 whole-requires : tie.Need-whole-requires
 whole-requires c κs = subst (λ z. natAbs z < 2 ^ 24) (sym (read c)) (small c)
 
 enum-told : tie.Need-enum-told
 enum-told c = search needs
-
-enum-told-2 : tie.Need-enum-told-2
-enum-told-2 c = search needs
 
 returns : tie.Need-returns
 returns c = let a = c .before .before .before .args in sym (ap (λ z. inFloat (wanted (a .slope-axis)) (told z)) (c .before .a .given .1))
@@ -70,11 +61,11 @@ pub in-float-spec : {M : Type 1} → statement M
 in-float-spec =
     tie.close
     (tie.spec
-    enum-known-a
-    enum-known-a-2
+    (λ c. search needs)
+    (λ c. search needs)
     whole-requires
     enum-told
-    enum-told-2
+    (λ c. search needs)
     returns
     returns-2
     returns-3)

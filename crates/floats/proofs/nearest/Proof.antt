@@ -32,17 +32,8 @@ back c = ofBits-toBits binary32 (c .args .y) (subst T (sym (c .good .0 .1)) tt)
 high : (c : tie.Start) → 158 ≤ exponent (bits c) → nearestHeld (c .args .y) ≡ nearestHeld (inf (leb 2147483648 (bits c)))
 high c h = ap nearestHeld (sym (back c)) ∙ bits-high (bits c) h (subst (λ (v : Float). T (not (isNan v))) (sym (back c)) (c .pre))
 
-float-to-bits-b : tie.Need-float-to-bits-b
-float-to-bits-b c = search needs
-
 returns : tie.Need-returns
 returns c = sym (ap nearestHeld (sym (back (c .before))) ∙ bits-low (bits (c .before)) (c .if1 .taken))
-
-significand-requires : tie.Need-significand-requires
-significand-requires c κs = search needs
-
-sub-rounded : tie.Need-sub-rounded
-sub-rounded c = search needs
 
 -- the significand, read back
 significand : (c : tie.After-significand) → toZ w64 (ofZ w64 (c .significand .result)) ≡ digits (bits (c .before .before .before))
@@ -100,10 +91,10 @@ pub nearest-spec : {M : Type 1} → statement M
 nearest-spec =
     tie.close
     (tie.spec
-    float-to-bits-b
+    (λ c. search needs)
     returns
-    significand-requires
-    sub-rounded
+    (λ c κs. search needs)
+    (λ c. search needs)
     rounded-requires
     cast-result
     returns-2

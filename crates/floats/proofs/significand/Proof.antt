@@ -30,18 +30,6 @@ module _ (n : ℕ) (h : n ≤ 8589934592) where
 small : (b : ℕ) → (b % 8388608 + 8388608) * 512 ≤ 8589934592
 small b = omega arith
 
-add-m : tie.Need-add-m
-add-m c = search needs
-
-cast-m : tie.Need-cast-m
-cast-m c = search needs
-
-mul-m : tie.Need-mul-m
-mul-m c = search needs
-
-cast-m-2 : tie.Need-cast-m-2
-cast-m-2 c = search needs
-
 sub-result : tie.Need-sub-result
 sub-result c =
     let b = c .before .args .b in
@@ -61,4 +49,4 @@ returns-2 c =
 
 pub significand-spec : {M : Type 1} → statement M
 significand-spec =
-    tie.close (tie.spec add-m cast-m mul-m cast-m-2 sub-result returns returns-2)
+    tie.close (tie.spec (λ c. search needs) (λ c. search needs) (λ c. search needs) (λ c. search needs) sub-result returns returns-2)

@@ -23,15 +23,6 @@ module _ (n : ℕ) (h : n ≤ 256) where
   distance-size : natAbs (toZ w64 n) ≤ 256
   distance-size = le-trans (le-of-eq (ap natAbs distance)) h
 
-sub-a : tie.Need-sub-a
-sub-a c = search needs
-
-cast-a : tie.Need-cast-a
-cast-a c = search needs
-
-cast-b : tie.Need-cast-b
-cast-b c = search needs
-
 end-basis-requires : tie.Need-end-basis-requires
 end-basis-requires c κs = (c .pre .0, c .pre .1, distance-size (256 - c .args .u) (omega arith), distance-size (c .args .u) (c .pre .2))
 
@@ -55,9 +46,9 @@ pub basis-at-spec : {M : Type 1} → statement M
 basis-at-spec =
     tie.close
     (tie.spec
-    sub-a
-    cast-a
-    cast-b
+    (λ c. search needs)
+    (λ c. search needs)
+    (λ c. search needs)
     end-basis-requires
     end-basis-requires-2
     mirrored-requires

@@ -25,23 +25,14 @@ k-w c i t = element (c .args .t4) i (2 ^ 43) (c .pre .1 i (lit< t)) (lit< tt)
 
 ruleset known = (k-x, k-y, k-z, k-w, sizes)
 
-array-copy-out-result : tie.Need-array-copy-out-result
-array-copy-out-result c = search needs
-
 mul-result : tie.Need-mul-result
 mul-result c = fits? (search known depth 40 fits 3000) (omega arith)
-
-array-copy-out-result-2 : tie.Need-array-copy-out-result-2
-array-copy-out-result-2 c = search needs
 
 mul-result-2 : tie.Need-mul-result-2
 mul-result-2 c = fits? (search known depth 40 fits 3000) (omega arith)
 
 add-result : tie.Need-add-result
 add-result c = fits? (search known depth 40 fits 3000) (omega arith)
-
-array-copy-out-result-3 : tie.Need-array-copy-out-result-3
-array-copy-out-result-3 c = search needs
 
 mul-result-3 : tie.Need-mul-result-3
 mul-result-3 c = fits? (search known depth 40 fits 3000) (omega arith)
@@ -56,12 +47,12 @@ pub combined-spec : {M : Type 1} → statement M
 combined-spec =
     tie.close
     (tie.spec
-    array-copy-out-result
+    (λ c. search needs)
     mul-result
-    array-copy-out-result-2
+    (λ c. search needs)
     mul-result-2
     add-result
-    array-copy-out-result-3
+    (λ c. search needs)
     mul-result-3
     add-result-2
     returns)

@@ -6,20 +6,8 @@ use borrow.Author.Needs.{needs}
 use Rattle.hermite.proofs.dot.Statement.{statement}
 use Rattle.hermite.proofs.dot.Tie as tie
 
-array-copy-out-result : tie.Need-array-copy-out-result
-array-copy-out-result c = search needs
-
-array-copy-out-result-2 : tie.Need-array-copy-out-result-2
-array-copy-out-result-2 c = search needs
-
 mul-result : tie.Need-mul-result
 mul-result c = let p = c .before .before .before in one-fits (at (p .args .t2)) (at (p .args .t3)) (p .pre .0) 0 (lit< tt) (c .before .result .given) (c .result2 .given)
-
-array-copy-out-result-3 : tie.Need-array-copy-out-result-3
-array-copy-out-result-3 c = search needs
-
-array-copy-out-result-4 : tie.Need-array-copy-out-result-4
-array-copy-out-result-4 c = search needs
 
 mul-result-2 : tie.Need-mul-result-2
 mul-result-2 c = let p = c .before .before .before .before .before in one-fits (at (p .args .t2)) (at (p .args .t3)) (p .pre .0) 1 (lit< tt) (c .before .result3 .given) (c .result4 .given)
@@ -30,32 +18,14 @@ add-result c = let p = c .before .before .before .before .before in two-fits (at
 returns : tie.Need-returns
 returns c = let p = c .before .before .before .before .before in two-whole (at (p .args .t2)) (at (p .args .t3)) (p .pre .0) (c .before .before .before .result .given) (c .before .before .result2 .given) (c .before .result3 .given) (c .result4 .given) (p .pre .1 (c .before .before .before .before .if1 .taken))
 
-array-copy-out-result-5 : tie.Need-array-copy-out-result-5
-array-copy-out-result-5 c = search needs
-
-array-copy-out-result-6 : tie.Need-array-copy-out-result-6
-array-copy-out-result-6 c = search needs
-
 mul-result-3 : tie.Need-mul-result-3
 mul-result-3 c = let p = c .before .before .before in one-fits (at (p .args .t2)) (at (p .args .t3)) (p .pre .0) 0 (lit< tt) (c .before .result5 .given) (c .result6 .given)
-
-array-copy-out-result-7 : tie.Need-array-copy-out-result-7
-array-copy-out-result-7 c = search needs
-
-array-copy-out-result-8 : tie.Need-array-copy-out-result-8
-array-copy-out-result-8 c = search needs
 
 mul-result-4 : tie.Need-mul-result-4
 mul-result-4 c = let p = c .before .before .before .before .before in one-fits (at (p .args .t2)) (at (p .args .t3)) (p .pre .0) 1 (lit< tt) (c .before .result7 .given) (c .result8 .given)
 
 add-result-2 : tie.Need-add-result-2
 add-result-2 c = let p = c .before .before .before .before .before in two-fits (at (p .args .t2)) (at (p .args .t3)) (p .pre .0) (c .before .before .before .result5 .given) (c .before .before .result6 .given) (c .before .result7 .given) (c .result8 .given)
-
-array-copy-out-result-9 : tie.Need-array-copy-out-result-9
-array-copy-out-result-9 c = search needs
-
-array-copy-out-result-10 : tie.Need-array-copy-out-result-10
-array-copy-out-result-10 c = search needs
 
 mul-result-5 : tie.Need-mul-result-5
 mul-result-5 c = let p = c .before .before .before .before .before .before .before in one-fits (at (p .args .t2)) (at (p .args .t3)) (p .pre .0) 2 (lit< tt) (c .before .result9 .given) (c .result10 .given)
@@ -70,23 +40,23 @@ pub dot-spec : {M : Type 1} → statement M
 dot-spec =
     tie.close
     (tie.spec
-    array-copy-out-result
-    array-copy-out-result-2
+    (λ c. search needs)
+    (λ c. search needs)
     mul-result
-    array-copy-out-result-3
-    array-copy-out-result-4
+    (λ c. search needs)
+    (λ c. search needs)
     mul-result-2
     add-result
     returns
-    array-copy-out-result-5
-    array-copy-out-result-6
+    (λ c. search needs)
+    (λ c. search needs)
     mul-result-3
-    array-copy-out-result-7
-    array-copy-out-result-8
+    (λ c. search needs)
+    (λ c. search needs)
     mul-result-4
     add-result-2
-    array-copy-out-result-9
-    array-copy-out-result-10
+    (λ c. search needs)
+    (λ c. search needs)
     mul-result-5
     add-result-3
     returns-2)

@@ -37,18 +37,6 @@ module _ (c : tie.After-weights) where
       let W : ℕ → ℤ = weight (kindOf (s .args .slope)) (s .args .a) (s .args .b) (2 * s .args .m - 1) in
       rows-sum n (at (c .weights .result)) W plain o ∙ ap (λ (i : ℕ). sum 3 (λ k. multiplier i k o *ℤ W k)) e
 
-weights-requires : tie.Need-weights-requires
-weights-requires c κs = search needs
-
-array-copy-out-folded : tie.Need-array-copy-out-folded
-array-copy-out-folded c = search needs
-
-array-copy-out-folded-2 : tie.Need-array-copy-out-folded-2
-array-copy-out-folded-2 c = search needs
-
-array-copy-out-folded-3 : tie.Need-array-copy-out-folded-3
-array-copy-out-folded-3 c = search needs
-
 folded-requires : tie.Need-folded-requires
 unfolding multiplier
 folded-requires c κs = (multiplier-size 2 (lit≤ tt) (lit≤ tt), small (c .before .before .before .before))
@@ -56,15 +44,6 @@ folded-requires c κs = (multiplier-size 2 (lit≤ tt) (lit≤ tt), small (c .be
 returns : tie.Need-returns
 unfolding multiplier
 returns c o l = c .folded .ensures o l ∙ by-rows (c .before .before .before .before .before) 2 (sym (c .before .before .before .before .if1 .taken)) o
-
-array-copy-out-folded-4 : tie.Need-array-copy-out-folded-4
-array-copy-out-folded-4 c = search needs
-
-array-copy-out-folded-5 : tie.Need-array-copy-out-folded-5
-array-copy-out-folded-5 c = search needs
-
-array-copy-out-folded-6 : tie.Need-array-copy-out-folded-6
-array-copy-out-folded-6 c = search needs
 
 folded-requires-2 : tie.Need-folded-requires-2
 unfolding multiplier
@@ -81,14 +60,14 @@ pub end-basis-spec : {M : Type 1} → statement M
 end-basis-spec =
     tie.close
     (tie.spec
-    weights-requires
-    array-copy-out-folded
-    array-copy-out-folded-2
-    array-copy-out-folded-3
+    (λ c κs. search needs)
+    (λ c. search needs)
+    (λ c. search needs)
+    (λ c. search needs)
     folded-requires
     returns
-    array-copy-out-folded-4
-    array-copy-out-folded-5
-    array-copy-out-folded-6
+    (λ c. search needs)
+    (λ c. search needs)
+    (λ c. search needs)
     folded-requires-2
     returns-2)

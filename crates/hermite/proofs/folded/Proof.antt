@@ -32,38 +32,11 @@ module _ (s : tie.Start) (o : ℕ) (l : o < 3) where
       let h = s .pre .0 o l in
       read r ok ∙ e ∙ rw (plain (at (s .args .t1) o) (h .0), plain (at (s .args .t2) o) (h .1), plain (at (s .args .t3) o) (h .2))
 
-array-copy-out-combined : tie.Need-array-copy-out-combined
-array-copy-out-combined c = search needs
-
-array-copy-out-combined-2 : tie.Need-array-copy-out-combined-2
-array-copy-out-combined-2 c = search needs
-
-array-copy-out-combined-3 : tie.Need-array-copy-out-combined-3
-array-copy-out-combined-3 c = search needs
-
 combined-requires : tie.Need-combined-requires
 combined-requires c κs = asks (c .before .before .before) 0 (lit< tt)
 
-array-copy-out-combined-4 : tie.Need-array-copy-out-combined-4
-array-copy-out-combined-4 c = search needs
-
-array-copy-out-combined-5 : tie.Need-array-copy-out-combined-5
-array-copy-out-combined-5 c = search needs
-
-array-copy-out-combined-6 : tie.Need-array-copy-out-combined-6
-array-copy-out-combined-6 c = search needs
-
 combined-requires-2 : tie.Need-combined-requires-2
 combined-requires-2 c κs = asks (c .before .before .before .before .before .before .before) 1 (lit< tt)
-
-array-copy-out-combined-7 : tie.Need-array-copy-out-combined-7
-array-copy-out-combined-7 c = search needs
-
-array-copy-out-combined-8 : tie.Need-array-copy-out-combined-8
-array-copy-out-combined-8 c = search needs
-
-array-copy-out-combined-9 : tie.Need-array-copy-out-combined-9
-array-copy-out-combined-9 c = search needs
 
 combined-requires-3 : tie.Need-combined-requires-3
 combined-requires-3 c κs = asks (c .before .before .before .before .before .before .before .before .before .before .before) 2 (lit< tt)
@@ -79,16 +52,16 @@ pub folded-spec : {M : Type 1} → statement M
 folded-spec =
     tie.close
     (tie.spec
-    array-copy-out-combined
-    array-copy-out-combined-2
-    array-copy-out-combined-3
+    (λ c. search needs)
+    (λ c. search needs)
+    (λ c. search needs)
     combined-requires
-    array-copy-out-combined-4
-    array-copy-out-combined-5
-    array-copy-out-combined-6
+    (λ c. search needs)
+    (λ c. search needs)
+    (λ c. search needs)
     combined-requires-2
-    array-copy-out-combined-7
-    array-copy-out-combined-8
-    array-copy-out-combined-9
+    (λ c. search needs)
+    (λ c. search needs)
+    (λ c. search needs)
     combined-requires-3
     returns)

@@ -17,17 +17,8 @@ k-x c i t = element (c .args .t2) i (2 ^ 62) (c .pre i (lit< t)) (lit< tt)
 
 ruleset known = (k-x, sizes)
 
-array-copy-out-t7 : tie.Need-array-copy-out-t7
-array-copy-out-t7 c = search needs
-
 sub-t8 : tie.Need-sub-t8
 sub-t8 c = fits? (search known depth 40) (omega arith)
-
-array-copy-out-t11 : tie.Need-array-copy-out-t11
-array-copy-out-t11 c = search needs
-
-array-copy-out-t14 : tie.Need-array-copy-out-t14
-array-copy-out-t14 c = search needs
 
 sub-t15 : tie.Need-sub-t15
 sub-t15 c = fits? (search known depth 40) (omega arith)
@@ -37,17 +28,8 @@ returns c =
     let s = c .before .before .before .before in
     mirror-slope (s .args .t2) _ _ _ (s .args .slope) (c .before .before .before .if1 .taken) (value? (search known depth 40) (omega arith)) (value? (search known depth 40) tt) (value? (search known depth 40) (omega arith))
 
-array-copy-out-t18 : tie.Need-array-copy-out-t18
-array-copy-out-t18 c = search needs
-
-array-copy-out-t21 : tie.Need-array-copy-out-t21
-array-copy-out-t21 c = search needs
-
 sub-t22 : tie.Need-sub-t22
 sub-t22 c = fits? (search known depth 40) (omega arith)
-
-array-copy-out-t25 : tie.Need-array-copy-out-t25
-array-copy-out-t25 c = search needs
 
 returns-2 : tie.Need-returns-2
 returns-2 c =
@@ -58,14 +40,14 @@ pub mirrored-spec : {M : Type 1} → statement M
 mirrored-spec =
     tie.close
     (tie.spec
-    array-copy-out-t7
+    (λ c. search needs)
     sub-t8
-    array-copy-out-t11
-    array-copy-out-t14
+    (λ c. search needs)
+    (λ c. search needs)
     sub-t15
     returns
-    array-copy-out-t18
-    array-copy-out-t21
+    (λ c. search needs)
+    (λ c. search needs)
     sub-t22
-    array-copy-out-t25
+    (λ c. search needs)
     returns-2)

@@ -21,25 +21,16 @@ module _ (p q D t f : ℕ) (e : q ≡ p + 3) where
   down : 2 ^ q ≡ D → t ≡ 8 → f ≡ 1 → 2 ^ p * t ≡ D * f
   down d a b = rw (a, b) (omega (arith, eightfold, d))
 
-exponent-requires : tie.Need-exponent-requires
-exponent-requires c κs = search needs
-
 returns : tie.Need-returns
 returns c =
     let s = c .before .before .before in
     (omega arith, ap₂ (λ (x : ℕ) (b : Bool). x * worth b) (c .before .before .exponent .ensures .2) (c .before .if1 .taken ∙ sym (c .if2 .taken)))
-
-add-result : tie.Need-add-result
-add-result c = search needs
 
 returns-2 : tie.Need-returns-2
 unfolding worth
 returns-2 c =
     let r = c .before .before .exponent in
     (omega arith, up (r .result + 1) (r .result + 3 + 1) _ _ _ (omega arith) (r .ensures .2) (ap worth (c .before .if1 .taken)) (ap worth (c .if2 .left)))
-
-sub-result : tie.Need-sub-result
-sub-result c = search needs
 
 returns-3 : tie.Need-returns-3
 unfolding worth
@@ -53,4 +44,4 @@ returns-4 c = (omega arith, ap₂ (λ (x : ℕ) (b : Bool). x * worth b) (c .bef
 pub shift-spec : {M : Type 1} → statement M
 shift-spec =
     tie.close
-    (tie.spec exponent-requires returns add-result returns-2 sub-result returns-3 returns-4)
+    (tie.spec (λ c κs. search needs) returns (λ c. search needs) returns-2 (λ c. search needs) returns-3 returns-4)

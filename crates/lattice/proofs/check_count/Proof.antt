@@ -7,15 +7,6 @@ use borrow.Author.Needs.{needs}
 use Rattle.lattice.proofs.check_count.Statement.{statement}
 use Rattle.lattice.proofs.check_count.Tie as tie
 
-cast-place : tie.Need-cast-place
-cast-place c = search needs
-
-refuse-unless-requires : tie.Need-refuse-unless-requires
-refuse-unless-requires c κs = search needs
-
-refuse-unless-requires-2 : tie.Need-refuse-unless-requires-2
-refuse-unless-requires-2 c κs = search needs
-
 returns : tie.Need-returns
 unfolding countAllowed pick
 returns c = c .refuse-unless .ensures ∙ ⊎-elim (λ w. simp (w .1, le-leb _ _ (w .0 .taken), lt-ltb _ _ (c .before .before .if1 .taken))) (λ w. simp (w .1, lt-leb _ _ (w .0 .left), lt-ltb _ _ (c .before .before .if1 .taken))) (c .before .if2 .came)
@@ -27,4 +18,4 @@ returns-2 c = c .refuse-unless2 .ensures ∙ simp (le-ltb _ _ (c .before .if1 .l
 pub check-count-spec : {M : Type 1} → statement M
 check-count-spec =
     tie.close
-    (tie.spec cast-place refuse-unless-requires refuse-unless-requires-2 returns returns-2)
+    (tie.spec (λ c. search needs) (λ c κs. search needs) (λ c κs. search needs) returns returns-2)

@@ -6,12 +6,9 @@ use borrow.Author.Needs.{needs}
 use Rattle.lattice.proofs.check_degree.Statement.{statement}
 use Rattle.lattice.proofs.check_degree.Tie as tie
 
-refuse-unless-requires : tie.Need-refuse-unless-requires
-refuse-unless-requires c κs = search needs
-
 returns : tie.Need-returns
 unfolding degreeOutcome
 returns c = c .refuse-unless .ensures ∙ ⊎-elim (λ w. simp (w .1, eq-eqb _ _ (w .0 .taken))) (λ w. simp (w .1, ne-eqb _ _ (w .0 .left))) (c .before .if1 .came)
 
 pub check-degree-spec : {M : Type 1} → statement M
-check-degree-spec = tie.close (tie.spec refuse-unless-requires returns)
+check-degree-spec = tie.close (tie.spec (λ c κs. search needs) returns)

@@ -31,20 +31,8 @@ loop-holds : tie.Need-loop-holds Inv-loop μ-loop
 unfolding firstOf
 loop-holds c = (omega arith, refl)
 
-mul-x : tie.Need-mul-x Inv-loop μ-loop
-mul-x c = search needs
-
-shared-slice-copy-out-x : tie.Need-shared-slice-copy-out-x Inv-loop μ-loop
-shared-slice-copy-out-x c = omega arith
-
 cast-x : tie.Need-cast-x Inv-loop μ-loop
 cast-x c = widen-fits (getD (c .before .before .before .args .xs .now) (c .before .before .loop .i) (pos 0)) (c .x .given)
-
-magnitude-requires : tie.Need-magnitude-requires Inv-loop μ-loop
-magnitude-requires c κs = search needs
-
-refuse-unless-requires : tie.Need-refuse-unless-requires Inv-loop μ-loop
-refuse-unless-requires c κs = search needs
 
 returns : tie.Need-returns Inv-loop μ-loop
 returns c =
@@ -55,12 +43,6 @@ returns c =
     c .refuse-unless .ensures
     ∙ sym (limit-stops limit xs i (omega arith) (b .loop .inv .1)
     (omega (arith, c .before .if1 .taken, size-is limit _ xs i (c .before .before .before .x .given) (c .before .before .magnitude .ensures))))
-
-add-i : tie.Need-add-i Inv-loop μ-loop
-add-i c = omega arith
-
-loop-less : tie.Need-loop-less Inv-loop μ-loop
-loop-less c = omega arith
 
 loop-again : tie.Need-loop-again Inv-loop μ-loop
 loop-again c =
@@ -83,13 +65,13 @@ check-limit-spec =
     Inv-loop
     μ-loop
     loop-holds
-    mul-x
-    shared-slice-copy-out-x
+    (λ c. search needs)
+    (λ c. omega arith)
     cast-x
-    magnitude-requires
-    refuse-unless-requires
+    (λ c κs. search needs)
+    (λ c κs. search needs)
     returns
-    add-i
-    loop-less
+    (λ c. omega arith)
+    (λ c. omega arith)
     loop-again
     returns-2)

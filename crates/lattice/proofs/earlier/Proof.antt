@@ -6,17 +6,8 @@ use borrow.Author.Needs.{needs}
 use Rattle.lattice.proofs.earlier.Statement.{statement}
 use Rattle.lattice.proofs.earlier.Tie as tie
 
-enum-known-a : tie.Need-enum-known-a
-enum-known-a c = search needs
-
 enum-told : tie.Need-enum-told
 enum-told c = search needs
-
-enum-known-b : tie.Need-enum-known-b
-enum-known-b c = search needs
-
-enum-told-2 : tie.Need-enum-told-2
-enum-told-2 c = search needs
 
 returns : tie.Need-returns
 returns c = sym (refused-first _ (ap meaning (c .before .a .given .1)))
@@ -31,4 +22,4 @@ returns-3 c = sym (first-passed _ _ (ap meaning (c .before .before .enum-told .g
 pub earlier-spec : {M : Type 1} → statement M
 earlier-spec =
     tie.close
-    (tie.spec enum-known-a enum-told enum-known-b enum-told-2 returns returns-2 returns-3)
+    (tie.spec (λ c. search needs) enum-told (λ c. search needs) (λ c. search needs) returns returns-2 returns-3)

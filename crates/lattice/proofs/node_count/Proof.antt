@@ -6,24 +6,6 @@ use borrow.Author.Needs.{needs}
 use Rattle.lattice.proofs.node_count.Statement.{statement}
 use Rattle.lattice.proofs.node_count.Tie as tie
 
-element-copy-out-x : tie.Need-element-copy-out-x
-element-copy-out-x c = search needs
-
-cast-x : tie.Need-cast-x
-cast-x c = search needs
-
-element-copy-out-y : tie.Need-element-copy-out-y
-element-copy-out-y c = search needs
-
-cast-y : tie.Need-cast-y
-cast-y c = search needs
-
-element-copy-out-z : tie.Need-element-copy-out-z
-element-copy-out-z c = search needs
-
-cast-z : tie.Need-cast-z
-cast-z c = search needs
-
 mul-result : tie.Need-mul-result
 unfolding count
 mul-result c = omega (arith, plane-high (c .before .before .before .args .t1) (c .before .before .before .pre))
@@ -40,12 +22,12 @@ pub node-count-spec : {M : Type 1} → statement M
 node-count-spec =
     tie.close
     (tie.spec
-    element-copy-out-x
-    cast-x
-    element-copy-out-y
-    cast-y
-    element-copy-out-z
-    cast-z
+    (λ c. search needs)
+    (λ c. search needs)
+    (λ c. search needs)
+    (λ c. search needs)
+    (λ c. search needs)
+    (λ c. search needs)
     mul-result
     mul-result-2
     returns)

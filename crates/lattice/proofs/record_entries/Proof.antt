@@ -24,9 +24,6 @@ module _ (s : Shape) (m : ℕ) (e : m ≡ orders s) where
   cube-high : m * m * m ≤ 27
   cube-high = mul-le-mul {m₂ = 3} square-high (rw e (orders-range (s .degree) .1))
 
-orders-requires : tie.Need-orders-requires
-orders-requires c κs = search needs
-
 returns : tie.Need-returns
 returns c = let s = c .before .before .args .s in c .before .orders .ensures ∙ sym (pow-one (orders s)) ∙ power s _ refl 1 (c .if1 .taken)
 
@@ -50,4 +47,4 @@ returns-3 c =
 pub record-entries-spec : {M : Type 1} → statement M
 record-entries-spec =
     tie.close
-    (tie.spec orders-requires returns mul-result returns-2 mul-result-2 mul-result-3 returns-3)
+    (tie.spec (λ c κs. search needs) returns mul-result returns-2 mul-result-2 mul-result-3 returns-3)

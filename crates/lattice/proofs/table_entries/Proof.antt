@@ -5,12 +5,6 @@ use borrow.Author.Needs.{needs}
 use Rattle.lattice.proofs.table_entries.Statement.{statement}
 use Rattle.lattice.proofs.table_entries.Tie as tie
 
-node-count-requires : tie.Need-node-count-requires
-node-count-requires c κs = search needs
-
-record-entries-requires : tie.Need-record-entries-requires
-record-entries-requires c κs = search needs
-
 mul-result : tie.Need-mul-result
 unfolding size
 mul-result c = rw (c .before .node-count .ensures, c .record-entries .ensures) (omega (arith, size-high (c .before .before .args .s) (c .before .before .pre)))
@@ -21,4 +15,4 @@ returns c = cc
 
 pub table-entries-spec : {M : Type 1} → statement M
 table-entries-spec =
-    tie.close (tie.spec node-count-requires record-entries-requires mul-result returns)
+    tie.close (tie.spec (λ c κs. search needs) (λ c κs. search needs) mul-result returns)

@@ -4,17 +4,8 @@ use borrow.Author.Needs.{needs}
 use Rattle.lukhtari.proofs.lukhtari_corners.Statement.{statement}
 use Rattle.lukhtari.proofs.lukhtari_corners.Tie as tie
 
-corners-requires : tie.Need-corners-requires
-corners-requires c κs = search needs
-
-done-of-requires : tie.Need-done-of-requires
-done-of-requires c κs = search needs
-
-same-length : tie.Need-same-length
-same-length c = search needs
-
 returns : tie.Need-returns
 returns c = let b = c .before .before in (c .done-of .ensures ∙ ap doneOf (b .corners .ensures .0), b .corners .ensures .1)
 
 pub lukhtari-corners-spec : {M : Type 1} → statement M
-lukhtari-corners-spec = tie.close (tie.spec corners-requires done-of-requires same-length returns)
+lukhtari-corners-spec = tie.close (tie.spec (λ c κs. search needs) (λ c κs. search needs) (λ c. search needs) returns)

@@ -8,12 +8,6 @@ use borrow.Author.Needs.{needs}
 use Rattle.lukhtari.proofs.lukhtari_dose_float.Statement.{statement}
 use Rattle.lukhtari.proofs.lukhtari_dose_float.Tie as tie
 
-at-float-requires : tie.Need-at-float-requires
-at-float-requires c κs = search needs
-
-real-of-requires : tie.Need-real-of-requires
-real-of-requires c κs = search needs
-
 returns : tie.Need-returns
 returns c =
     let b = c .before in
@@ -21,4 +15,4 @@ returns c =
     c .real-of .ensures ∙ ap realOf (b .at-float .ensures) ∙ real-held dose (byFloat (a .shape) (now (a .records)) dose (floatsAt (a .position)))
 
 pub lukhtari-dose-float-spec : {M : Type 1} → statement M
-lukhtari-dose-float-spec = tie.close (tie.spec at-float-requires real-of-requires returns)
+lukhtari-dose-float-spec = tie.close (tie.spec (λ c κs. search needs) (λ c κs. search needs) returns)

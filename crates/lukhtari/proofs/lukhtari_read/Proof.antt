@@ -4,17 +4,8 @@ use borrow.Author.Needs.{needs}
 use Rattle.lukhtari.proofs.lukhtari_read.Statement.{statement}
 use Rattle.lukhtari.proofs.lukhtari_read.Tie as tie
 
-read-requires : tie.Need-read-requires
-read-requires c κs = search needs
-
-table-of-requires : tie.Need-table-of-requires
-table-of-requires c κs = search needs
-
-same-length : tie.Need-same-length
-same-length c = search needs
-
 returns : tie.Need-returns
 returns c = (c .table-of .ensures ∙ ap tableFrom (c .before .before .read .ensures .0), c .before .before .read .ensures .1)
 
 pub lukhtari-read-spec : {M : Type 1} → statement M
-lukhtari-read-spec = tie.close (tie.spec read-requires table-of-requires same-length returns)
+lukhtari-read-spec = tie.close (tie.spec (λ c κs. search needs) (λ c κs. search needs) (λ c. search needs) returns)

@@ -4,14 +4,8 @@ use borrow.Author.Needs.{needs}
 use Rattle.lukhtari.proofs.lukhtari_slope.Statement.{statement}
 use Rattle.lukhtari.proofs.lukhtari_slope.Tie as tie
 
-at-position-requires : tie.Need-at-position-requires
-at-position-requires c κs = search needs
-
-whole-of-requires : tie.Need-whole-of-requires
-whole-of-requires c κs = search needs
-
 returns : tie.Need-returns
 returns c = c .whole-of .ensures ∙ ap wholeFrom (c .before .at-position .ensures)
 
 pub lukhtari-slope-spec : {M : Type 1} → statement M
-lukhtari-slope-spec = tie.close (tie.spec at-position-requires whole-of-requires returns)
+lukhtari-slope-spec = tie.close (tie.spec (λ c κs. search needs) (λ c κs. search needs) returns)

@@ -4,17 +4,8 @@ use borrow.Author.Needs.{needs}
 use Rattle.lukhtari.proofs.lukhtari_write.Statement.{statement}
 use Rattle.lukhtari.proofs.lukhtari_write.Tie as tie
 
-write-requires : tie.Need-write-requires
-write-requires c κs = search needs
-
-written-of-requires : tie.Need-written-of-requires
-written-of-requires c κs = search needs
-
-same-length : tie.Need-same-length
-same-length c = search needs
-
 returns : tie.Need-returns
 returns c = (c .written-of .ensures ∙ ap writtenFrom (c .before .before .before .write .ensures .0), c .before .before .before .write .ensures .1)
 
 pub lukhtari-write-spec : {M : Type 1} → statement M
-lukhtari-write-spec = tie.close (tie.spec write-requires written-of-requires same-length returns)
+lukhtari-write-spec = tie.close (tie.spec (λ c κs. search needs) (λ c κs. search needs) (λ c. search needs) returns)

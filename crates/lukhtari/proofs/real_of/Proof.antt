@@ -16,15 +16,6 @@ nought : wholeOf (ofBits binary32 0) ≡ some (pos 0)
 unfolding wholeOf pick ofBits
 nought = refl
 
-enum-known-a : tie.Need-enum-known-a
-enum-known-a c = search needs
-
-enum-known-a-2 : tie.Need-enum-known-a-2
-enum-known-a-2 c = search needs
-
-enum-known-a-3 : tie.Need-enum-known-a-3
-enum-known-a-3 c = search needs
-
 returns : tie.Need-returns
 returns c = ap (λ a. realOf (toldFloat a)) (sym (c .before .a .given .1))
 
@@ -38,4 +29,4 @@ returns-3 c =
 
 pub real-of-spec : {M : Type 1} → statement M
 real-of-spec =
-    tie.close (tie.spec enum-known-a enum-known-a-2 enum-known-a-3 returns returns-2 returns-3)
+    tie.close (tie.spec (λ c. search needs) (λ c. search needs) (λ c. search needs) returns returns-2 returns-3)

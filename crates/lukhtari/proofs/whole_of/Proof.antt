@@ -9,12 +9,6 @@ use borrow.Author.Needs.{needs}
 use Rattle.lukhtari.proofs.whole_of.Statement.{statement}
 use Rattle.lukhtari.proofs.whole_of.Tie as tie
 
-enum-known-a : tie.Need-enum-known-a
-enum-known-a c = search needs
-
-enum-known-a-2 : tie.Need-enum-known-a-2
-enum-known-a-2 c = search needs
-
 returns : tie.Need-returns
 returns c =
     ap (λ (v : ℤ). wholeFrom (done v)) (toZ-ofZ {w = w32} (record { sfits = c .known-told .given .0 .1 }))
@@ -24,4 +18,4 @@ returns-2 : tie.Need-returns-2
 returns-2 c = ap (λ a. wholeFrom (told a)) (sym (c .before .a2 .given .1))
 
 pub whole-of-spec : {M : Type 1} → statement M
-whole-of-spec = tie.close (tie.spec enum-known-a enum-known-a-2 returns returns-2)
+whole-of-spec = tie.close (tie.spec (λ c. search needs) (λ c. search needs) returns returns-2)

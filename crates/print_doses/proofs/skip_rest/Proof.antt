@@ -15,12 +15,6 @@ loop-holds c = tt
 skip-some-requires : tie.Need-skip-some-requires Inv-loop μ-loop
 skip-some-requires c κs = tt
 
-sub-turns : tie.Need-sub-turns Inv-loop μ-loop
-sub-turns c = omega arith
-
-loop-less : tie.Need-loop-less Inv-loop μ-loop
-loop-less c = omega arith
-
 loop-again : tie.Need-loop-again Inv-loop μ-loop
 loop-again c = tt
 
@@ -31,4 +25,4 @@ returns-2 : tie.Need-returns-2 Inv-loop μ-loop
 returns-2 c = tt
 
 pub skip-rest-spec : {M : Type 1} → statement M
-skip-rest-spec = tie.close (tie.spec Inv-loop μ-loop loop-holds skip-some-requires sub-turns loop-less loop-again returns returns-2)
+skip-rest-spec = tie.close (tie.spec Inv-loop μ-loop loop-holds skip-some-requires (λ c. omega arith) (λ c. omega arith) loop-again returns returns-2)

@@ -34,20 +34,8 @@ module _ (c : tie.After-position-step) where
   facts : Near (start .args .s) (now (start .args .records)) (c .before .position-cell .result)
   facts = let a = start .args in near (a .s) (now (a .records)) (wanted (a .q .«slope_axis»)) (c .before .position-cell .result) (placeAt (c .position-step .result)) (place .0)
 
-check-query-requires : tie.Need-check-query-requires
-check-query-requires c κs = search needs
-
-enum-known-asked : tie.Need-enum-known-asked
-enum-known-asked c = search needs
-
 enum-told : tie.Need-enum-told
 enum-told c = search needs
-
-position-cell-requires : tie.Need-position-cell-requires
-position-cell-requires c κs = search needs
-
-position-step-requires : tie.Need-position-step-requires
-position-step-requires c κs = search needs
 
 lay-out-requires : tie.Need-lay-out-requires
 lay-out-requires c κs = (facts c .shape, facts c .here)
@@ -95,11 +83,11 @@ pub at-position-spec : {M : Type 1} → statement M
 at-position-spec =
     tie.close
     (tie.spec
-    check-query-requires
-    enum-known-asked
+    (λ c κs. search needs)
+    (λ c. search needs)
     enum-told
-    position-cell-requires
-    position-step-requires
+    (λ c κs. search needs)
+    (λ c κs. search needs)
     lay-out-requires
     corners-within-requires
     answer-requires

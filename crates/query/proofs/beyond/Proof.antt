@@ -5,12 +5,6 @@ use borrow.Author.Needs.{needs}
 use Rattle.query.proofs.beyond.Statement.{statement}
 use Rattle.query.proofs.beyond.Tie as tie
 
-check-corners-requires : tie.Need-check-corners-requires
-check-corners-requires c κs = search needs
-
-enum-known-tested : tie.Need-enum-known-tested
-enum-known-tested c = search needs
-
 enum-told : tie.Need-enum-told
 enum-told c = search needs
 
@@ -22,4 +16,4 @@ returns-2 c = absurd (passed-not _ (c .before .before .before .pre .1 .1) (sym (
 
 pub beyond-spec : {M : Type 1} → statement M
 beyond-spec =
-    tie.close (tie.spec check-corners-requires enum-known-tested enum-told returns returns-2)
+    tie.close (tie.spec (λ c κs. search needs) (λ c. search needs) enum-told returns returns-2)

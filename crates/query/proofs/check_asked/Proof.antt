@@ -15,9 +15,6 @@ use Rattle.query.proofs.check_asked.Tie as tie
 shape-ok : (c : tie.After-enum-told2) → Shaped (c .before .before .before .args .s)
 shape-ok c = shaped (c .before .before .before .args .s) (sym (c .before .before .check-shape .ensures) ∙ ap meaning (c .enum-told2 .given .1))
 
-check-shape-requires : tie.Need-check-shape-requires
-check-shape-requires c κs = search needs
-
 enum-told : tie.Need-enum-told
 enum-told c = search needs
 
@@ -27,20 +24,8 @@ returns c = λ rs e.
     let g = ap meaning (c .enum-told .given .1) in
     g ∙ sym (refused-first _ (sym (c .before .before .check-shape .ensures) ∙ g))
 
-enum-told-2 : tie.Need-enum-told-2
-enum-told-2 c = search needs
-
 table-entries-requires : tie.Need-table-entries-requires
 table-entries-requires c κs = shape-ok c
-
-refuse-unless-requires : tie.Need-refuse-unless-requires
-refuse-unless-requires c κs = search needs
-
-check-slope-requires : tie.Need-check-slope-requires
-check-slope-requires c κs = search needs
-
-earlier-requires : tie.Need-earlier-requires
-earlier-requires c κs = search needs
 
 returns-2 : tie.Need-returns-2
 unfolding askedOutcome
@@ -57,12 +42,12 @@ pub check-asked-spec : {M : Type 1} → statement M
 check-asked-spec =
     tie.close
     (tie.spec
-    check-shape-requires
+    (λ c κs. search needs)
     enum-told
     returns
-    enum-told-2
+    (λ c. search needs)
     table-entries-requires
-    refuse-unless-requires
-    check-slope-requires
-    earlier-requires
+    (λ c κs. search needs)
+    (λ c κs. search needs)
+    (λ c κs. search needs)
     returns-2)

@@ -1,33 +1,37 @@
-use Rattle.query.proofs.Locate.{in-order}
+use mathlib.Core.Path.{sym, ap, _∙_}
+use Rattle.lattice.specs.Answer.{meaning}
+use Rattle.lattice.proofs.OutcomeLaws.{first-passed, refused-first}
 use borrow.Author.Needs.{needs}
 use Rattle.query.proofs.check_cell_query.Statement.{statement}
 use Rattle.query.proofs.check_cell_query.Tie as tie
 
-check-asked-requires : tie.Need-check-asked-requires
-check-asked-requires c κs = search needs
-
-check-cell-requires : tie.Need-check-cell-requires
-check-cell-requires c κs = search needs
-
-check-steps-requires : tie.Need-check-steps-requires
-check-steps-requires c κs = search needs
-
-earlier-requires : tie.Need-earlier-requires
-earlier-requires c κs = search needs
-
-earlier-requires-2 : tie.Need-earlier-requires-2
-earlier-requires-2 c κs = search needs
-
 returns : tie.Need-returns
-returns c = λ rs e. in-order _ _ _ _ _ _ _ _ (c .earlier2 .ensures) (c .before .earlier .ensures) (c .before .before .before .before .check-asked .ensures rs e) (c .before .before .before .check-cell .ensures) (c .before .before .check-steps .ensures)
+returns c = λ rs e. let g = ap meaning (c .enum-told .given .1) in g ∙ sym (refused-first _ (sym (c .before .before .check-asked .ensures rs e) ∙ g))
+
+returns-2 : tie.Need-returns-2
+returns-2 c = λ rs e.
+    let g = ap meaning (c .enum-told3 .given .1) in
+    let d = c .before .before in
+    g ∙ sym (first-passed _ _ (sym (d .before .before .before .check-asked .ensures rs e) ∙ ap meaning (d .before .enum-told2 .given .1)) ∙ refused-first _ (sym (d .check-cell .ensures) ∙ g))
+
+returns-3 : tie.Need-returns-3
+returns-3 c = λ rs e.
+    let b = c .before in
+    let d = b .before .before in
+    c .check-steps .ensures
+    ∙ sym (first-passed _ _ (sym (d .before .before .before .check-asked .ensures rs e) ∙ ap meaning (d .before .enum-told2 .given .1)) ∙ first-passed _ _ (sym (d .check-cell .ensures) ∙ ap meaning (b .enum-told4 .given .1)))
 
 pub check-cell-query-spec : {M : Type 1} → statement M
 check-cell-query-spec =
     tie.close
     (tie.spec
-    check-asked-requires
-    check-cell-requires
-    check-steps-requires
-    earlier-requires
-    earlier-requires-2
-    returns)
+    (λ c κs. search needs)
+    (λ c. search needs)
+    returns
+    (λ c. search needs)
+    (λ c κs. search needs)
+    (λ c. search needs)
+    returns-2
+    (λ c. search needs)
+    (λ c κs. search needs)
+    returns-3)

@@ -9,26 +9,17 @@ use borrow.Author.Needs.{needs}
 use Rattle.query.proofs.check_coordinate.Statement.{statement}
 use Rattle.query.proofs.check_coordinate.Tie as tie
 
-refuse-unless-requires : tie.Need-refuse-unless-requires
-refuse-unless-requires c κs = search needs
-
 returns : tie.Need-returns
 returns c =
     let b = c .before .before in
     let k = element (b .args .p) (b .fits .p .sfits) in
     c .refuse-unless .ensures ∙ below-zero (b .args .p) (steps * (b .args .count - 1)) (b .args .axis) (rw k at (c .before .if1 .taken))
 
-distance-requires : tie.Need-distance-requires
-distance-requires c κs = search needs
-
 sub-refuse-unless : tie.Need-sub-refuse-unless
 sub-refuse-unless c = c .before .before .pre .0
 
 mul-refuse-unless : tie.Need-mul-refuse-unless
 mul-refuse-unless c = let h = c .before .before .pre .1 in omega arith
-
-refuse-unless-requires-2 : tie.Need-refuse-unless-requires-2
-refuse-unless-requires-2 c κs = search needs
 
 returns-2 : tie.Need-returns-2
 returns-2 c =
@@ -40,10 +31,10 @@ pub check-coordinate-spec : {M : Type 1} → statement M
 check-coordinate-spec =
     tie.close
     (tie.spec
-    refuse-unless-requires
+    (λ c κs. search needs)
     returns
-    distance-requires
+    (λ c κs. search needs)
     sub-refuse-unless
     mul-refuse-unless
-    refuse-unless-requires-2
+    (λ c κs. search needs)
     returns-2)

@@ -11,9 +11,6 @@ use borrow.Author.Needs.{needs}
 use Rattle.query.proofs.check_query.Statement.{statement}
 use Rattle.query.proofs.check_query.Tie as tie
 
-check-asked-requires : tie.Need-check-asked-requires
-check-asked-requires c κs = search needs
-
 enum-told : tie.Need-enum-told
 enum-told c = search needs
 
@@ -21,9 +18,6 @@ returns : tie.Need-returns
 returns c = λ rs e.
     let g = ap meaning (c .enum-told .given .1) in
     g ∙ sym (refused-first _ (sym (c .before .before .check-asked .ensures rs e) ∙ g))
-
-enum-told-2 : tie.Need-enum-told-2
-enum-told-2 c = search needs
 
 check-position-requires : tie.Need-check-position-requires
 check-position-requires c κs =
@@ -37,4 +31,4 @@ returns-2 c = λ rs e. c .check-position .ensures ∙ sym (first-passed _ _ (sym
 pub check-query-spec : {M : Type 1} → statement M
 check-query-spec =
     tie.close
-    (tie.spec check-asked-requires enum-told returns enum-told-2 check-position-requires returns-2)
+    (tie.spec (λ c κs. search needs) enum-told returns (λ c. search needs) check-position-requires returns-2)

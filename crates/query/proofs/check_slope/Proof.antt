@@ -8,12 +8,6 @@ use Rattle.query.proofs.check_slope.Tie as tie
 enum-told : tie.Need-enum-told
 enum-told c = search needs
 
-enum-known-slope-axis : tie.Need-enum-known-slope-axis
-enum-known-slope-axis c = search needs
-
-refuse-unless-requires : tie.Need-refuse-unless-requires
-refuse-unless-requires c κs = search needs
-
 returns : tie.Need-returns
 unfolding wantOutcome
 returns c = sym (ap (λ w. wantOutcome (c .before .before .args .s) (wanted w)) (c .enum-told .given .1))
@@ -24,4 +18,4 @@ returns-2 c = c .refuse-unless .ensures ∙ sym (ap (λ w. wantOutcome (c .befor
 
 pub check-slope-spec : {M : Type 1} → statement M
 check-slope-spec =
-    tie.close (tie.spec enum-told enum-known-slope-axis refuse-unless-requires returns returns-2)
+    tie.close (tie.spec enum-told (λ c. search needs) (λ c κs. search needs) returns returns-2)

@@ -5,12 +5,6 @@ use borrow.Author.Needs.{needs}
 use Rattle.query.proofs.check_step.Statement.{statement}
 use Rattle.query.proofs.check_step.Tie as tie
 
-refuse-unless-requires : tie.Need-refuse-unless-requires
-refuse-unless-requires c κs = search needs
-
-refuse-unless-requires-2 : tie.Need-refuse-unless-requires-2
-refuse-unless-requires-2 c κs = search needs
-
 returns : tie.Need-returns
 unfolding pick
 returns c = c .refuse-unless .ensures ∙ simp (lt-ltb _ _ (c .before .if1 .taken))
@@ -21,4 +15,4 @@ returns-2 c = c .refuse-unless2 .ensures ∙ simp (le-ltb _ _ (c .before .if1 .l
 
 pub check-step-spec : {M : Type 1} → statement M
 check-step-spec =
-    tie.close (tie.spec refuse-unless-requires refuse-unless-requires-2 returns returns-2)
+    tie.close (tie.spec (λ c κs. search needs) (λ c κs. search needs) returns returns-2)

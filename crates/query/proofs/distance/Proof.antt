@@ -10,9 +10,6 @@ use Rattle.query.proofs.distance.Tie as tie
 cast-magnitude : tie.Need-cast-magnitude
 cast-magnitude c = widen-fits (c .args .p) (c .fits .p .sfits)
 
-magnitude-requires : tie.Need-magnitude-requires
-magnitude-requires c κs = search needs
-
 cast-result : tie.Need-cast-result
 cast-result c =
     let e = c .magnitude .ensures ∙ ap natAbs (widened (c .before .args .p) (c .before .fits .p .sfits)) in
@@ -23,4 +20,4 @@ returns : tie.Need-returns
 returns c = c .magnitude .ensures ∙ ap natAbs (widened (c .before .args .p) (c .before .fits .p .sfits))
 
 pub distance-spec : {M : Type 1} → statement M
-distance-spec = tie.close (tie.spec cast-magnitude magnitude-requires cast-result returns)
+distance-spec = tie.close (tie.spec cast-magnitude (λ c κs. search needs) cast-result returns)

@@ -22,12 +22,6 @@ module _ (c : tie.After-enum-told) where
   facts : Near (start .args .s) (now (start .args .records)) (start .args .q .cell)
   facts = let a = start .args in near (a .s) (now (a .records)) (wanted (a .q .«slope_axis»)) (a .q .cell) (placeAt (a .q .step)) passed
 
-check-cell-query-requires : tie.Need-check-cell-query-requires
-check-cell-query-requires c κs = search needs
-
-enum-known-asked : tie.Need-enum-known-asked
-enum-known-asked c = search needs
-
 enum-told : tie.Need-enum-told
 enum-told c = search needs
 
@@ -77,8 +71,8 @@ pub in-cell-spec : {M : Type 1} → statement M
 in-cell-spec =
     tie.close
     (tie.spec
-    check-cell-query-requires
-    enum-known-asked
+    (λ c κs. search needs)
+    (λ c. search needs)
     enum-told
     lay-out-requires
     corners-within-requires

@@ -11,42 +11,6 @@ use borrow.Author.Needs.{needs}
 use Rattle.query.proofs.position_cell.Statement.{statement}
 use Rattle.query.proofs.position_cell.Tie as tie
 
-element-copy-out-cell-of : tie.Need-element-copy-out-cell-of
-element-copy-out-cell-of c = search needs
-
-array-copy-out-distance : tie.Need-array-copy-out-distance
-array-copy-out-distance c = search needs
-
-distance-requires : tie.Need-distance-requires
-distance-requires c κs = search needs
-
-cell-of-requires : tie.Need-cell-of-requires
-cell-of-requires c κs = search needs
-
-element-copy-out-cell-of-2 : tie.Need-element-copy-out-cell-of-2
-element-copy-out-cell-of-2 c = search needs
-
-array-copy-out-distance-2 : tie.Need-array-copy-out-distance-2
-array-copy-out-distance-2 c = search needs
-
-distance-requires-2 : tie.Need-distance-requires-2
-distance-requires-2 c κs = search needs
-
-cell-of-requires-2 : tie.Need-cell-of-requires-2
-cell-of-requires-2 c κs = search needs
-
-element-copy-out-cell-of-3 : tie.Need-element-copy-out-cell-of-3
-element-copy-out-cell-of-3 c = search needs
-
-array-copy-out-distance-3 : tie.Need-array-copy-out-distance-3
-array-copy-out-distance-3 c = search needs
-
-distance-requires-3 : tie.Need-distance-requires-3
-distance-requires-3 c κs = search needs
-
-cell-of-requires-3 : tie.Need-cell-of-requires-3
-cell-of-requires-3 c κs = search needs
-
 returns : tie.Need-returns
 unfolding positionCell positionAt pick count
 returns c =
@@ -61,16 +25,16 @@ pub position-cell-spec : {M : Type 1} → statement M
 position-cell-spec =
     tie.close
     (tie.spec
-    element-copy-out-cell-of
-    array-copy-out-distance
-    distance-requires
-    cell-of-requires
-    element-copy-out-cell-of-2
-    array-copy-out-distance-2
-    distance-requires-2
-    cell-of-requires-2
-    element-copy-out-cell-of-3
-    array-copy-out-distance-3
-    distance-requires-3
-    cell-of-requires-3
+    (λ c. search needs)
+    (λ c. search needs)
+    (λ c κs. search needs)
+    (λ c κs. search needs)
+    (λ c. search needs)
+    (λ c. search needs)
+    (λ c κs. search needs)
+    (λ c κs. search needs)
+    (λ c. search needs)
+    (λ c. search needs)
+    (λ c κs. search needs)
+    (λ c κs. search needs)
     returns)

@@ -10,44 +10,17 @@ use borrow.Author.Needs.{needs}
 use Rattle.query.proofs.position_step.Statement.{statement}
 use Rattle.query.proofs.position_step.Tie as tie
 
-array-copy-out-distance : tie.Need-array-copy-out-distance
-array-copy-out-distance c = search needs
-
-distance-requires : tie.Need-distance-requires
-distance-requires c κs = search needs
-
-array-read-x : tie.Need-array-read-x
-array-read-x c = search needs
-
 mul-x : tie.Need-mul-x
 mul-x c = let h = start-below (c .before .before .args .s) (c .before .before .args .t2) (c .before .before .args .t3) (c .before .before .pre) 0 (lit< tt) in let k = size-low (at (c .before .before .args .t2) 0) (c .before .distance-arg .given) in omega arith
 
 sub-x : tie.Need-sub-x
 sub-x c = let h = start-below (c .before .before .args .s) (c .before .before .args .t2) (c .before .before .args .t3) (c .before .before .pre) 0 (lit< tt) in let e = c .distance .ensures ∙ ap natAbs (element (at (c .before .before .args .t2) 0) (c .before .distance-arg .given)) in omega arith
 
-array-copy-out-distance-2 : tie.Need-array-copy-out-distance-2
-array-copy-out-distance-2 c = search needs
-
-distance-requires-2 : tie.Need-distance-requires-2
-distance-requires-2 c κs = search needs
-
-array-read-y : tie.Need-array-read-y
-array-read-y c = search needs
-
 mul-y : tie.Need-mul-y
 mul-y c = let h = start-below (c .before .before .before .before .args .s) (c .before .before .before .before .args .t2) (c .before .before .before .before .args .t3) (c .before .before .before .before .pre) 1 (lit< tt) in let k = size-low (at (c .before .before .before .before .args .t2) 1) (c .before .distance-arg2 .given) in omega arith
 
 sub-y : tie.Need-sub-y
 sub-y c = let h = start-below (c .before .before .before .before .args .s) (c .before .before .before .before .args .t2) (c .before .before .before .before .args .t3) (c .before .before .before .before .pre) 1 (lit< tt) in let e = c .distance2 .ensures ∙ ap natAbs (element (at (c .before .before .before .before .args .t2) 1) (c .before .distance-arg2 .given)) in omega arith
-
-array-copy-out-distance-3 : tie.Need-array-copy-out-distance-3
-array-copy-out-distance-3 c = search needs
-
-distance-requires-3 : tie.Need-distance-requires-3
-distance-requires-3 c κs = search needs
-
-array-read-z : tie.Need-array-read-z
-array-read-z c = search needs
 
 mul-z : tie.Need-mul-z
 mul-z c = let h = start-below (c .before .before .before .before .before .before .args .s) (c .before .before .before .before .before .before .args .t2) (c .before .before .before .before .before .before .args .t3) (c .before .before .before .before .before .before .pre) 2 (lit< tt) in let k = size-low (at (c .before .before .before .before .before .before .args .t2) 2) (c .before .distance-arg3 .given) in omega arith
@@ -69,19 +42,19 @@ pub position-step-spec : {M : Type 1} → statement M
 position-step-spec =
     tie.close
     (tie.spec
-    array-copy-out-distance
-    distance-requires
-    array-read-x
+    (λ c. search needs)
+    (λ c κs. search needs)
+    (λ c. search needs)
     mul-x
     sub-x
-    array-copy-out-distance-2
-    distance-requires-2
-    array-read-y
+    (λ c. search needs)
+    (λ c κs. search needs)
+    (λ c. search needs)
     mul-y
     sub-y
-    array-copy-out-distance-3
-    distance-requires-3
-    array-read-z
+    (λ c. search needs)
+    (λ c κs. search needs)
+    (λ c. search needs)
     mul-z
     sub-z
     returns)

@@ -11,12 +11,6 @@ use borrow.Author.Needs.{needs}
 use Rattle.query.proofs.read_position.Statement.{statement}
 use Rattle.query.proofs.read_position.Tie as tie
 
-position-cell-requires : tie.Need-position-cell-requires
-position-cell-requires c κs = search needs
-
-position-step-requires : tie.Need-position-step-requires
-position-step-requires c κs = search needs
-
 read-cell-requires : tie.Need-read-cell-requires
 read-cell-requires c κs =
     let b = c .before .before in
@@ -38,4 +32,4 @@ returns c =
     ∙ ap (λ (p : Place). reading (a .s) (now (a .records)) (wanted (a .slope-axis)) (positionCell (a .s) (positionAt (a .p))) p) (c .before .position-step .ensures)
 
 pub read-position-spec : {M : Type 1} → statement M
-read-position-spec = tie.close (tie.spec position-cell-requires position-step-requires read-cell-requires returns)
+read-position-spec = tie.close (tie.spec (λ c κs. search needs) (λ c κs. search needs) read-cell-requires returns)

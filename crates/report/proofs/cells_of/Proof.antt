@@ -7,20 +7,11 @@ use borrow.Author.Needs.{needs}
 use Rattle.report.proofs.cells_of.Statement.{statement}
 use Rattle.report.proofs.cells_of.Tie as tie
 
-array-read-cells-on : tie.Need-array-read-cells-on
-array-read-cells-on c = search needs
-
 cells-on-requires : tie.Need-cells-on-requires
 cells-on-requires c κs = c .pre .least 0 (lit< tt)
 
-array-read-cells-on-2 : tie.Need-array-read-cells-on-2
-array-read-cells-on-2 c = search needs
-
 cells-on-requires-2 : tie.Need-cells-on-requires-2
 cells-on-requires-2 c κs = c .before .pre .least 1 (lit< tt)
-
-array-read-cells-on-3 : tie.Need-array-read-cells-on-3
-array-read-cells-on-3 c = search needs
 
 cells-on-requires-3 : tie.Need-cells-on-requires-3
 cells-on-requires-3 c κs = c .before .before .pre .least 2 (lit< tt)
@@ -33,10 +24,10 @@ pub cells-of-spec : {M : Type 1} → statement M
 cells-of-spec =
     tie.close
     (tie.spec
-    array-read-cells-on
+    (λ c. search needs)
     cells-on-requires
-    array-read-cells-on-2
+    (λ c. search needs)
     cells-on-requires-2
-    array-read-cells-on-3
+    (λ c. search needs)
     cells-on-requires-3
     returns)

@@ -8,9 +8,6 @@ use borrow.Author.Needs.{needs}
 use Rattle.report.proofs.cells_on.Statement.{statement}
 use Rattle.report.proofs.cells_on.Tie as tie
 
-sub-result : tie.Need-sub-result
-sub-result c = search needs
-
 returns : tie.Need-returns
 returns c = let a = c .before .args in sym (pick-true (ltb (a .axis) (a .axes)) (a .count - 1) 1 (lt-ltb (a .axis) (a .axes) (c .if1 .taken)))
 
@@ -18,4 +15,4 @@ returns-2 : tie.Need-returns-2
 returns-2 c = let a = c .before .args in sym (pick-false (ltb (a .axis) (a .axes)) (a .count - 1) 1 (le-ltb (a .axis) (a .axes) (c .if1 .left)))
 
 pub cells-on-spec : {M : Type 1} → statement M
-cells-on-spec = tie.close (tie.spec sub-result returns returns-2)
+cells-on-spec = tie.close (tie.spec (λ c. search needs) returns returns-2)

@@ -35,12 +35,6 @@ module _ (c : tie.After-in-cell) where
 middle-of-requires : tie.Need-middle-of-requires
 middle-of-requires c κs = shaped (shape c) (c .pre .0 .shape) .axes-high
 
-in-cell-requires : tie.Need-in-cell-requires
-in-cell-requires c κs = search needs
-
-enum-known-reading : tie.Need-enum-known-reading
-enum-known-reading c = search needs
-
 enum-told : tie.Need-enum-told
 enum-told c = search needs
 
@@ -57,4 +51,4 @@ returns-2 c =
 pub dose-at-spec : {M : Type 1} → statement M
 dose-at-spec =
     tie.close
-    (tie.spec middle-of-requires in-cell-requires enum-known-reading enum-told returns returns-2)
+    (tie.spec middle-of-requires (λ c κs. search needs) (λ c. search needs) enum-told returns returns-2)

@@ -23,14 +23,8 @@ module _ (c : tie.Start) where
   known : Estimable shape (now (c .args .samples)) (length (now (c .args .records)))
   known = estimated shape (now (c .args .samples)) (length (now (c .args .records))) (c .pre)
 
-estimate-requires : tie.Need-estimate-requires
-estimate-requires c κs = search needs
-
 table-entries-requires : tie.Need-table-entries-requires
 table-entries-requires c κs = known (c .before .before .before) .shape
-
-same-length : tie.Need-same-length
-same-length c = search needs
 
 returns : tie.Need-returns
 returns c =
@@ -43,4 +37,4 @@ returns c =
 
 pub estimate-degree-spec : {M : Type 1} → statement M
 estimate-degree-spec =
-    tie.close (tie.spec estimate-requires table-entries-requires same-length returns)
+    tie.close (tie.spec (λ c κs. search needs) table-entries-requires (λ c. search needs) returns)

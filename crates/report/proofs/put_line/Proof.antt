@@ -42,17 +42,11 @@ module _ (c : tie.After-dose-at2) where
       rw (element (c .before .dose-at .result) (c .before .dose-at .ok), element (c .dose-at2 .result) (c .dose-at2 .ok))
       (ap (λ (z : ℤ). cellLine (start .args .cell) z (c .dose-at2 .result)) (c .before .dose-at .ensures) ∙ ap (cellLine (start .args .cell) _) (c .dose-at2 .ensures))
 
-dose-at-requires : tie.Need-dose-at-requires
-dose-at-requires c κs = search needs
-
 dose-at-requires-2 : tie.Need-dose-at-requires-2
 dose-at-requires-2 c κs = let b = c .before .before in (b .pre .0 .1, any-degree (header (b .args .axes) (b .args .counts)) 3 5 (b .args .cell) (b .pre .1 .0))
 
 put-cell-line-requires : tie.Need-put-cell-line-requires
 put-cell-line-requires c κs = let b = start (c .before) in let s = short (c .before) in omega (arith, b .pre .1 .2)
-
-same-length : tie.Need-same-length
-same-length c = search needs
 
 returns : tie.Need-returns
 returns c =
@@ -66,4 +60,4 @@ returns c =
 pub put-line-spec : {M : Type 1} → statement M
 put-line-spec =
     tie.close
-    (tie.spec dose-at-requires dose-at-requires-2 put-cell-line-requires same-length returns)
+    (tie.spec (λ c κs. search needs) dose-at-requires-2 put-cell-line-requires (λ c. search needs) returns)

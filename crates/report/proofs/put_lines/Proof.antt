@@ -59,15 +59,6 @@ module _ (c : tie.After-cell-at Inv-loop μ-loop) where
 cells-of-requires : tie.Need-cells-of-requires Inv-loop μ-loop
 cells-of-requires c κs = counts-between (table (c .before)) 3 (shape (c .before))
 
-array-read-total : tie.Need-array-read-total Inv-loop μ-loop
-array-read-total c = search needs
-
-array-read-total-2 : tie.Need-array-read-total-2 Inv-loop μ-loop
-array-read-total-2 c = search needs
-
-array-read-total-3 : tie.Need-array-read-total-3 Inv-loop μ-loop
-array-read-total-3 c = search needs
-
 mul-total : tie.Need-mul-total Inv-loop μ-loop
 mul-total c = let b = between c in let h : getD (cells c) 1 0 * getD (cells c) 2 0 ≤ 64 * 64 = mul-le-mul (b .most 1 (lit< tt)) (b .most 2 (lit< tt)) in omega arith
 
@@ -96,9 +87,6 @@ put-line-requires c κs =
 
 add-i : tie.Need-add-i Inv-loop μ-loop
 add-i c = let t = few (c .before .before .before .before .before .before .before) in omega arith
-
-loop-less : tie.Need-loop-less Inv-loop μ-loop
-loop-less c = omega arith
 
 loop-again : tie.Need-loop-again Inv-loop μ-loop
 loop-again c =
@@ -137,16 +125,16 @@ put-lines-spec =
     Inv-loop
     μ-loop
     cells-of-requires
-    array-read-total
-    array-read-total-2
-    array-read-total-3
+    (λ c. search needs)
+    (λ c. search needs)
+    (λ c. search needs)
     mul-total
     mul-total-2
     loop-holds
     cell-at-requires
     put-line-requires
     add-i
-    loop-less
+    (λ c. omega arith)
     loop-again
     same-length
     returns)

@@ -45,26 +45,14 @@ module _ (c : tie.After-put-lines-arg) where
   lines : joinedFrom low high ≡ cellLines (table start) (samples start)
   lines = ap (λ (rs : List ℤ). joinedFrom rs high) low-is ∙ ap (joinedFrom (recordsOf (shapeOf (table start) 3) (samples start))) high-is ∙ lines-are (table start) (samples start) (start .pre .0)
 
-slice-aggregate-estimate-degree : tie.Need-slice-aggregate-estimate-degree
-slice-aggregate-estimate-degree c = search needs
-
 estimate-degree-requires : tie.Need-estimate-degree-requires
 estimate-degree-requires c κs = let s = c .before .before in cubic-taken (table s) (samples s) (s .pre .0)
-
-slice-aggregate-estimate-degree-2 : tie.Need-slice-aggregate-estimate-degree-2
-slice-aggregate-estimate-degree-2 c = search needs
 
 estimate-degree-requires-2 : tie.Need-estimate-degree-requires-2
 estimate-degree-requires-2 c κs = let s = c .before .before .before .before .before in quintic-taken (table s) (samples s) (s .pre .0)
 
-array-share-prefix-cubic : tie.Need-array-share-prefix-cubic
-array-share-prefix-cubic c = search needs
-
 slice-aggregate-put-lines : tie.Need-slice-aggregate-put-lines
 slice-aggregate-put-lines c = let p = c .before .before .before .before .before .estimate-degree in sym (length-take-le (p .result) (p .last .1 .1 .1 .1 .0) (p .ensures .0))
-
-array-share-prefix-quintic : tie.Need-array-share-prefix-quintic
-array-share-prefix-quintic c = search needs
 
 slice-aggregate-put-lines-2 : tie.Need-slice-aggregate-put-lines-2
 slice-aggregate-put-lines-2 c = let p = c .before .before .before .estimate-degree2 in sym (length-take-le (p .result) (p .last .1 .1 .1 .1 .0) (p .ensures .0))
@@ -79,9 +67,6 @@ put-lines-requires c κs =
       (few-cells (table s) (samples s) (s .pre .0), s .pre .1),
     )
 
-same-length : tie.Need-same-length
-same-length c = search needs
-
 returns : tie.Need-returns
 returns c =
     let p = c .before .before .put-lines in
@@ -93,14 +78,14 @@ pub put-table-spec : {M : Type 1} → statement M
 put-table-spec =
     tie.close
     (tie.spec
-    slice-aggregate-estimate-degree
+    (λ c. search needs)
     estimate-degree-requires
-    slice-aggregate-estimate-degree-2
+    (λ c. search needs)
     estimate-degree-requires-2
-    array-share-prefix-cubic
+    (λ c. search needs)
     slice-aggregate-put-lines
-    array-share-prefix-quintic
+    (λ c. search needs)
     slice-aggregate-put-lines-2
     put-lines-requires
-    same-length
+    (λ c. search needs)
     returns)

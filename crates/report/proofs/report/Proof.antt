@@ -66,20 +66,8 @@ returns c =
     text-put (now (a .out)) (reportText (now (a .input))) (refusedLine 9) _ (p .result) (p .ensures .0) (sym (too-long (now (a .input)) (c .before .before .if1 .taken))) (p .ensures .1)
     (omega (arith, refused-low 9 (lit< tt))) (c .before .put-refused-line-arg .given .0 .1)
 
-slice-aggregate-read : tie.Need-slice-aggregate-read
-slice-aggregate-read c = search needs
-
-read-requires : tie.Need-read-requires
-read-requires c κs = search needs
-
-enum-known-table : tie.Need-enum-known-table
-enum-known-table c = search needs
-
 put-refused-line-requires-2 : tie.Need-put-refused-line-requires-2
 put-refused-line-requires-2 c κs = omega (arith, low-number (c .before), c .put-refused-line-arg2 .given .0 .1)
-
-enum-known-table-2 : tie.Need-enum-known-table-2
-enum-known-table-2 c = search needs
 
 node-count-requires : tie.Need-node-count-requires
 node-count-requires c κs = shape (input c) (table c) (was-read c)
@@ -123,11 +111,11 @@ report-spec =
     (tie.spec
     put-refused-line-requires
     returns
-    slice-aggregate-read
-    read-requires
-    enum-known-table
+    (λ c. search needs)
+    (λ c κs. search needs)
+    (λ c. search needs)
     put-refused-line-requires-2
-    enum-known-table-2
+    (λ c. search needs)
     node-count-requires
     array-share-prefix-samples
     slice-aggregate-put-table

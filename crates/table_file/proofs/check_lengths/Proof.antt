@@ -6,33 +6,6 @@ use borrow.Author.Needs.{needs}
 use Rattle.table_file.proofs.check_lengths.Statement.{statement}
 use Rattle.table_file.proofs.check_lengths.Tie as tie
 
-mul-end : tie.Need-mul-end
-mul-end c = search needs
-
-add-end : tie.Need-add-end
-add-end c = search needs
-
-refuse-unless-requires : tie.Need-refuse-unless-requires
-refuse-unless-requires c κs = search needs
-
-refuse-unless-requires-2 : tie.Need-refuse-unless-requires-2
-refuse-unless-requires-2 c κs = search needs
-
-refuse-unless-requires-3 : tie.Need-refuse-unless-requires-3
-refuse-unless-requires-3 c κs = search needs
-
-refuse-unless-requires-4 : tie.Need-refuse-unless-requires-4
-refuse-unless-requires-4 c κs = search needs
-
-earlier-requires : tie.Need-earlier-requires
-earlier-requires c κs = search needs
-
-earlier-requires-2 : tie.Need-earlier-requires-2
-earlier-requires-2 c κs = search needs
-
-earlier-requires-3 : tie.Need-earlier-requires-3
-earlier-requires-3 c κs = search needs
-
 returns : tie.Need-returns
 unfolding lengthsOutcome
 returns c =
@@ -48,13 +21,13 @@ pub check-lengths-spec : {M : Type 1} → statement M
 check-lengths-spec =
     tie.close
     (tie.spec
-    mul-end
-    add-end
-    refuse-unless-requires
-    refuse-unless-requires-2
-    refuse-unless-requires-3
-    refuse-unless-requires-4
-    earlier-requires
-    earlier-requires-2
-    earlier-requires-3
+    (λ c. search needs)
+    (λ c. search needs)
+    (λ c κs. search needs)
+    (λ c κs. search needs)
+    (λ c κs. search needs)
+    (λ c κs. search needs)
+    (λ c κs. search needs)
+    (λ c κs. search needs)
+    (λ c κs. search needs)
     returns)

@@ -37,17 +37,8 @@ loop-holds : tie.Need-loop-holds Inv-loop μ-loop
 unfolding firstOf
 loop-holds c = (omega arith, omega arith, refl)
 
-sample-at-requires : tie.Need-sample-at-requires Inv-loop μ-loop
-sample-at-requires c κs = omega arith
-
 cast-x : tie.Need-cast-x Inv-loop μ-loop
 cast-x c = widen-fits (c .sample-at .result) (c .sample-at .ok)
-
-magnitude-requires : tie.Need-magnitude-requires Inv-loop μ-loop
-magnitude-requires c κs = search needs
-
-refuse-unless-requires : tie.Need-refuse-unless-requires Inv-loop μ-loop
-refuse-unless-requires c κs = search needs
 
 returns : tie.Need-returns Inv-loop μ-loop
 returns c =
@@ -58,15 +49,6 @@ returns c =
     c .refuse-unless .ensures
     ∙ sym (limit-stops sampleLimit xs (l .i) (omega (arith, length-samples (a .bytes .now) (a .start) (a .count))) (l .inv .2)
     (omega (arith, c .before .if1 .taken, size-is (a .bytes .now) (a .start) (a .count) (l .at) (l .i) _ (s .result) (omega arith) (l .inv .1) (s .ensures) (s .ok) (c .before .before .magnitude .ensures))))
-
-add-at : tie.Need-add-at Inv-loop μ-loop
-add-at c = omega arith
-
-add-i : tie.Need-add-i Inv-loop μ-loop
-add-i c = omega arith
-
-loop-less : tie.Need-loop-less Inv-loop μ-loop
-loop-less c = omega arith
 
 loop-again : tie.Need-loop-again Inv-loop μ-loop
 loop-again c =
@@ -93,13 +75,13 @@ check-samples-spec =
     Inv-loop
     μ-loop
     loop-holds
-    sample-at-requires
+    (λ c κs. omega arith)
     cast-x
-    magnitude-requires
-    refuse-unless-requires
+    (λ c κs. search needs)
+    (λ c κs. search needs)
     returns
-    add-at
-    add-i
-    loop-less
+    (λ c. omega arith)
+    (λ c. omega arith)
+    (λ c. omega arith)
     loop-again
     returns-2)

@@ -51,24 +51,12 @@ module _ (bytes : List ℕ) (at nodes room : ℕ) (p : AfterOne bytes at nodes) 
     passed : lengths ≡ done tt → limitOutcome sampleLimit (samplesFrom bytes (after .at) nodes) ≡ restOutcome bytes room
     passed h = sym (first-passed lengths _ h) ∙ rest
 
-number-requires : tie.Need-number-requires
-number-requires c κs = search needs
-
-enum-known-number : tie.Need-enum-known-number
-enum-known-number c = search needs
-
-enum-known-number-2 : tie.Need-enum-known-number-2
-enum-known-number-2 c = search needs
-
 check-lengths-requires : tie.Need-check-lengths-requires
 check-lengths-requires c κs =
     let a = c .before .before .before .before .before .args in
     let p = c .before .before .before .before .before .pre in
     let given = c .before .number3 .given in
     (after-low (a .bytes .now) (a .start .at) (a .nodes) (a .room) p (given .0 .0) (given .0 .1 .0) (sym (c .before .before .before .number .ensures) ∙ given .1), p .small)
-
-enum-known-lengths : tie.Need-enum-known-lengths
-enum-known-lengths c = search needs
 
 enum-told : tie.Need-enum-told
 enum-told c = search needs
@@ -112,11 +100,11 @@ pub check-two-spec : {M : Type 1} → statement M
 check-two-spec =
     tie.close
     (tie.spec
-    number-requires
-    enum-known-number
-    enum-known-number-2
+    (λ c κs. search needs)
+    (λ c. search needs)
+    (λ c. search needs)
     check-lengths-requires
-    enum-known-lengths
+    (λ c. search needs)
     enum-told
     check-samples-requires
     returns

@@ -63,27 +63,6 @@ shape-is : (b : tie.After-earlier) → meaning (b .earlier .result) ≡ shape (b
 unfolding countsOutcome firstOf
 shape-is b = b .earlier .ensures ∙ ap₂ first (b .before .before .check-axes .ensures) (b .before .check-counts .ensures)
 
-check-axes-requires : tie.Need-check-axes-requires
-check-axes-requires c κs = search needs
-
-array-read-check-counts : tie.Need-array-read-check-counts
-array-read-check-counts c = search needs
-
-array-read-check-counts-2 : tie.Need-array-read-check-counts-2
-array-read-check-counts-2 c = search needs
-
-array-read-check-counts-3 : tie.Need-array-read-check-counts-3
-array-read-check-counts-3 c = search needs
-
-check-counts-requires : tie.Need-check-counts-requires
-check-counts-requires c κs = search needs
-
-earlier-requires : tie.Need-earlier-requires
-earlier-requires c κs = search needs
-
-enum-known-shape : tie.Need-enum-known-shape
-enum-known-shape c = search needs
-
 enum-told : tie.Need-enum-told
 enum-told c = search needs
 
@@ -92,12 +71,6 @@ node-count-requires c κs =
     let b = c .before .before in
     let a = b .before .before .before .args in
     is-shaped (a .axes) (a .t2) (a .samples .now) (a .room) (sym (shape-is b) ∙ ap meaning (c .enum-told .given .1))
-
-mul-needed : tie.Need-mul-needed
-mul-needed c = search needs
-
-add-needed : tie.Need-add-needed
-add-needed c = search needs
 
 mul-needed-2 : tie.Need-mul-needed-2
 mul-needed-2 c =
@@ -110,21 +83,6 @@ add-needed-2 c =
     let b = c .before .before .before in
     let a = b .before .before .before .args in
     omega (arith, few (a .axes) (a .t2) (a .samples .now) (a .room) (sym (shape-is b) ∙ ap meaning (c .before .enum-told .given .1)) (c .node-count .result) (c .node-count .ensures))
-
-refuse-unless-requires : tie.Need-refuse-unless-requires
-refuse-unless-requires c κs = search needs
-
-refuse-unless-requires-2 : tie.Need-refuse-unless-requires-2
-refuse-unless-requires-2 c κs = search needs
-
-check-limit-requires : tie.Need-check-limit-requires
-check-limit-requires c κs = search needs
-
-earlier-requires-2 : tie.Need-earlier-requires-2
-earlier-requires-2 c κs = search needs
-
-earlier-requires-3 : tie.Need-earlier-requires-3
-earlier-requires-3 c κs = search needs
 
 returns : tie.Need-returns
 returns c =
@@ -146,23 +104,23 @@ pub check-write-spec : {M : Type 1} → statement M
 check-write-spec =
     tie.close
     (tie.spec
-    check-axes-requires
-    array-read-check-counts
-    array-read-check-counts-2
-    array-read-check-counts-3
-    check-counts-requires
-    earlier-requires
-    enum-known-shape
+    (λ c κs. search needs)
+    (λ c. search needs)
+    (λ c. search needs)
+    (λ c. search needs)
+    (λ c κs. search needs)
+    (λ c κs. search needs)
+    (λ c. search needs)
     enum-told
     node-count-requires
-    mul-needed
-    add-needed
+    (λ c. search needs)
+    (λ c. search needs)
     mul-needed-2
     add-needed-2
-    refuse-unless-requires
-    refuse-unless-requires-2
-    check-limit-requires
-    earlier-requires-2
-    earlier-requires-3
+    (λ c κs. search needs)
+    (λ c κs. search needs)
+    (λ c κs. search needs)
+    (λ c κs. search needs)
+    (λ c κs. search needs)
     returns
     returns-2)

@@ -92,12 +92,6 @@ loop-holds : tie.Need-loop-holds Inv-loop μ-loop
 unfolding firstOf tabulate
 loop-holds c = (omega arith, omega arith, refl, refl)
 
-number-requires : tie.Need-number-requires Inv-loop μ-loop
-number-requires c κs = omega arith
-
-enum-known-next : tie.Need-enum-known-next Inv-loop μ-loop
-enum-known-next c = search needs
-
 returns : tie.Need-returns Inv-loop μ-loop
 returns c =
     let a = c .before .before .before .before .before .before .before .args in
@@ -105,9 +99,6 @@ returns c =
     let l = c .before .before .before .before .before .loop in
     short (a .bytes .now) (a .axes) (p .0) (p .1) (l .a) (l .cursor .at) (omega arith) (l .inv .1) (l .inv .3)
     (c .before .next .given .0 .0) (sym (c .before .before .before .number .ensures) ∙ c .before .next .given .1)
-
-enum-known-next-2 : tie.Need-enum-known-next-2 Inv-loop μ-loop
-enum-known-next-2 c = search needs
 
 returns-2 : tie.Need-returns-2 Inv-loop μ-loop
 returns-2 c =
@@ -118,18 +109,6 @@ returns-2 c =
     (c .before .before .next2 .given .0 .0) (c .before .before .next2 .given .0 .1 .0) (sym (c .before .before .before .before .number .ensures) ∙ c .before .before .next2 .given .1)
     (⊎-elim (λ w. inl (omega arith)) (λ w. inr (omega (arith, ltb-true))) (c .if1 .came))
 
-mul-counts : tie.Need-mul-counts Inv-loop μ-loop
-mul-counts c = omega arith
-
-array-write-counts : tie.Need-array-write-counts Inv-loop μ-loop
-array-write-counts c = omega arith
-
-add-a : tie.Need-add-a Inv-loop μ-loop
-add-a c = omega arith
-
-loop-less : tie.Need-loop-less Inv-loop μ-loop
-loop-less c = omega arith
-
 loop-again : tie.Need-loop-again Inv-loop μ-loop
 loop-again c =
     let a = c .before .before .before .before .before .before .before .before .before .args in
@@ -138,15 +117,6 @@ loop-again c =
     next (a .bytes .now) (a .axes) (p .0) (p .1) (l .a) (l .cursor .at) (omega arith) (l .inv .1) (l .inv .3)
     (c .before .before .before .next2 .given .0 .0) (c .before .before .before .next2 .given .0 .1 .0) (sym (c .before .before .before .before .before .number .ensures) ∙ c .before .before .before .next2 .given .1)
     (l .counts) (omega arith) (omega (arith, ltb-false)) (l .inv .2)
-
-array-read-t21 : tie.Need-array-read-t21 Inv-loop μ-loop
-array-read-t21 c = search needs
-
-array-read-t24 : tie.Need-array-read-t24 Inv-loop μ-loop
-array-read-t24 c = search needs
-
-array-read-t27 : tie.Need-array-read-t27 Inv-loop μ-loop
-array-read-t27 c = search needs
 
 returns-3 : tie.Need-returns-3 Inv-loop μ-loop
 returns-3 c =
@@ -165,17 +135,17 @@ node-counts-spec =
     Inv-loop
     μ-loop
     loop-holds
-    number-requires
-    enum-known-next
+    (λ c κs. omega arith)
+    (λ c. search needs)
     returns
-    enum-known-next-2
+    (λ c. search needs)
     returns-2
-    mul-counts
-    array-write-counts
-    add-a
-    loop-less
+    (λ c. omega arith)
+    (λ c. omega arith)
+    (λ c. omega arith)
+    (λ c. omega arith)
     loop-again
-    array-read-t21
-    array-read-t24
-    array-read-t27
+    (λ c. search needs)
+    (λ c. search needs)
+    (λ c. search needs)
     returns-3)

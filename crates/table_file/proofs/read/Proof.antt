@@ -58,29 +58,11 @@ module _ (bytes : List ℕ) (old : List ℤ) where
 abbrev counts : ℕ → ℕ → ℕ → List ℕ
 counts x y z = x ∷ y ∷ z ∷ []
 
-section-one-requires : tie.Need-section-one-requires
-section-one-requires c κs = search needs
-
-enum-known-table : tie.Need-enum-known-table
-enum-known-table c = search needs
-
-enum-known-table-2 : tie.Need-enum-known-table-2
-enum-known-table-2 c = search needs
-
 node-count-requires : tie.Need-node-count-requires
 node-count-requires c κs =
     let t = c .before .table2 .given in
     one-shaped (c .before .before .before .before .before .args .bytes .now) (t .0 .0) (counts (t .0 .1 .0) (t .0 .1 .1 .0) (t .0 .1 .1 .1 .0))
     (sym (c .before .before .before .section-one .ensures) ∙ ap tableMeaning (t .1))
-
-cast-start : tie.Need-cast-start
-cast-start c = search needs
-
-mul-start : tie.Need-mul-start
-mul-start c = search needs
-
-add-start : tie.Need-add-start
-add-start c = search needs
 
 check-two-requires : tie.Need-check-two-requires
 check-two-requires c κs =
@@ -88,14 +70,8 @@ check-two-requires c κs =
     after-one (c .before .before .before .before .before .before .args .bytes .now) (t .0 .0) (counts (t .0 .1 .0) (t .0 .1 .1 .0) (t .0 .1 .1 .1 .0))
     (sym (c .before .before .before .before .section-one .ensures) ∙ ap tableMeaning (t .1)) (c .node-count .result) (c .node-count .ensures)
 
-enum-known-rest : tie.Need-enum-known-rest
-enum-known-rest c = search needs
-
 enum-told : tie.Need-enum-told
 enum-told c = search needs
-
-add-fill : tie.Need-add-fill
-add-fill c = search needs
 
 fill-requires : tie.Need-fill-requires
 fill-requires c κs =
@@ -122,9 +98,6 @@ returns-2 c =
     (sym (b .before .before .section-one .ensures) ∙ ap tableMeaning (t .1)) (r .number) (r .place)
     (sym (c .before .before .before .check-two .ensures) ∙ ap meaning (c .before .rest .given .1))
 
-same-length : tie.Need-same-length
-same-length c = search needs
-
 returns-3 : tie.Need-returns-3
 returns-3 c =
     let b = c .before .before .before .before .before .before .before .before in
@@ -139,19 +112,19 @@ pub read-spec : {M : Type 1} → statement M
 read-spec =
     tie.close
     (tie.spec
-    section-one-requires
-    enum-known-table
-    enum-known-table-2
+    (λ c κs. search needs)
+    (λ c. search needs)
+    (λ c. search needs)
     node-count-requires
-    cast-start
-    mul-start
-    add-start
+    (λ c. search needs)
+    (λ c. search needs)
+    (λ c. search needs)
     check-two-requires
-    enum-known-rest
+    (λ c. search needs)
     enum-told
-    add-fill
+    (λ c. search needs)
     fill-requires
     returns
     returns-2
-    same-length
+    (λ c. search needs)
     returns-3)

@@ -8,14 +8,8 @@ use borrow.Author.Needs.{needs}
 use Rattle.table_file.proofs.sample_at.Statement.{statement}
 use Rattle.table_file.proofs.sample_at.Tie as tie
 
-number-at-requires : tie.Need-number-at-requires
-number-at-requires c κs = search needs
-
-signed-requires : tie.Need-signed-requires
-signed-requires c κs = search needs
-
 returns : tie.Need-returns
 returns c = toZ-ofZ {w = w32} (sfits-of (c .signed .ok)) ∙ c .signed .ensures ∙ ap signedOf (c .before .number-at .ensures)
 
 pub sample-at-spec : {M : Type 1} → statement M
-sample-at-spec = tie.close (tie.spec number-at-requires signed-requires returns)
+sample-at-spec = tie.close (tie.spec (λ c κs. search needs) (λ c κs. search needs) returns)

@@ -12,21 +12,6 @@ use borrow.Author.Needs.{needs}
 use Rattle.table_file.proofs.section_one.Statement.{statement}
 use Rattle.table_file.proofs.section_one.Tie as tie
 
-number-requires : tie.Need-number-requires
-number-requires c κs = search needs
-
-enum-known-number : tie.Need-enum-known-number
-enum-known-number c = search needs
-
-enum-known-number-2 : tie.Need-enum-known-number-2
-enum-known-number-2 c = search needs
-
-check-axes-requires : tie.Need-check-axes-requires
-check-axes-requires c κs = search needs
-
-enum-known-allowed : tie.Need-enum-known-allowed
-enum-known-allowed c = search needs
-
 enum-told : tie.Need-enum-told
 enum-told c = search needs
 
@@ -65,11 +50,11 @@ pub section-one-spec : {M : Type 1} → statement M
 section-one-spec =
     tie.close
     (tie.spec
-    number-requires
-    enum-known-number
-    enum-known-number-2
-    check-axes-requires
-    enum-known-allowed
+    (λ c κs. search needs)
+    (λ c. search needs)
+    (λ c. search needs)
+    (λ c κs. search needs)
+    (λ c. search needs)
     enum-told
     node-counts-requires
     returns

@@ -40,12 +40,6 @@ module _ (n : ℕ) (cs : List ℕ) (xs : List ℤ) (old : List ℕ) where
         let f : outcome ≡ done k = first-passed (writeCheck (header n cs) xs (length old)) _ e ∙ ap done (sym s) in
         (sym f, h ∙ when-done (overwrite (fileOf (header n cs) xs) old) old f)
 
-check-write-requires : tie.Need-check-write-requires
-check-write-requires c κs = search needs
-
-enum-known-allowed : tie.Need-enum-known-allowed
-enum-known-allowed c = search needs
-
 enum-told : tie.Need-enum-told
 enum-told c = search needs
 
@@ -62,9 +56,6 @@ returns c =
     stopped (a .axes) (a .counts) (a .samples .now) (a .bytes .now) (r .number) (r .place)
     (sym (c .before .before .before .check-write .ensures) ∙ ap meaning (c .before .allowed .given .1))
 
-same-length : tie.Need-same-length
-same-length c = search needs
-
 returns-2 : tie.Need-returns-2
 returns-2 c =
     let b = c .before .before .before .before .before .before .before .before in
@@ -77,10 +68,10 @@ pub write-spec : {M : Type 1} → statement M
 write-spec =
     tie.close
     (tie.spec
-    check-write-requires
-    enum-known-allowed
+    (λ c κs. search needs)
+    (λ c. search needs)
     enum-told
     put-file-requires
     returns
-    same-length
+    (λ c. search needs)
     returns-2)

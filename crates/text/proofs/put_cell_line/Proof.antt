@@ -19,25 +19,16 @@ use Rattle.text.proofs.put_cell_line.Tie as tie
 same : (x : ℤ) (b : ℕ) → SFits w32 x → word (signedDecimal (toZ w32 (ofZ w32 x))) b ≡ word (signedDecimal x) b
 same x b f = ap (λ (y : ℤ). word (signedDecimal y) b) (element x (f .sfits))
 
-array-read-put-number-then : tie.Need-array-read-put-number-then
-array-read-put-number-then c = search needs
-
 put-number-then-requires : tie.Need-put-number-then-requires
 put-number-then-requires c κs =
     let a = c .before .before .args in
     omega (arith, cell-length (a .t3) (a .cubic) (a .quintic))
-
-array-read-put-number-then-2 : tie.Need-array-read-put-number-then-2
-array-read-put-number-then-2 c = search needs
 
 put-number-then-requires-2 : tie.Need-put-number-then-requires-2
 put-number-then-requires-2 c κs =
     let b = c .before .before .before in
     let a = b .before .before .before .args in
     omega (arith, cell-length (a .t3) (a .cubic) (a .quintic), b .put-number-then .ensures .0, b .put-number-then .kept .0)
-
-array-read-put-number-then-3 : tie.Need-array-read-put-number-then-3
-array-read-put-number-then-3 c = search needs
 
 put-number-then-requires-3 : tie.Need-put-number-then-requires-3
 put-number-then-requires-3 c κs =
@@ -88,9 +79,6 @@ put-signed-then-requires-2 c κs =
       f .put-number-then .kept .0,
     )
 
-same-length : tie.Need-same-length
-same-length c = search needs
-
 returns : tie.Need-returns
 returns c =
     let p₄ = c .before .before in
@@ -117,13 +105,13 @@ pub put-cell-line-spec : {M : Type 1} → statement M
 put-cell-line-spec =
     tie.close
     (tie.spec
-    array-read-put-number-then
+    (λ c. search needs)
     put-number-then-requires
-    array-read-put-number-then-2
+    (λ c. search needs)
     put-number-then-requires-2
-    array-read-put-number-then-3
+    (λ c. search needs)
     put-number-then-requires-3
     put-signed-then-requires
     put-signed-then-requires-2
-    same-length
+    (λ c. search needs)
     returns)

@@ -23,9 +23,6 @@ add-result c =
     let b = c .before .before .before .before .before in
     omega (arith, length-word (decimal (b .args .n)) (b .args .after), c .before .before .put-number .ensures .0, b .good .0 .0)
 
-same-length : tie.Need-same-length
-same-length c = search needs
-
 returns : tie.Need-returns
 returns c =
     let a = c .before .before .before .before .before .args in
@@ -36,4 +33,4 @@ returns c =
 
 pub put-number-then-spec : {M : Type 1} → statement M
 put-number-then-spec =
-    tie.close (tie.spec put-number-requires slice-write-out add-result same-length returns)
+    tie.close (tie.spec put-number-requires slice-write-out add-result (λ c. search needs) returns)

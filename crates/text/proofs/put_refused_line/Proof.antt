@@ -8,9 +8,6 @@ use borrow.Author.Needs.{needs}
 use Rattle.text.proofs.put_refused_line.Statement.{statement}
 use Rattle.text.proofs.put_refused_line.Tie as tie
 
-slice-aggregate-put-bytes : tie.Need-slice-aggregate-put-bytes
-slice-aggregate-put-bytes c = search needs
-
 put-bytes-requires : tie.Need-put-bytes-requires
 put-bytes-requires c κs = omega (arith, refused-length (c .before .before .before .args .number))
 
@@ -18,9 +15,6 @@ put-number-then-requires : tie.Need-put-number-then-requires
 put-number-then-requires c κs =
     let b = c .before .before .before in
     omega (arith, refused-length (c .before .before .before .before .before .before .before .args .number), b .put-bytes .ensures .0, b .put-bytes .kept .0)
-
-same-length : tie.Need-same-length
-same-length c = search needs
 
 returns : tie.Need-returns
 returns c =
@@ -37,8 +31,8 @@ pub put-refused-line-spec : {M : Type 1} → statement M
 put-refused-line-spec =
     tie.close
     (tie.spec
-    slice-aggregate-put-bytes
+    (λ c. search needs)
     put-bytes-requires
     put-number-then-requires
-    same-length
+    (λ c. search needs)
     returns)

@@ -33,17 +33,11 @@ module _ (x : ℤ) (r : ℕ) (f : SFits w32 x) (s : r ≡ natAbs (toZ w64 (ofZ w
 cast-magnitude : tie.Need-cast-magnitude
 cast-magnitude c = widen-fits (c .before .args .x) (c .before .fits .x .sfits)
 
-magnitude-requires : tie.Need-magnitude-requires
-magnitude-requires c κs = search needs
-
 slice-write-out : tie.Need-slice-write-out
 slice-write-out c =
     let b = c .before .before .before in
     let m = c .before .magnitude in
     omega (arith, ap length (negative (b .args .x) (m .result) (b .fits .x) (m .ensures) (c .if1 .taken)))
-
-add-put-number : tie.Need-add-put-number
-add-put-number c = search needs
 
 put-number-requires : tie.Need-put-number-requires
 put-number-requires c κs =
@@ -72,9 +66,6 @@ put-number-requires-2 c κs =
     let m = c .before .before .magnitude in
     omega (arith, ap length (positive (b .args .x) (m .result) (b .fits .x) (m .ensures) (c .before .if1 .left)))
 
-same-length-2 : tie.Need-same-length-2
-same-length-2 c = search needs
-
 returns-2 : tie.Need-returns-2
 returns-2 c =
     let b = c .before .before .before .before .before .before .before in
@@ -90,12 +81,12 @@ put-signed-spec =
     tie.close
     (tie.spec
     cast-magnitude
-    magnitude-requires
+    (λ c κs. search needs)
     slice-write-out
-    add-put-number
+    (λ c. search needs)
     put-number-requires
     same-length
     returns
     put-number-requires-2
-    same-length-2
+    (λ c. search needs)
     returns-2)

@@ -34,9 +34,6 @@ add-result c =
     let b = c .before .before .before .before .before in
     omega (arith, length-word (signedDecimal (b .args .x)) (b .args .after), ap length (same (b .args .x) (b .fits .x)), c .before .before .put-signed .ensures .0, b .good .0 .0)
 
-same-length : tie.Need-same-length
-same-length c = search needs
-
 returns : tie.Need-returns
 returns c =
     let b = c .before .before .before .before .before in
@@ -48,4 +45,4 @@ returns c =
 
 pub put-signed-then-spec : {M : Type 1} → statement M
 put-signed-then-spec =
-    tie.close (tie.spec put-signed-requires slice-write-out add-result same-length returns)
+    tie.close (tie.spec put-signed-requires slice-write-out add-result (λ c. search needs) returns)
