@@ -1,16 +1,15 @@
 -- The limit test of one entry, as the code makes it.
-use mathlib.Core.Path.{_≡_, refl, sym, ap, _∙_}
+use mathlib.Core.Path.{_≡_, refl, ap, _∙_}
 use mathlib.Core.Bool.{Bool, true, false}
 use mathlib.Core.List.{List}
-use Prim.Native.Nat.{ℕ, _+_, _^_, _≤_, _<_}
-use native.Mathlib.Omega.{arith}
+use Prim.Native.Nat.{ℕ, _+_, _^_, _<_}
 use lib.Dec.{leb, ltb}
 use lib.IntN.{ℤ, natAbs}
 use lib.Signed.{mag}
 use mir.Syntax.{w32}
 use mir.Val.{toZ, ofZ}
 use borrow.Author.Tests.{ltb-true, ltb-false, le-leb, lt-leb}
-use Rattle.lattice.specs.Outcome.{Check, done, refused, refuseUnless, passed}
+use Rattle.lattice.specs.Outcome.{Check, done, refused, refuseUnless}
 use Rattle.lattice.specs.Buffer.{at}
 use Rattle.arith.proofs.Machine.{element}
 use Rattle.cell.specs.Cell.{limitIn}

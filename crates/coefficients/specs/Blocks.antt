@@ -4,7 +4,7 @@ use Prim.Native.Nat.{ℕ, zero, suc, _+_, _*_, _-_, _/_, _%_, _^_, _≤_, _<_}
 use mathlib.Core.List.{List}
 use lib.Dec.{ltb, eqb}
 use lib.IntN.{ℤ, pos, _*ℤ_, natAbs}
-use lib.ListN.{length, getD, set}
+use lib.ListN.{length, set}
 use Rattle.arith.specs.Choice.{pick}
 use Rattle.arith.specs.Sum.{sum}
 use Rattle.lattice.specs.Buffer.{at}

@@ -2,7 +2,6 @@
 ghost use mathlib.Core.Path.{_≡_};
 ghost use Prim.Native.Nat.{ℕ, _+_, _*_, _^_, _<_, _≤_};
 ghost use lib.Dec.{leb, eqb};
-ghost use lib.IntN.{natAbs};
 ghost use lib.ListN.{length};
 ghost use Rattle.arith.specs.Int.{floorDiv};
 ghost use Rattle.lattice.specs.Outcome.{done, refuseUnless, first, firstOf};
@@ -10,7 +9,7 @@ ghost use Rattle.lattice.specs.Answer.{meaning};
 ghost use Rattle.lattice.specs.Buffer.{at};
 ghost use Rattle.lattice.specs.Shape.{ordersOf};
 ghost use Rattle.coefficients.specs.Corners.{coefficientCount, possibleOutcome, numbersOutcome, backOutcome, backWrites};
-ghost use Rattle.coefficients.specs.Blocks.{Sized, spot, converted, Within, Modest, Back, scatter};
+ghost use Rattle.coefficients.specs.Blocks.{Sized, spot, converted, Within, Modest, scatter};
 ghost use Rattle.corners.specs.Back.{limitAt, wholeWithin, doubledOf, blockTest, entryOf};
 use coefficients::Block;
 use lattice::Answer;

@@ -1,7 +1,7 @@
 -- What an answer reads, for every rounding: the corners' records only, and no place on the axes worked off; and what it is on one axis.
 use mathlib.Core.Path.{_≡_, refl, sym, ap, subst, _∙_, fun-ext}
 use mathlib.Core.List.{List, [], _∷_}
-use Prim.Native.Nat.{ℕ, zero, suc, _+_, _*_, _≤_, _<_}
+use Prim.Native.Nat.{ℕ, _*_, _≤_, _<_}
 use native.Mathlib.Omega.{arith}
 use native.Mathlib.Decide.{ℕ-discrete}
 use lib.Dec.{eqb, lit≤}
@@ -14,7 +14,7 @@ use Rattle.arith.proofs.Round.{round-common}
 use Rattle.lattice.specs.Axes.{Place, Field, origin, put, along, sweep, axes, without}
 use Rattle.lattice.proofs.Along.{put-at, put-off, each-axes, each-without, Fresh, distinct-axes, distinct-without, fresh-back}
 use Rattle.lattice.proofs.Local.{Depends, linear-depends, sweep-local, used, OnAxis, on-used}
-use Rattle.hermite.specs.Hermite.{Kind, value, slope, divisor, stageSum}
+use Rattle.hermite.specs.Hermite.{value, slope, divisor, stageSum}
 use Rattle.hermite.proofs.HermiteLaws.{stage-linear, stage-multiple}
 use Rattle.cell.specs.Cell.{AtEnds, InCorners}
 use Rattle.evaluate.specs.Evaluate.{Want, dose, slopeAlong, Ask, kindOn, lastAxis, divisorOn, stageOn, toEighth, toUnit, inEighths, before, answerBy, answer}

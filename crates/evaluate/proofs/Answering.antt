@@ -10,7 +10,6 @@ use lib.Dec.{ltb, lit≤}
 use lib.ListN.{length, getD}
 use lib.Pow.{pow-mono}
 use lib.IntN.{ℤ, pos, _*ℤ_, natAbs}
-use Rattle.arith.specs.Choice.{pick}
 use Rattle.arith.specs.Int.{roundHalfUp}
 use Rattle.arith.proofs.Abs.{abs-mul}
 use Rattle.arith.proofs.Choices.{pick-true, by-m}

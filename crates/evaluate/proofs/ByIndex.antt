@@ -6,29 +6,25 @@ use native.Mathlib.Nat.{zero-div, zero-mod, mul-one, mul-comm}
 use lib.Pow.{pow-pos}
 use native.Mathlib.Omega.{arith}
 use native.Mathlib.Decide.{ℕ-discrete}
-use lib.Dec.{lit≤, lit<}
-use lib.ListN.{length}
-use lib.IntN.{ℤ, pos, _*ℤ_, natAbs}
+use lib.IntN.{ℤ, pos, _*ℤ_}
 use Rattle.arith.specs.Int.{roundHalfUp}
 use Rattle.arith.specs.Choice.{pick}
-use Rattle.arith.specs.Sum.{sum}
 use Rattle.arith.proofs.Laws.{pos-one-*ℤ}
 use Rattle.arith.proofs.Round.{round-common}
-use Rattle.arith.proofs.Sums.{sum-ext}
 use Rattle.lattice.specs.declared.Shape.{Shape}
 use Rattle.lattice.specs.Buffer.{at}
 use Rattle.lattice.specs.Shape.{orders, Shaped}
-use Rattle.lattice.specs.Axes.{Place, Field, put, along, sweep, axes}
+use Rattle.lattice.specs.Axes.{Place, Field, put, sweep, axes}
 use Rattle.lattice.specs.Records.{recordsField}
 use Rattle.lattice.proofs.Along.{put-at, put-off, Each, each-axes, each-without, Fresh, fresh-out, Distinct, distinct-axes, distinct-without}
 use Rattle.lattice.proofs.ShapeLaws.{orders-range}
-use Rattle.hermite.specs.Hermite.{Kind, kindOf, divisor, stageSum, basis}
+use Rattle.hermite.specs.Hermite.{Kind, kindOf, divisor, stageSum}
 use Rattle.hermite.specs.Stage.{steps}
-use Rattle.hermite.proofs.HermiteLaws.{stage-linear, stage-multiple}
+use Rattle.hermite.proofs.HermiteLaws.{stage-multiple}
 use Rattle.cell.specs.Cell.{Accepted, base, far, near, offset}
 use Rattle.cell.proofs.CellLaws.{Numbers, placed, entry-at}
 use Rattle.evaluate.specs.declared.Axis.{Axis}
-use Rattle.evaluate.specs.Evaluate.{Want, Ask, kindOn, lastAxis, stageOn, divisorOn, toEighth, toUnit, inEighths, before, answerBy, answer, askAt}
+use Rattle.evaluate.specs.Evaluate.{Want, Ask, kindOn, lastAxis, stageOn, divisorOn, toEighth, toUnit, inEighths, before, answer, askAt}
 use Rattle.evaluate.specs.Stages.{offsetBy, offsetOf, worked, after}
 use Rattle.evaluate.proofs.AnswerLaws.{answer-anywhere}
 use Rattle.evaluate.proofs.EndLaws.{stage-of}

@@ -1,26 +1,24 @@
 -- The numbers of the two ends of a stage, by index: what a stage of the code makes of them is the stage by index.
-use mathlib.Core.Path.{_≡_, refl, sym, ap, ap₂, subst, _∙_}
+use mathlib.Core.Path.{_≡_, sym, ap, ap₂, subst, _∙_}
 use mathlib.Core.List.{List, [], _∷_}
-use Prim.Native.Nat.{ℕ, zero, suc, _+_, _*_, _-_, _/_, _%_, _^_, _≤_, _<_}
+use Prim.Native.Nat.{ℕ, zero, suc, _+_, _*_, _-_, _/_, _^_, _≤_, _<_}
 use native.Mathlib.Nat.{mod-eq-of-lt, add-mod-left, div-eq-of-lt, add-div-left, le-trans, le-of-eq}
 use native.Mathlib.Omega.{arith}
 use native.Mathlib.Decide.{decLt}
-use lib.Dec.{ltb, lit≤, lit<}
+use lib.Dec.{ltb, lit<}
 use lib.IntN.{ℤ, pos, _*ℤ_, natAbs}
 use borrow.Author.Tests.{lt-ltb, le-ltb}
-use Rattle.arith.specs.Choice.{pick}
 use Rattle.arith.specs.Int.{roundHalfUp}
-use Rattle.arith.specs.Sum.{sum, total}
 use Rattle.arith.proofs.Choices.{pick-true, pick-false}
 use Rattle.arith.proofs.Sums.{sum-ext, total-ext}
 use Rattle.lattice.specs.Buffer.{at}
 use Rattle.hermite.specs.declared.Basis.{Basis}
 use Rattle.hermite.specs.Hermite.{Kind, kindOf, stageSum, basis}
-use Rattle.hermite.specs.Stage.{steps, Folds, bothEnds, load}
+use Rattle.hermite.specs.Stage.{steps, bothEnds, load}
 use Rattle.hermite.proofs.HermiteLaws.{stage-linear}
 use Rattle.hermite.proofs.StageLaws.{ends-low, ends-high}
 use Rattle.evaluate.specs.declared.Axis.{Axis}
-use Rattle.evaluate.specs.Stages.{offsetBy, offsetOf, worked, after, numbersAt, Prepared, Safe}
+use Rattle.evaluate.specs.Stages.{offsetBy, offsetOf, worked, after, numbersAt, Safe}
 
 -- ---- a stage of the 2m numbers y, wherever they stand
 

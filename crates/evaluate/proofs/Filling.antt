@@ -1,8 +1,7 @@
 -- The two ends of a stage, filled order by order: where each number is read, and what the arrays hold on the way.
 use mathlib.Core.Path.{_≡_, refl, sym, ap, subst, _∙_}
 use mathlib.Core.List.{List, [], _∷_}
-use Prim.Native.Nat.{ℕ, zero, suc, _+_, _*_, _-_, _^_, _≤_, _<_}
-use native.Mathlib.Nat.{zero-div, zero-mod}
+use Prim.Native.Nat.{ℕ, zero, suc, _+_, _*_, _-_, _≤_, _<_}
 use native.Mathlib.Omega.{arith}
 use native.Mathlib.Decide.{ℕ-discrete, decLt}
 use lib.IntN.{ℤ, pos}
@@ -10,7 +9,7 @@ use lib.ListN.{length, getD, set, length-set}
 use lib.Seq.{getD-set-same, getD-set-other}
 use Rattle.lattice.specs.Buffer.{at}
 use Rattle.evaluate.specs.declared.Axis.{Axis}
-use Rattle.evaluate.specs.Stages.{offsetOf, numbersAt, Safe}
+use Rattle.evaluate.specs.Stages.{numbersAt, Safe}
 use Rattle.evaluate.proofs.EndLaws.{number-at, number-none, safe-low, safe-high}
 
 -- the offsets of the orders

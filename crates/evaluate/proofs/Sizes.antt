@@ -1,26 +1,26 @@
 -- How large the numbers of a cell are after each stage, for corner records within their limits; and that every answer is below 2^24.
-use mathlib.Core.Path.{_≡_, refl, sym, ap, subst, _∙_, fun-ext}
+use mathlib.Core.Path.{_≡_, refl, sym, ap, subst, _∙_}
 use mathlib.Core.List.{List, [], _∷_}
 use Prim.Native.Nat.{ℕ, zero, suc, _+_, _*_, _-_, _%_, _^_, _≤_, _<_}
-use native.Mathlib.Nat.{le-trans, le-of-eq, mul-le-mul, zero-mod, mul-add-mod-self-left, not-suc-le-zero, lt-of-le-of-lt, mod-eq-of-lt, mod-lt, one-le-pow, mul-le-mul-left, mul-le-mul-right}
+use native.Mathlib.Nat.{le-trans, le-of-eq, mul-le-mul, zero-mod, mul-add-mod-self-left, not-suc-le-zero, lt-of-le-of-lt, mod-eq-of-lt, mod-lt, one-le-pow}
 use native.Mathlib.Omega.{arith}
 use native.Mathlib.Decide.{ℕ-discrete}
 use lib.Dec.{lit≤}
 use lib.ListN.{length}
-use lib.Pow.{pow-add, pow-mono}
-use lib.IntN.{ℤ, pos, _*ℤ_, natAbs}
+use lib.Pow.{pow-add}
+use lib.IntN.{pos, natAbs}
 use Rattle.arith.specs.Int.{Rounding, roundHalfUp}
 use Rattle.arith.specs.Sum.{total}
 use Rattle.arith.proofs.Round.{Nearly, half-up-nearly}
 use Rattle.arith.proofs.Abs.{abs-mul}
 use Rattle.arith.proofs.Sums.{total-ext}
-use Rattle.lattice.specs.Axes.{Place, Field, origin, put, along, sweep, axes, without}
+use Rattle.lattice.specs.Axes.{Place, Field, put, along, sweep, axes}
 use Rattle.lattice.specs.Records.{totalOrder, entryLimit}
 use Rattle.lattice.proofs.Along.{put-at, put-off, put-swap, Each, each-axes, each-without, Fresh, Distinct, distinct-axes, distinct-without, fresh-out, last-first, length-order, length-axes}
-use Rattle.hermite.specs.Hermite.{Kind, value, slope, divisor, stageSum}
-use Rattle.hermite.proofs.Sizes.{divisor-some, eighth-size, unit-size}
+use Rattle.hermite.specs.Hermite.{value}
+use Rattle.hermite.proofs.Sizes.{eighth-size, unit-size}
 use Rattle.cell.specs.Cell.{AtEnds, InCorners}
-use Rattle.evaluate.specs.Evaluate.{Want, dose, slopeAlong, Ask, kindOn, lastAxis, divisorOn, stageOn, toEighth, toUnit, inEighths, before, answerBy, answer}
+use Rattle.evaluate.specs.Evaluate.{Ask, kindOn, lastAxis, divisorOn, stageOn, toEighth, toUnit, inEighths, before, answerBy, answer}
 use Rattle.evaluate.proofs.AnswerLaws.{kind-before, answer-anywhere}
 
 -- ---- orders that are 0 on the axes worked off

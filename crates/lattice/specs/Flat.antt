@@ -1,6 +1,6 @@
 -- The rules on flat arrays: a pass consumes the fastest digit of the index and its result becomes the slowest.
-use Prim.Native.Nat.{ℕ, zero, suc, _+_, _*_, _/_, _%_}
-use mathlib.Core.List.{List, [], _∷_, _++_}
+use Prim.Native.Nat.{ℕ, _+_, _*_, _/_, _%_}
+use mathlib.Core.List.{List, [], _∷_}
 use lib.IntN.{ℤ}
 use Rattle.lattice.specs.Axes.{Place, Rule}
 

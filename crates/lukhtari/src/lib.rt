@@ -1,6 +1,5 @@
 // The calls open to the host: structs of the C interface over the proved calls.
 ghost use mathlib.Core.Path.{_≡_};
-ghost use mathlib.Core.List.{List};
 ghost use lib.ListN.{length};
 ghost use Rattle.lattice.specs.Outcome.{whenDone};
 ghost use Rattle.lattice.specs.Answer.{meaning};

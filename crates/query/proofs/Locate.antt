@@ -12,7 +12,7 @@ use borrow.Author.Tests.{ltb-true, lt-ltb, le-ltb}
 use Rattle.arith.specs.Choice.{pick}
 use Rattle.arith.proofs.Choices.{pick-true, pick-false}
 use Rattle.lattice.specs.declared.Shape.{Shape}
-use Rattle.lattice.specs.Outcome.{Check, refuseUnless, first, firstOf}
+use Rattle.lattice.specs.Outcome.{refuseUnless}
 use Rattle.lattice.specs.Buffer.{at}
 use Rattle.lattice.specs.Shape.{count}
 use Rattle.lattice.specs.Axes.{Place}

@@ -1,6 +1,6 @@
 -- The queries by cell and in-cell step, and by table position: what each is refused for, in the order of document 01, and what it gives.
-use Prim.Native.Nat.{ℕ, _+_, _*_, _-_, _/_, min}
-use mathlib.Core.Bool.{Bool, _&&_}
+use Prim.Native.Nat.{ℕ, _*_, _-_, _/_, min}
+use mathlib.Core.Bool.{_&&_}
 use mathlib.Core.List.{List}
 use lib.Dec.{leb, ltb, eqb}
 use lib.IntN.{ℤ, pos, natAbs}
@@ -10,7 +10,7 @@ use Rattle.arith.specs.Choice.{pick}
 use Rattle.lattice.specs.declared.Shape.{Shape}
 use Rattle.lattice.specs.Outcome.{Outcome, Check, done, refuseUnless, first, firstOf}
 use Rattle.lattice.specs.Buffer.{at}
-use Rattle.lattice.specs.Shape.{count, orders, size, shapeOutcome}
+use Rattle.lattice.specs.Shape.{count, size, shapeOutcome}
 use Rattle.lattice.specs.Axes.{Place}
 use Rattle.lattice.specs.Records.{recordsField}
 use Rattle.hermite.specs.Stage.{steps}

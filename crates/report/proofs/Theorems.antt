@@ -1,16 +1,15 @@
 -- Every accepted cell of a table has its line: its number is i + x·(j + y·k), where x, y are the cells along the first two axes.
-use mathlib.Core.Path.{_≡_, refl, sym, ap, _∙_, fun-ext}
-use mathlib.Core.List.{List, [], _∷_}
+use mathlib.Core.Path.{_≡_, ap, fun-ext}
+use mathlib.Core.List.{[], _∷_}
 use Prim.Native.Nat.{ℕ, _+_, _≤_, _<_}
 use native.Mathlib.Decide.{decLt}
 use native.Mathlib.Omega.{arith}
 use borrow.Author.Tests.{le-ltb}
 use lib.Dec.{ltb}
-use lib.ListN.{getD}
 use Rattle.arith.specs.Choice.{pick}
 use Rattle.arith.proofs.Choices.{pick-false}
 use Rattle.lattice.specs.Buffer.{tabulate}
-use Rattle.lattice.specs.Digits.{number, digit}
+use Rattle.lattice.specs.Digits.{number}
 use Rattle.lattice.specs.Shape.{count, Shaped}
 use Rattle.lattice.proofs.DigitsLaws.{digit-number, number-below}
 use Rattle.cell.specs.Cell.{placeAt, Accepted}

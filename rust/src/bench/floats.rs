@@ -2,7 +2,9 @@
 
 use super::clock::{side_by_side, Run};
 use super::hand::method::{Folded, Printed};
-use super::hand::{plain, query};
+use super::hand::plain::Plain;
+use super::hand::query;
+use super::hand::stages::Specialised;
 use super::inputs::{cube, positions, samples, KINDS};
 use super::report::{heading, line};
 use lukhtari::{dose_float, estimate, slope_float, Refusal};
@@ -49,16 +51,16 @@ fn times(degree: u32, axes: u32, along: Option<u32>) -> Vec<f64> {
     let mut runs = [
         over(&points, expected, library),
         over(&points, expected, |p| {
-            query::by_float::<Printed>(shape, records, p, along)
+            query::by_float::<Specialised<Printed>>(shape, records, p, along)
         }),
         over(&points, expected, |p| {
-            query::by_float::<Folded>(shape, records, p, along)
+            query::by_float::<Specialised<Folded>>(shape, records, p, along)
         }),
         over(&points, expected, |p| {
-            plain::by_float::<Printed>(shape, records, p, along)
+            query::by_float::<Plain<Printed>>(shape, records, p, along)
         }),
         over(&points, expected, |p| {
-            plain::by_float::<Folded>(shape, records, p, along)
+            query::by_float::<Plain<Folded>>(shape, records, p, along)
         }),
     ];
     side_by_side(POINTS, &mut runs)

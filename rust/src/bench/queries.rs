@@ -3,7 +3,9 @@
 use super::clock::{side_by_side, Run};
 use super::double::{Double, Source};
 use super::hand::method::{Folded, Printed};
-use super::hand::{plain, query};
+use super::hand::plain::Plain;
+use super::hand::query;
+use super::hand::stages::Specialised;
 use super::inputs::{cell_and_u, cube, positions, samples, KINDS};
 use super::report::{heading, line};
 use lukhtari::{dose, dose_in_cell, estimate, slope, slope_in_cell, Refusal, Shape};
@@ -100,16 +102,16 @@ impl Table {
         let mut runs = [
             self.whole(expected, library),
             self.whole(expected, |p| {
-                query::by_position::<Printed>(shape, records, p, along)
+                query::by_position::<Specialised<Printed>>(shape, records, p, along)
             }),
             self.whole(expected, |p| {
-                query::by_position::<Folded>(shape, records, p, along)
+                query::by_position::<Specialised<Folded>>(shape, records, p, along)
             }),
             self.whole(expected, |p| {
-                plain::by_position::<Printed>(shape, records, p, along)
+                query::by_position::<Plain<Printed>>(shape, records, p, along)
             }),
             self.whole(expected, |p| {
-                plain::by_position::<Folded>(shape, records, p, along)
+                query::by_position::<Plain<Folded>>(shape, records, p, along)
             }),
             self.real(expected, |p| self.double.at(p, along, Source::Sums)),
             self.real(expected, |p| self.double.at(p, along, Source::Axes)),
@@ -133,16 +135,16 @@ impl Table {
         let mut runs = [
             over(points, expected, library),
             over(points, expected, |cell, u| {
-                query::by_cell::<Printed>(shape, records, cell, u, along)
+                query::by_cell::<Specialised<Printed>>(shape, records, cell, u, along)
             }),
             over(points, expected, |cell, u| {
-                query::by_cell::<Folded>(shape, records, cell, u, along)
+                query::by_cell::<Specialised<Folded>>(shape, records, cell, u, along)
             }),
             over(points, expected, |cell, u| {
-                plain::by_cell::<Printed>(shape, records, cell, u, along)
+                query::by_cell::<Plain<Printed>>(shape, records, cell, u, along)
             }),
             over(points, expected, |cell, u| {
-                plain::by_cell::<Folded>(shape, records, cell, u, along)
+                query::by_cell::<Plain<Folded>>(shape, records, cell, u, along)
             }),
         ];
         side_by_side(POINTS, &mut runs)

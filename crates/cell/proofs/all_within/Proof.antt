@@ -1,13 +1,12 @@
 use mathlib.Core.Path.{_≡_, refl, sym, ap, subst, _∙_}
-use mathlib.Core.Bool.{true, false}
-use Prim.Native.Nat.{ℕ, _≤_, _<_, _+_, _-_}
+use Prim.Native.Nat.{ℕ, _≤_, _+_, _-_}
 use native.Mathlib.Omega.{arith}
 use borrow.Author.Tests.{not-true, not-false}
 use lib.ListN.{length}
 use denote.Ref.{now}
 use Rattle.lattice.specs.Outcome.{done, firstOf, passed}
 use Rattle.lattice.proofs.OutcomeLaws.{passed-done, firstOf-fails, firstOf-more}
-use Rattle.cell.specs.Cell.{startOf, limitIn, recordOutcome}
+use Rattle.cell.specs.Cell.{limitIn, recordOutcome}
 use Rattle.cell.proofs.LayoutLaws.{cornerTest}
 use Rattle.cell.proofs.all_within.Statement.{statement}
 use Rattle.cell.proofs.all_within.Tie as tie

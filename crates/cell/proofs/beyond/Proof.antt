@@ -1,4 +1,4 @@
-use mathlib.Core.Path.{_≡_, refl, sym, ap, _∙_}
+use mathlib.Core.Path.{_≡_, refl, sym, _∙_}
 use mathlib.Core.Bool.{true, false}
 use Prim.Native.Nat.{ℕ, zero, suc, _<_, _^_}
 use native.Mathlib.Omega.{arith}
@@ -6,9 +6,7 @@ use native.Mathlib.Decide.{decLt}
 use lib.Dec.{ltb, lit<}
 use lib.IntN.{ℤ, pos, negsuc, negℤ, natAbs, _-ℤ_, +ℤ-idl}
 use lib.Signed.{nonNeg, ltZ, mag}
-use mir.Syntax.{w32}
-use mir.Val.{SFits, toZ, ofZ}
-use borrow.Author.Tests.{ltb-true, lt-ltb, le-ltb}
+use borrow.Author.Tests.{lt-ltb, le-ltb}
 use Rattle.arith.proofs.Machine.{element}
 use Rattle.cell.proofs.beyond.Statement.{statement}
 use Rattle.cell.proofs.beyond.Tie as tie

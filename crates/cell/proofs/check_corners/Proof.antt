@@ -1,23 +1,17 @@
-use native.Mathlib.Nat.{pow-le-pow-right, lt-of-lt-of-le}
-use lib.Pow.{pow-mono}
 use Rattle.arith.proofs.Machine.{shifted}
 use Rattle.cell.proofs.CellLaws.{laid-small}
-use mathlib.Core.List.{List}
-use Rattle.lattice.specs.declared.Shape.{Shape}
-use Rattle.lattice.specs.Outcome.{Check, done, refused, firstOf}
+use Rattle.lattice.specs.Outcome.{done, refused, firstOf}
 use Rattle.lattice.specs.Answer.{meaning}
-use Rattle.lattice.specs.Shape.{entries, orders, size, Shaped}
-use Rattle.lattice.proofs.ShapeLaws.{orders-range, entries-high, entries-pos}
-use Rattle.lattice.proofs.OutcomeLaws.{firstOf-stops, firstOf-more, firstOf-same}
-use Rattle.cell.specs.declared.Layout.{Layout}
-use Rattle.cell.specs.Cell.{placeAt, Accepted, Laid, base, far, limitOf, limitIn, recordOutcome, cornersOutcome}
+use Rattle.lattice.specs.Shape.{entries, orders}
+use Rattle.lattice.proofs.ShapeLaws.{orders-range, entries-high}
+use Rattle.lattice.proofs.OutcomeLaws.{firstOf-stops, firstOf-more}
+use Rattle.cell.specs.Cell.{placeAt, limitOf, limitIn, recordOutcome, cornersOutcome}
 use Rattle.lattice.specs.Buffer.{at}
 use Rattle.cell.proofs.LayoutLaws.{cornerTest, few, record-in, limits-hold, all-is}
 use mathlib.Core.Path.{_≡_, refl, sym, ap, subst, _∙_}
-use Prim.Native.Nat.{ℕ, _≤_, _<_, _+_, _^_, _-_, _*_, _/_, _%_}
+use Prim.Native.Nat.{ℕ, _≤_, _<_, _^_, _-_, _*_, _%_}
 use native.Mathlib.Omega.{arith}
-use lib.ListN.{length, getD}
-use lib.IntN.{ℤ, pos}
+use lib.IntN.{pos}
 use denote.Ref.{now}
 use borrow.Author.Needs.{needs}
 use Rattle.cell.proofs.check_corners.Statement.{statement}

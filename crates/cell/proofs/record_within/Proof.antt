@@ -1,13 +1,10 @@
-use mathlib.Core.Path.{_≡_, refl, sym, ap, subst, _∙_}
-use mathlib.Core.Bool.{Bool, true, false, _&&_}
-use mathlib.Core.List.{List}
-use Prim.Native.Nat.{ℕ, _≤_, _<_, _+_, _-_}
+use mathlib.Core.Path.{_≡_, refl, sym, ap, _∙_}
+use Prim.Native.Nat.{ℕ, _≤_, _+_, _-_}
 use native.Mathlib.Omega.{arith}
-use lib.IntN.{ℤ}
 use denote.Ref.{now}
-use Rattle.lattice.specs.Outcome.{Check, firstOf, passed}
+use Rattle.lattice.specs.Outcome.{firstOf, passed}
 use Rattle.lattice.proofs.OutcomeLaws.{firstOf-fails, passed-more}
-use Rattle.cell.specs.Cell.{limitIn, recordOutcome}
+use Rattle.cell.specs.Cell.{recordOutcome}
 use Rattle.cell.proofs.LimitLaws.{test, test-stopped, test-passed, limit-told}
 use Rattle.arith.proofs.Machine.{element}
 use Rattle.lattice.specs.Buffer.{at}

@@ -1,7 +1,7 @@
 -- `estimate::row_y` meets its contract: it is one pass over three rows of the samples.
 use mathlib.Core.List.{List}
-use mathlib.Core.Path.{_≡_, sym, ap, subst, _∙_}
-use Prim.Native.Nat.{ℕ, _≤_, _<_, _+_, _*_, _/_}
+use mathlib.Core.Path.{_≡_, ap, subst, _∙_}
+use Prim.Native.Nat.{ℕ, _≤_, _<_, _*_, _/_}
 use native.Mathlib.Nat.{one-mul, zero-add}
 use native.Mathlib.Omega.{arith}
 use lib.ListN.{length}

@@ -1,7 +1,6 @@
 use lib.ListN.{length}
 use denote.Ref.{now}
 use mathlib.Core.Path.{_∙_}
-use lib.IntN.{ℤ}
 use mir.Syntax.{w64}
 use mir.Val.{toZ, ofZ}
 use Prim.Native.Nat.{_≤_}

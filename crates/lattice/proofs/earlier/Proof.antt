@@ -1,6 +1,5 @@
 use mathlib.Core.Path.{sym, ap, _∙_}
 use Rattle.lattice.specs.Answer.{meaning}
-use Rattle.lattice.specs.Outcome.{first}
 use Rattle.lattice.proofs.OutcomeLaws.{refused-first, first-passed}
 use borrow.Author.Needs.{needs}
 use Rattle.lattice.proofs.earlier.Statement.{statement}

@@ -1,12 +1,11 @@
 use mathlib.Core.Path.{_≡_, refl, sym, ap, _∙_}
 use mathlib.Core.Option.{Option, some}
-use Prim.Native.Nat.{ℕ}
 use lib.Ieee.{ofBits, binary32}
 use lib.IntN.{ℤ, pos}
 use Rattle.arith.specs.Choice.{pick}
 use Rattle.floats.specs.Whole.{wholeOf}
 use Rattle.float_query.specs.Answers.{toldFloat}
-use Rattle.lukhtari.specs.Host.{Seen, realOf}
+use Rattle.lukhtari.specs.Host.{realOf}
 use borrow.Author.Needs.{needs}
 use Rattle.lukhtari.proofs.real_of.Statement.{statement}
 use Rattle.lukhtari.proofs.real_of.Tie as tie

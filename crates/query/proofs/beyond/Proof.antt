@@ -1,4 +1,4 @@
-use mathlib.Core.Path.{_≡_, sym, ap, _∙_}
+use mathlib.Core.Path.{sym, ap, _∙_}
 use Rattle.lattice.specs.Answer.{meaning}
 use Rattle.lattice.proofs.OutcomeLaws.{refused-first, passed-not}
 use borrow.Author.Needs.{needs}

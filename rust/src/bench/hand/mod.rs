@@ -5,6 +5,6 @@ pub mod conversion;
 pub mod estimation;
 pub mod method;
 pub mod plain;
-mod point;
+pub mod point;
 pub mod query;
-mod stages;
+pub mod stages;

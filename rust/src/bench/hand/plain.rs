@@ -4,42 +4,21 @@
 
 use super::checks::{first_beyond, Answer};
 use super::method::{Folded, Printed};
-use super::point::{of_cell, of_float, of_position, Point};
+use super::point::Point;
+use super::query::Form;
 use super::stages::Limits;
 use lukhtari::Shape;
+use std::marker::PhantomData;
 
-pub fn by_position<X: Way>(
-    shape: Shape,
-    records: &[i32],
-    position: [i32; 3],
-    slope: Option<u32>,
-) -> Answer<i32> {
-    let point = of_position(shape, records, position, slope)?;
-    by_point::<X>(shape, records, point)
+// One copy of the code for all shapes.
+pub struct Plain<X>(PhantomData<X>);
+
+impl<X: Way> Form for Plain<X> {
+    fn at(shape: Shape, records: &[i32], point: Point) -> Answer<i32> {
+        by_point::<X>(shape, records, point)
+    }
 }
 
-pub fn by_cell<X: Way>(
-    shape: Shape,
-    records: &[i32],
-    cell: [u32; 3],
-    u: [u32; 3],
-    slope: Option<u32>,
-) -> Answer<i32> {
-    let point = of_cell(shape, records, cell, u, slope)?;
-    by_point::<X>(shape, records, point)
-}
-
-pub fn by_float<X: Way>(
-    shape: Shape,
-    records: &[i32],
-    position: [f32; 3],
-    slope: Option<u32>,
-) -> Answer<f32> {
-    let point = of_float(shape, records, position, slope)?;
-    by_point::<X>(shape, records, point).map(|whole| whole as f32)
-}
-
-// The answer in an accepted cell.
 fn by_point<X: Way>(shape: Shape, records: &[i32], point: Point) -> Answer<i32> {
     let cell = Cell::new(shape, point.cell);
     cell.check(records)?;

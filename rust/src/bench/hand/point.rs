@@ -10,6 +10,23 @@ pub struct Point {
     pub slope: Option<u32>,
 }
 
+// 1, 2, 3, 4, 12, then each axis's own test and 11
+#[inline(always)]
+fn located(
+    shape: Shape,
+    records: &[i32],
+    slope: Option<u32>,
+    step: impl Fn(usize) -> Answer<i64>,
+) -> Answer<Point> {
+    check_query(shape, records, slope)?;
+    let mut cell = [0; 3];
+    let mut u = [0; 3];
+    for axis in 0..3 {
+        (cell[axis], u[axis]) = locate(shape, axis, step(axis)?)?;
+    }
+    Ok(Point { cell, u, slope })
+}
+
 // 1, 2, 3, 4, 12, 11
 #[inline(always)]
 pub fn of_position(
@@ -18,13 +35,7 @@ pub fn of_position(
     position: [i32; 3],
     slope: Option<u32>,
 ) -> Answer<Point> {
-    check_query(shape, records, slope)?;
-    let mut cell = [0; 3];
-    let mut u = [0; 3];
-    for axis in 0..3 {
-        (cell[axis], u[axis]) = locate(shape, axis, position[axis] as i64)?;
-    }
-    Ok(Point { cell, u, slope })
+    located(shape, records, slope, |axis| Ok(position[axis] as i64))
 }
 
 // 1, 2, 3, 4, 12, 14, 11
@@ -50,17 +61,12 @@ pub fn of_float(
     position: [f32; 3],
     slope: Option<u32>,
 ) -> Answer<Point> {
-    check_query(shape, records, slope)?;
-    let mut cell = [0; 3];
-    let mut u = [0; 3];
-    for axis in 0..3 {
+    located(shape, records, slope, |axis| {
         let float = position[axis];
         if !float.is_finite() {
             return refuse(10, axis);
         }
         // Exact in f64 wherever the step is within a table.
-        let step = (float as f64 * 256.0 + 0.5).floor() as i64;
-        (cell[axis], u[axis]) = locate(shape, axis, step)?;
-    }
-    Ok(Point { cell, u, slope })
+        Ok((float as f64 * 256.0 + 0.5).floor() as i64)
+    })
 }

@@ -1,11 +1,30 @@
-//! Doses and slopes: the stages, straight from the corner records.
+//! Doses and slopes specialised by degree and number of axes: the stages, straight from the corner records.
 //!
 //! S is degree + 1, the numbers of a line; R is the entries of a record.
 
 use super::checks::{first_beyond, Answer};
 use super::method::Method;
 use super::point::Point;
+use super::query::Form;
 use lukhtari::Shape;
+use std::marker::PhantomData;
+
+// One copy of the code for each degree and number of axes.
+pub struct Specialised<X>(PhantomData<X>);
+
+impl<X: Method> Form for Specialised<X> {
+    #[inline(always)]
+    fn at(shape: Shape, records: &[i32], point: Point) -> Answer<i32> {
+        match (shape.degree, shape.axes) {
+            (3, 1) => line::<X, 4, 2>(records, point),
+            (3, 2) => square::<X, 4, 4>(shape, records, point),
+            (3, _) => cube::<X, 4, 8>(shape, records, point),
+            (_, 1) => line::<X, 6, 3>(records, point),
+            (_, 2) => square::<X, 6, 9>(shape, records, point),
+            (_, _) => cube::<X, 6, 27>(shape, records, point),
+        }
+    }
+}
 
 // The limit of each entry of a record.
 pub struct Limits<const S: usize, const R: usize>;
@@ -67,10 +86,7 @@ fn ends<const S: usize, const R: usize>(
     line
 }
 
-pub fn line<X: Method, const S: usize, const R: usize>(
-    records: &[i32],
-    point: Point,
-) -> Answer<i32> {
+fn line<X: Method, const S: usize, const R: usize>(records: &[i32], point: Point) -> Answer<i32> {
     let x = point.cell[0] as usize;
     let corners = [record::<S, R>(records, x)?, record::<S, R>(records, x + 1)?];
     let slope = point.slope.is_some();
@@ -79,7 +95,7 @@ pub fn line<X: Method, const S: usize, const R: usize>(
     Ok(round(sum, divisor_bits::<S>(slope)) as i32)
 }
 
-pub fn square<X: Method, const S: usize, const R: usize>(
+fn square<X: Method, const S: usize, const R: usize>(
     shape: Shape,
     records: &[i32],
     point: Point,
@@ -119,7 +135,7 @@ fn square_stages<X: Method, const S: usize, const R: usize, const P: usize, cons
     round(X::sum(&line, &weights), divisor_bits::<S>(slope) + 3) as i32
 }
 
-pub fn cube<X: Method, const S: usize, const R: usize>(
+fn cube<X: Method, const S: usize, const R: usize>(
     shape: Shape,
     records: &[i32],
     point: Point,

@@ -9,12 +9,6 @@ use borrow.Author.Needs.{needs}
 use Rattle.table_file.proofs.Cursor.number.Statement.{statement}
 use Rattle.table_file.proofs.Cursor.number.Tie as tie
 
-add-after : tie.Need-add-after
-add-after c = search needs
-
-number-at-requires : tie.Need-number-at-requires
-number-at-requires c κs = search needs
-
 returns : tie.Need-returns
 returns c =
     let a = c .before .before .before .args in
@@ -24,4 +18,4 @@ returns-2 : tie.Need-returns-2
 returns-2 c = sym (from-short (c .before .before .args .bytes .now) (c .before .before .args .self .at) (omega arith))
 
 pub number-spec : {M : Type 1} → statement M
-number-spec = tie.close (tie.spec add-after number-at-requires returns returns-2)
+number-spec = tie.close (tie.spec (λ c. search needs) (λ c κs. search needs) returns returns-2)
