@@ -2,7 +2,7 @@
 ghost use mathlib.Core.Path.{_≡_};
 ghost use Prim.Native.Nat.{ℕ, _+_, _*_, _^_, _<_, _≤_};
 ghost use lib.Dec.{leb, eqb};
-ghost use lib.IntN.{natAbs, _+ℤ_, _*ℤ_};
+ghost use lib.IntN.{natAbs};
 ghost use lib.ListN.{length, getD};
 ghost use Rattle.lattice.specs.Outcome.{refuseUnless, first};
 ghost use Rattle.lattice.specs.Answer.{meaning};
@@ -105,15 +105,6 @@ pub fn back_table(m: usize) -> [i64; 9]
     [1, 0, 0, 0 - p, 2, 0, s * p - q, 0 - 2 * s, 2]
 }
 
-// Three numbers with small factors, summed.
-fn dot(a: i64, b: i64, c: i64, x: i64, y: i64, z: i64) -> i64
-    requires { ⌜ (natAbs a ≤ 32) × (natAbs b ≤ 32) × (natAbs c ≤ 32) ⌝ }
-    requires { ⌜ (natAbs x ≤ 2 ^ 50) × (natAbs y ≤ 2 ^ 50) × (natAbs z ≤ 2 ^ 50) ⌝ }
-    ensures { λ r. ⌜ r ≡ a *ℤ x +ℤ b *ℤ y +ℤ c *ℤ z ⌝ }
-{
-    a * x + b * y + c * z
-}
-
 // Row k of the table on the m numbers at i; a third order that is not there counts nothing.
 fn row_at(m: usize, table: &[i64; 9], k: usize, xs: &[i64; 27], i: usize) -> i64
     requires { ⌜ (2 ≤ m) × (m ≤ 3) × (k < m) × (i + m ≤ 27) ⌝ }
@@ -121,14 +112,8 @@ fn row_at(m: usize, table: &[i64; 9], k: usize, xs: &[i64; 27], i: usize) -> i64
     ensures { λ r. ⌜ r ≡ tabled m (at (now (table .entry))) (λ t. at (now (xs .entry)) (i + t)) k ⌝ }
 {
     let t = 3 * k;
-    dot(
-        table[t],
-        table[t + 1],
-        table[t + 2],
-        xs[i],
-        xs[i + 1],
-        xs[i + (m - 1)],
-    )
+    let numbers = [xs[i], xs[i + 1], xs[i + (m - 1)]];
+    hermite::combined(table[t], table[t + 1], table[t + 2], numbers)
 }
 
 // Row k of the table on each group; the results of the rows stand one after the other.

@@ -50,10 +50,10 @@ fn weights(slope: bool, m: usize, a: i64, b: i64) -> [i64; 3]
     [e * c, e * d, d * d * a]
 }
 
-// Three multipliers, each times its weight, added up.
-fn combined(x: i64, y: i64, z: i64, w: [i64; 3]) -> i64
-    requires { ⌜ (natAbs x ≤ 20) × (natAbs y ≤ 20) × (natAbs z ≤ 20) ⌝ }
-    requires { ⌜ ((k : ℕ) → k < 3 → natAbs (at w k) ≤ 2 ^ 43) ⌝ }
+// Three small factors, each times its number, added up.
+pub fn combined(x: i64, y: i64, z: i64, w: [i64; 3]) -> i64
+    requires { ⌜ (natAbs x ≤ 32) × (natAbs y ≤ 32) × (natAbs z ≤ 32) ⌝ }
+    requires { ⌜ ((k : ℕ) → k < 3 → natAbs (at w k) ≤ 2 ^ 50) ⌝ }
     ensures { λ r. ⌜ r ≡ x *ℤ at w 0 +ℤ y *ℤ at w 1 +ℤ z *ℤ at w 2 ⌝ }
 {
     x * w[0] + y * w[1] + z * w[2]

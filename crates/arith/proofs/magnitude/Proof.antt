@@ -43,9 +43,6 @@ not-below : (x : ℤ) → SFits w64 x → ltZ x (pos 0) ≡ false → T (nonNeg 
 not-below (pos n) f e = let h = f .sfits in (tt, omega arith)
 not-below (negsuc n) f e = let z : _≡_ {A = ℕ} 0 1 = cc in absurd (omega arith)
 
-sub-result : tie.Need-sub-result
-sub-result c = rest-fits (c .before .args .x) (c .before .fits .x) (c .if1 .taken)
-
 cast-result : tie.Need-cast-result
 cast-result c =
     let f = c .before .fits .x in
@@ -70,4 +67,4 @@ returns c =
 
 pub magnitude-spec : {M : Type 1} → statement M
 magnitude-spec =
-    tie.close (tie.spec sub-result cast-result add-result cast-result-2 returns (λ c. search needs))
+    tie.close (tie.spec (λ c. rest-fits (c .before .args .x) (c .before .fits .x) (c .if1 .taken)) cast-result add-result cast-result-2 returns (λ c. search needs))

@@ -43,12 +43,6 @@ module _ (x : ℤ) (k : ℕ) (f : SFits w64 x) (hk : k ≤ 61) (small : natAbs x
   ends : toZ w64 (ofZ w64 (shrZ (toZ w64 (ofZ w64 (toZ w64 (ofZ w64 x) +ℤ toZ w64 (1 * 2 ^ k % 18446744073709551616)))) (2 ^ (k + 1)))) ≡ roundHalfUp x (2 ^ (k + 1))
   ends = rw (toZ-ofZ f, half, toZ-ofZ sum-fits, toZ-ofZ (sfits-shr (x +ℤ pos (2 ^ k)) (2 ^ (k + 1)) sum-fits)) nearest
 
-add-result : tie.Need-add-result
-add-result c = raised (c .args .x) (c .args .k) (c .fits .x) (c .pre .0) (c .pre .1)
-
-returns : tie.Need-returns
-returns c = ends (c .args .x) (c .args .k) (c .fits .x) (c .pre .0) (c .pre .1)
-
 pub rounded-spec : {M : Type 1} → statement M
 rounded-spec =
-    tie.close (tie.spec (λ c. search needs) (λ c. search needs) add-result (λ c. search needs) (λ c. search needs) (λ c. search needs) returns)
+    tie.close (tie.spec (λ c. search needs) (λ c. search needs) (λ c. raised (c .args .x) (c .args .k) (c .fits .x) (c .pre .0) (c .pre .1)) (λ c. search needs) (λ c. search needs) (λ c. search needs) (λ c. ends (c .args .x) (c .args .k) (c .fits .x) (c .pre .0) (c .pre .1)))

@@ -32,9 +32,6 @@ loop-holds : tie.Need-loop-holds Inv-loop μ-loop
 unfolding firstOf
 loop-holds c = (omega arith, refl)
 
-corner-start-requires : tie.Need-corner-start-requires Inv-loop μ-loop
-corner-start-requires c κs = let p = c .before .before .pre .0 in (let h = p .1 in omega arith, p .2)
-
 record-within-requires : tie.Need-record-within-requires Inv-loop μ-loop
 record-within-requires c κs =
     let l = c .before .before in
@@ -46,9 +43,6 @@ returns c =
     let r = c .before in
     let a = start r .args in
     sym (firstOf-fails (a .corners) (cornerTest (a .limits .now) (a .n) (a .records .now) (a .l)) (head r .loop .c) (r .before .before .loop-test .taken) (sym (told r) ∙ not-true _ (c .if1 .taken)))
-
-add-c : tie.Need-add-c Inv-loop μ-loop
-add-c c = let r = c .before in let h = start r .pre .0 .1 in omega arith
 
 loop-again : tie.Need-loop-again Inv-loop μ-loop
 loop-again c =
@@ -72,10 +66,10 @@ all-within-spec =
     Inv-loop
     μ-loop
     loop-holds
-    corner-start-requires
+    (λ c κs. let p = c .before .before .pre .0 in (let h = p .1 in omega arith, p .2))
     record-within-requires
     returns
-    add-c
+    (λ c. let r = c .before in let h = start r .pre .0 .1 in omega arith)
     (λ c. omega arith)
     loop-again
     returns-2)

@@ -51,12 +51,6 @@ module _ (c : tie.After-check-record Inv-loop μ-loop) where
 entry-limits-requires : tie.Need-entry-limits-requires Inv-loop μ-loop
 entry-limits-requires c κs = let h = orders-range (c .args .s .degree) in let e = c .pre .1 .1 .orders-are in omega arith
 
-cast-corners : tie.Need-cast-corners Inv-loop μ-loop
-cast-corners c = let h = c .before .before .pre .0 .0 .axes-high in omega arith
-
-shl-corners : tie.Need-shl-corners Inv-loop μ-loop
-shl-corners c = let h = c .before .before .pre .0 .0 .axes-high in omega arith
-
 loop-holds : tie.Need-loop-holds Inv-loop μ-loop
 unfolding firstOf
 loop-holds c = (omega arith, refl)
@@ -81,9 +75,6 @@ check-record-requires c κs =
 enum-told : tie.Need-enum-told Inv-loop μ-loop
 enum-told c = search needs
 
-returns : tie.Need-returns Inv-loop μ-loop
-returns c = stops (c .before .before) _ _ (ap meaning (c .enum-told .given .1))
-
 add-c : tie.Need-add-c Inv-loop μ-loop
 add-c c = let a = c .before .before .before .before .before .before in let h = inside a (c .before .before .before .before .before .loop-test .taken) in omega arith
 
@@ -107,13 +98,13 @@ check-corners-spec =
     Inv-loop
     μ-loop
     entry-limits-requires
-    cast-corners
-    shl-corners
+    (λ c. let h = c .before .before .pre .0 .0 .axes-high in omega arith)
+    (λ c. let h = c .before .before .pre .0 .0 .axes-high in omega arith)
     loop-holds
     corner-start-requires
     check-record-requires
     enum-told
-    returns
+    (λ c. stops (c .before .before) _ _ (ap meaning (c .enum-told .given .1)))
     (λ c. search needs)
     add-c
     (λ c. omega arith)

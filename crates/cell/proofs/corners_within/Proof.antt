@@ -69,82 +69,46 @@ facts c =
     let e = c .before .before in
     called (e .before .before .before) (e .entry-limits .result) 2 1 2 2 (e .before .if1 .taken) (c .before .if2 .taken) (e .entry-limits .ensures) refl refl (lit≤ tt) (lit≤ tt)
 
-all-within-requires : tie.Need-all-within-requires
-all-within-requires c κs = (facts c .asked, facts c .within)
-
-returns : tie.Need-returns
-returns c = c .all-within .ensures ∙ facts (c .before) .same
-
 facts-2 : (c : tie.After-limits2) → let e = c .before .before .before in Called (e .before .before .before) (e .entry-limits .result) 4 4
 facts-2 c =
     let e = c .before .before .before in
     called (e .before .before .before) (e .entry-limits .result) 2 2 4 4 (e .before .if1 .taken) (c .before .if3 .taken) (e .entry-limits .ensures) refl refl (lit≤ tt) (lit≤ tt)
-
-all-within-requires-2 : tie.Need-all-within-requires-2
-all-within-requires-2 c κs = (facts-2 c .asked, facts-2 c .within)
-
-returns-2 : tie.Need-returns-2
-returns-2 c = c .all-within2 .ensures ∙ facts-2 (c .before) .same
 
 facts-3 : (c : tie.After-limits3) → let e = c .before .before .before in Called (e .before .before .before) (e .entry-limits .result) 8 8
 facts-3 c =
     let e = c .before .before .before in
     called (e .before .before .before) (e .entry-limits .result) 2 3 8 8 (e .before .if1 .taken) (three (e .before .before .before) (c .before .before .if2 .left) (c .before .if3 .left)) (e .entry-limits .ensures) refl refl (lit≤ tt) (lit≤ tt)
 
-all-within-requires-3 : tie.Need-all-within-requires-3
-all-within-requires-3 c κs = (facts-3 c .asked, facts-3 c .within)
-
-returns-3 : tie.Need-returns-3
-returns-3 c = c .all-within3 .ensures ∙ facts-3 (c .before) .same
-
 facts-4 : (c : tie.After-limits4) → let e = c .before .before in Called (e .before .before .before) (e .entry-limits2 .result) 3 2
 facts-4 c =
     let e = c .before .before in
     called (e .before .before .before) (e .entry-limits2 .result) 3 1 3 2 (quintic (e .before .before .before) (e .before .if1 .left)) (c .before .if4 .taken) (e .entry-limits2 .ensures) refl refl (lit≤ tt) (lit≤ tt)
-
-all-within-requires-4 : tie.Need-all-within-requires-4
-all-within-requires-4 c κs = (facts-4 c .asked, facts-4 c .within)
-
-returns-4 : tie.Need-returns-4
-returns-4 c = c .all-within4 .ensures ∙ facts-4 (c .before) .same
 
 facts-5 : (c : tie.After-limits5) → let e = c .before .before .before in Called (e .before .before .before) (e .entry-limits2 .result) 9 4
 facts-5 c =
     let e = c .before .before .before in
     called (e .before .before .before) (e .entry-limits2 .result) 3 2 9 4 (quintic (e .before .before .before) (e .before .if1 .left)) (c .before .if5 .taken) (e .entry-limits2 .ensures) refl refl (lit≤ tt) (lit≤ tt)
 
-all-within-requires-5 : tie.Need-all-within-requires-5
-all-within-requires-5 c κs = (facts-5 c .asked, facts-5 c .within)
-
-returns-5 : tie.Need-returns-5
-returns-5 c = c .all-within5 .ensures ∙ facts-5 (c .before) .same
-
 facts-6 : (c : tie.After-limits6) → let e = c .before .before .before in Called (e .before .before .before) (e .entry-limits2 .result) 27 8
 facts-6 c =
     let e = c .before .before .before in
     called (e .before .before .before) (e .entry-limits2 .result) 3 3 27 8 (quintic (e .before .before .before) (e .before .if1 .left)) (three (e .before .before .before) (c .before .before .if4 .left) (c .before .if5 .left)) (e .entry-limits2 .ensures) refl refl (lit≤ tt) (lit≤ tt)
-
-all-within-requires-6 : tie.Need-all-within-requires-6
-all-within-requires-6 c κs = (facts-6 c .asked, facts-6 c .within)
-
-returns-6 : tie.Need-returns-6
-returns-6 c = c .all-within6 .ensures ∙ facts-6 (c .before) .same
 
 pub corners-within-spec : {M : Type 1} → statement M
 corners-within-spec =
     tie.close
     (tie.spec
     (λ c κs. search needs)
-    all-within-requires
-    returns
-    all-within-requires-2
-    returns-2
-    all-within-requires-3
-    returns-3
+    (λ c κs. (facts c .asked, facts c .within))
+    (λ c. c .all-within .ensures ∙ facts (c .before) .same)
+    (λ c κs. (facts-2 c .asked, facts-2 c .within))
+    (λ c. c .all-within2 .ensures ∙ facts-2 (c .before) .same)
+    (λ c κs. (facts-3 c .asked, facts-3 c .within))
+    (λ c. c .all-within3 .ensures ∙ facts-3 (c .before) .same)
     (λ c κs. search needs)
-    all-within-requires-4
-    returns-4
-    all-within-requires-5
-    returns-5
-    all-within-requires-6
-    returns-6)
+    (λ c κs. (facts-4 c .asked, facts-4 c .within))
+    (λ c. c .all-within4 .ensures ∙ facts-4 (c .before) .same)
+    (λ c κs. (facts-5 c .asked, facts-5 c .within))
+    (λ c. c .all-within5 .ensures ∙ facts-5 (c .before) .same)
+    (λ c κs. (facts-6 c .asked, facts-6 c .within))
+    (λ c. c .all-within6 .ensures ∙ facts-6 (c .before) .same))

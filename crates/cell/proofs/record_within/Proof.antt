@@ -29,9 +29,6 @@ beyond-requires c κs =
     let a = l .before .args in
     rw (element (at (a .limits .now) (l .loop .e)) (c .beyond-arg2 .given)) (l .before .pre .2 (l .loop .e) (omega arith))
 
-add-e : tie.Need-add-e Inv-loop μ-loop
-add-e c = let l = c .before .before .before .before .before in omega arith
-
 loop-again : tie.Need-loop-again Inv-loop μ-loop
 loop-again c =
     let b = c .before in
@@ -64,7 +61,7 @@ record-within-spec =
     (λ c. search needs)
     (λ c. omega arith)
     beyond-requires
-    add-e
+    (λ c. let l = c .before .before .before .before .before in omega arith)
     (λ c. omega arith)
     loop-again
     returns)

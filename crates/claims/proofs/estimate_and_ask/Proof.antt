@@ -45,9 +45,6 @@ slice-reshare-prefix-ask c =
     let a = start (c .before) .args in
     le-trans (le-of-eq (c .table-entries .ensures)) (le-trans (lent-room (a .s) (a .samples .now) (a .records .now) (taken (c .before))) (le-of-eq (ap length (sym (c .before .before .before .before .estimate .ensures .1)))))
 
-slice-aggregate-ask : tie.Need-slice-aggregate-ask
-slice-aggregate-ask c = simp length-take (let h = slice-reshare-prefix-ask (c .before) in omega arith)
-
 returns : tie.Need-returns
 returns c =
     let b = c .before .before .before .before .before .before in
@@ -76,7 +73,7 @@ estimate-and-ask-spec =
     enum-told
     table-entries-requires
     slice-reshare-prefix-ask
-    slice-aggregate-ask
+    (λ c. simp length-take (let h = slice-reshare-prefix-ask (c .before) in omega arith))
     (λ c κs. search needs)
     (λ c. search needs)
     returns

@@ -60,21 +60,12 @@ module _ (c : tie.In-loop Inv-loop μ-loop) where
         (stands-corner (b .orders) (b .axes) (orders-some b ok) (wanted b ok (s .args .l) (now (s .args .records)) (s .pre .1)) (ok .axes-low) (ok .axes-high) (c .before .loop .c) corner (at zs) (c .before .loop .xs) (omega arith)
         (λ k l. number-is k (rw (ok .entries-are) l) ∙ block-is b ok (s .args .l) (now (s .args .records)) (s .pre .1) (at (c .before .before .before .forth-table .result)) (c .before .before .before .forth-table .ensures) (c .before .loop .c) corner k (rw (ok .entries-are) l)) (c .before .loop .inv .2))
 
-forth-table-requires : tie.Need-forth-table-requires Inv-loop μ-loop
-forth-table-requires c κs = (c .pre .0 .orders-low, c .pre .0 .orders-high)
-
-power-requires : tie.Need-power-requires Inv-loop μ-loop
-power-requires c κs = (lit≤ tt, c .before .pre .0 .axes-high)
-
 loop-holds : tie.Need-loop-holds Inv-loop μ-loop
 loop-holds c =
     let st = c .before .before in
     let b = st .args .b in
     let f = wanted b (st .pre .0) (st .args .l) (now (st .args .records)) (st .pre .1) in
     (zero-le, refl, subst (λ (i : ℕ). Stands (b .orders) (b .axes) f i (noughts 216)) (sym (mul-zero (b .orders ^ b .axes))) (stands-none (b .orders) (b .axes) (orders-some b (st .pre .0)) f (noughts 216) (noughts-at 216)))
-
-corner-start-requires : tie.Need-corner-start-requires Inv-loop μ-loop
-corner-start-requires c κs = (few c, s c .pre .1 .small)
 
 corner-block-requires : tie.Need-corner-block-requires Inv-loop μ-loop
 corner-block-requires c κs =
@@ -89,9 +80,6 @@ store-requires c κs =
     let r = c .before .before .before .before .corner-start in
     let z = c .before .before .corner-block in
     (s i .pre .0, corner i, λ k l. low i (r .result) (z .result) (r .ensures) (z .ensures) k l)
-
-add-c : tie.Need-add-c Inv-loop μ-loop
-add-c c = let h = few (c .before .before .before .before .before .before) in omega arith
 
 loop-again : tie.Need-loop-again Inv-loop μ-loop
 loop-again c =
@@ -119,13 +107,13 @@ cell-coefficients-spec =
     (tie.spec
     Inv-loop
     μ-loop
-    forth-table-requires
-    power-requires
+    (λ c κs. (c .pre .0 .orders-low, c .pre .0 .orders-high))
+    (λ c κs. (lit≤ tt, c .before .pre .0 .axes-high))
     loop-holds
-    corner-start-requires
+    (λ c κs. (few c, s c .pre .1 .small))
     corner-block-requires
     store-requires
-    add-c
+    (λ c. let h = few (c .before .before .before .before .before .before) in omega arith)
     (λ c. omega arith)
     loop-again
     returns)

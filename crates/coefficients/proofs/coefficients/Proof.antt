@@ -55,9 +55,6 @@ returns c =
     let h = refused-first (cornersOutcome (a .s) (now (a .records)) (placeAt (a .cell))) (sym (gate c .check-asked .ensures) ∙ e) in
     (e ∙ sym h, when-refused (overwrite (coefficientList (orders (a .s)) (a .s .axes) (placeAt (a .cell)) (recordsField (a .s) (now (a .records)))) (now (a .out))) (now (a .out)) h)
 
-lay-out-requires : tie.Need-lay-out-requires
-lay-out-requires c κs = (facts c .shape, facts c .here)
-
 check-corners-requires : tie.Need-check-corners-requires
 check-corners-requires c κs = let f = facts (c .before) in ((f .shape, f .many), (f .here, c .lay-out .ensures))
 
@@ -70,9 +67,6 @@ returns-2 c =
     let e = ap meaning (c .enum-told3 .given .1) in
     let h = first-passed (askedOutcome (a .s) (length (now (a .records))) (placeAt (a .cell)) (length (now (a .out)))) (cornersOutcome (a .s) (now (a .records)) (placeAt (a .cell))) (passed t) ∙ sym (d .check-corners .ensures) ∙ e in
     (e ∙ sym h, when-refused (overwrite (coefficientList (orders (a .s)) (a .s .axes) (placeAt (a .cell)) (recordsField (a .s) (now (a .records)))) (now (a .out))) (now (a .out)) h)
-
-block-of-requires : tie.Need-block-of-requires
-block-of-requires c κs = let f = facts (two c) .shape in (f .axes-low, f .axes-high)
 
 cell-coefficients-requires : tie.Need-cell-coefficients-requires
 cell-coefficients-requires c κs =
@@ -116,12 +110,12 @@ coefficients-spec =
     enum-told
     returns
     (λ c. search needs)
-    lay-out-requires
+    (λ c κs. (facts c .shape, facts c .here))
     check-corners-requires
     (λ c. search needs)
     returns-2
     (λ c. search needs)
-    block-of-requires
+    (λ c κs. let f = facts (two c) .shape in (f .axes-low, f .axes-high))
     cell-coefficients-requires
     (λ c κs. search needs)
     copy-out-requires

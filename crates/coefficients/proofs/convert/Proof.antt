@@ -28,9 +28,6 @@ convert-axis-requires c κs =
     let h = s .pre .0 .axes-high in
     (s .pre .0, s .pre .1, λ k l. subst (λ z. natAbs z ≤ 2 ^ 50) (sym (w .inv .1 k l)) (after-low (s .args .b) (s .pre .0) (at (now (s .args .table))) (s .pre .1) (at (s .args .start)) (s .pre .2) (w .a) (omega arith) k l))
 
-add-a : tie.Need-add-a Inv-loop μ-loop
-add-a c = let h = c .before .before .before .before .pre .0 .axes-high in omega arith
-
 loop-again : tie.Need-loop-again Inv-loop μ-loop
 loop-again c =
     let s = c .before .before .before .before in
@@ -55,4 +52,4 @@ returns c = (λ k l. last c k l ∙ after-all (S c .args .b) (S c .pre .0) (at (
 pub convert-spec : {M : Type 1} → statement M
 convert-spec =
     tie.close
-    (tie.spec Inv-loop μ-loop loop-holds convert-axis-requires add-a (λ c. omega arith) loop-again returns)
+    (tie.spec Inv-loop μ-loop loop-holds convert-axis-requires (λ c. let h = c .before .before .before .before .pre .0 .axes-high in omega arith) (λ c. omega arith) loop-again returns)

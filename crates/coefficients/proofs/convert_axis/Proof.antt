@@ -20,17 +20,8 @@ Inv-loop b table xs m zs₀ k₀ zs k = (k ≤ m) × (length zs ≡ 27) × ((i :
 abbrev μ-loop : tie.MeasureT-loop
 μ-loop b table xs m zs₀ k₀ zs k = m - k
 
-loop-holds : tie.Need-loop-holds Inv-loop μ-loop
-loop-holds c = (zero-le, refl, λ i l. absurd (none i (c .args .b .groups) l))
-
 convert-row-requires : tie.Need-convert-row-requires Inv-loop μ-loop
 convert-row-requires c κs = let w = c .before .before .loop in let p = c .before .before .before .pre in ((p .0, p .1, c .before .loop-test .taken), ((p .2, w .inv .1), w .inv .2))
-
-add-k : tie.Need-add-k Inv-loop μ-loop
-add-k c = let h = c .before .before .before .before .pre .0 .orders-high in omega arith
-
-loop-again : tie.Need-loop-again Inv-loop μ-loop
-loop-again c = (omega arith, c .convert-row .ensures .0, c .convert-row .ensures .1)
 
 returns : tie.Need-returns Inv-loop μ-loop
 returns c i l =
@@ -42,4 +33,4 @@ returns c i l =
 pub convert-axis-spec : {M : Type 1} → statement M
 convert-axis-spec =
     tie.close
-    (tie.spec Inv-loop μ-loop loop-holds convert-row-requires add-k (λ c. omega arith) loop-again returns)
+    (tie.spec Inv-loop μ-loop (λ c. (zero-le, refl, λ i l. absurd (none i (c .args .b .groups) l))) convert-row-requires (λ c. let h = c .before .before .before .before .pre .0 .orders-high in omega arith) (λ c. omega arith) (λ c. (omega arith, c .convert-row .ensures .0, c .convert-row .ensures .1)) returns)

@@ -47,9 +47,6 @@ module _ (c : tie.In-loop Inv-loop μ-loop) where
 more : (r k : ℕ) → r * (k + 1) ≡ r * k + r
 more r k = omega arith
 
-loop-holds : tie.Need-loop-holds Inv-loop μ-loop
-loop-holds c = (zero-le, c .pre .1 .0 .1, λ i l. c .pre .1 .1 i (omega arith))
-
 mul-row-at : tie.Need-mul-row-at Inv-loop μ-loop
 mul-row-at c = let h = group-low c in let l = entries-low (s c .args .b) (s c .pre .0 .0) in omega arith
 
@@ -59,21 +56,6 @@ row-at-requires c κs =
     let h = group-low c in
     let l = entries-low (s c .args .b) (p .0 .0) in
     ((p .0 .0 .orders-low, p .0 .0 .orders-high, p .0 .2, omega arith), (p .0 .1, λ t q. p .1 .0 .0 _ (omega arith)))
-
-mul-z : tie.Need-mul-z Inv-loop μ-loop
-mul-z c = let h = spot-in (c .before) in omega arith
-
-add-z : tie.Need-add-z Inv-loop μ-loop
-add-z c = let h = spot-in (c .before) in omega arith
-
-mul-z-2 : tie.Need-mul-z-2 Inv-loop μ-loop
-mul-z-2 c = let h = spot-in (c .before) in omega arith
-
-element-set-from-z : tie.Need-element-set-from-z Inv-loop μ-loop
-element-set-from-z c = spot-in (c .before)
-
-add-g : tie.Need-add-g Inv-loop μ-loop
-add-g c = let h = spot-in (c .before) in omega arith
 
 loop-again : tie.Need-loop-again Inv-loop μ-loop
 loop-again c =
@@ -100,14 +82,14 @@ convert-row-spec =
     (tie.spec
     Inv-loop
     μ-loop
-    loop-holds
+    (λ c. (zero-le, c .pre .1 .0 .1, λ i l. c .pre .1 .1 i (omega arith)))
     mul-row-at
     row-at-requires
-    mul-z
-    add-z
-    mul-z-2
-    element-set-from-z
-    add-g
+    (λ c. let h = spot-in (c .before) in omega arith)
+    (λ c. let h = spot-in (c .before) in omega arith)
+    (λ c. let h = spot-in (c .before) in omega arith)
+    (λ c. spot-in (c .before))
+    (λ c. let h = spot-in (c .before) in omega arith)
     (λ c. omega arith)
     loop-again
     returns)

@@ -17,23 +17,8 @@ Inv-loop n xs out₀ k₀ out k = (k ≤ n) × Filled (at xs) out₀ k out
 abbrev μ-loop : tie.MeasureT-loop
 μ-loop n xs out₀ k₀ out k = n - k
 
-loop-holds : tie.Need-loop-holds Inv-loop μ-loop
-loop-holds c = (zero-le, filled-none (at (c .args .xs .now)) (c .args .out .now))
-
-mul-out : tie.Need-mul-out Inv-loop μ-loop
-mul-out c = let h = c .before .before .pre in omega arith
-
-element-copy-out-out : tie.Need-element-copy-out-out Inv-loop μ-loop
-element-copy-out-out c = let h = c .before .before .pre in omega arith
-
-mul-t10 : tie.Need-mul-t10 Inv-loop μ-loop
-mul-t10 c = let h = c .before .before .before .pre in omega arith
-
 slice-set-from-out : tie.Need-slice-set-from-out Inv-loop μ-loop
 slice-set-from-out c = let s = c .before .before .before in let w = c .before .before .loop in let e = filled-length (at (s .args .xs .now)) (s .args .out .now) (w .k) (w .out) (omega arith) (w .inv .1) in omega arith
-
-add-k : tie.Need-add-k Inv-loop μ-loop
-add-k c = let h = c .before .before .before .pre in omega arith
 
 loop-again : tie.Need-loop-again Inv-loop μ-loop
 loop-again c = let s = c .before .before .before in let w = c .before .before .loop in (omega arith, filled-more (at (s .args .xs .now)) (s .args .out .now) (w .k) (w .out) _ (pos 0) (omega arith) (w .inv .1) (toZ-ofZ (sfits-of (c .out .given))))
@@ -54,12 +39,12 @@ copy-out-spec =
     (tie.spec
     Inv-loop
     μ-loop
-    loop-holds
-    mul-out
-    element-copy-out-out
-    mul-t10
+    (λ c. (zero-le, filled-none (at (c .args .xs .now)) (c .args .out .now)))
+    (λ c. let h = c .before .before .pre in omega arith)
+    (λ c. let h = c .before .before .pre in omega arith)
+    (λ c. let h = c .before .before .before .pre in omega arith)
     slice-set-from-out
-    add-k
+    (λ c. let h = c .before .before .before .pre in omega arith)
     (λ c. omega arith)
     loop-again
     same-length

@@ -22,11 +22,8 @@ by-three : (m k : ℕ) → m ≡ 3 → (a : ℕ) → a < 3 → getD (k % 3 ∷ k
 unfolding digit
 by-three m k e = rw e (three 3 k (k % 3) (k / 3 % 3) (k / 9 % 3) refl refl (omega arith))
 
-returns : tie.Need-returns
-returns c = by-two (c .before .args .m) (c .before .args .k) (c .if1 .taken)
-
 returns-2 : tie.Need-returns-2
 returns-2 c = let n = c .if1 .left in by-three (c .before .args .m) (c .before .args .k) (omega arith)
 
 pub digits-spec : {M : Type 1} → statement M
-digits-spec = tie.close (tie.spec returns returns-2)
+digits-spec = tie.close (tie.spec (λ c. by-two (c .before .args .m) (c .before .args .k) (c .if1 .taken)) returns-2)

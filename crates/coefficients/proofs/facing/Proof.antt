@@ -49,9 +49,6 @@ z-held c = toZ-ofZ {w = w64} (c .fits .z)
 returns : tie.Need-returns
 returns c = let s = c .before in z-held s ∙ low (s .args .e) (s .args .o) (s .args .z) (c .if1 .taken)
 
-sub-result : tie.Need-sub-result
-sub-result c = let s = c .before .before in minus-fits (s .args .z) (s .fits .z) (s .pre)
-
 returns-2 : tie.Need-returns-2
 returns-2 c =
     let s = c .before .before in
@@ -63,4 +60,4 @@ returns-3 c =
     z-held s ∙ plain (s .args .o) (s .args .z) (c .if2 .left) ∙ high (s .args .e) (s .args .o) (s .args .z) (c .before .if1 .left)
 
 pub facing-spec : {M : Type 1} → statement M
-facing-spec = tie.close (tie.spec returns sub-result returns-2 returns-3)
+facing-spec = tie.close (tie.spec returns (λ c. let s = c .before .before in minus-fits (s .args .z) (s .fits .z) (s .pre)) returns-2 returns-3)

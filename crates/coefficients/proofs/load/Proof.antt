@@ -26,15 +26,6 @@ abbrev μ-loop : tie.MeasureT-loop
 loop-holds : tie.Need-loop-holds Inv-loop μ-loop
 loop-holds c = (zero-le, refl, (λ j h. absurd (not-suc-le-zero h)), (λ j h. absurd (not-suc-le-zero h)))
 
-add-x : tie.Need-add-x Inv-loop μ-loop
-add-x c = let s = c .before .before in omega arith
-
-mul-x : tie.Need-mul-x Inv-loop μ-loop
-mul-x c = let s = c .before .before in omega arith
-
-shared-slice-copy-out-x : tie.Need-shared-slice-copy-out-x Inv-loop μ-loop
-shared-slice-copy-out-x c = let s = c .before .before in let h = s .pre .1 in omega arith
-
 cast-x : tie.Need-cast-x Inv-loop μ-loop
 cast-x c = let s = c .before .before .before in widen-fits (getD (s .args .records .now) (s .args .start + c .before .before .loop .k) (pos 0)) (c .x .given)
 
@@ -83,9 +74,9 @@ load-spec =
     Inv-loop
     μ-loop
     loop-holds
-    add-x
-    mul-x
-    shared-slice-copy-out-x
+    (λ c. let s = c .before .before in omega arith)
+    (λ c. let s = c .before .before in omega arith)
+    (λ c. let s = c .before .before in let h = s .pre .1 in omega arith)
     cast-x
     with-signs-requires
     mul-xs

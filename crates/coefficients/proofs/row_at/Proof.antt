@@ -6,7 +6,7 @@ use mir.Facts.{toZ-ofZ}
 use borrow.Author.Needs.{sfits-of}
 use lib.Dec.{lit<}
 use Rattle.arith.specs.Sum.{sum}
-use Rattle.arith.proofs.Choices.{by-m}
+use Rattle.arith.proofs.Choices.{by-m, by-3}
 use Rattle.arith.proofs.Quote.{quotes, ring! }
 use Rattle.lattice.specs.Buffer.{at}
 use Rattle.coefficients.specs.Blocks.{tabled, Modest, Within}
@@ -45,12 +45,12 @@ module _ (m k i : ℕ) (T xs : ℕ → ℤ) (m2 : 2 ≤ m) (m3 : m ≤ 3) (hk : 
   number : (t : ℕ) → t < m → natAbs (held (xs (i + t))) ≤ 2 ^ 50
   number t l = kept-low (xs (i + t)) (2 ^ 50) (low t l) (lit< tt)
 
-  -- what `dot` asks
+  -- what `combined` asks
   asked : ((natAbs (held (T (3 * k))) ≤ 32) × (natAbs (held (T (3 * k + 1))) ≤ 32) × (natAbs (held (T (3 * k + 2))) ≤ 32))
-      × ((natAbs (held (xs i)) ≤ 2 ^ 50) × (natAbs (held (xs (i + 1))) ≤ 2 ^ 50) × (natAbs (held (xs (i + (m - 1)))) ≤ 2 ^ 50))
+      × ((o : ℕ) → o < 3 → natAbs (at (held (xs i) ∷ held (xs (i + 1)) ∷ held (xs (i + (m - 1))) ∷ []) o) ≤ 2 ^ 50)
   asked = (
     (factor (3 * k) (omega arith), factor (3 * k + 1) (omega arith), factor (3 * k + 2) (omega arith)),
-    (subst (λ (j : ℕ). natAbs (held (xs j)) ≤ 2 ^ 50) (add-zero i) (number 0 (omega arith)), number 1 (omega arith), number (m - 1) (omega arith)),
+    by-3 _ (subst (λ (j : ℕ). natAbs (held (xs j)) ≤ 2 ^ 50) (add-zero i) (number 0 (omega arith))) (number 1 (omega arith)) (number (m - 1) (omega arith)),
   )
 
   -- and what it gives
@@ -69,17 +69,17 @@ module _ (m k i : ℕ) (T xs : ℕ → ℤ) (m2 : 2 ≤ m) (m3 : m ≤ 3) (hk : 
       rw (kept (T (3 * k)) 32 (modest .small (3 * k) (omega arith)) (lit< tt), kept (T (3 * k + 1)) 32 (modest .small (3 * k + 1) (omega arith)) (lit< tt), kept (T (3 * k + 2)) 32 (modest .small (3 * k + 2) (omega arith)) (lit< tt))
       (rw (kept (xs i) (2 ^ 50) (subst (λ (j : ℕ). natAbs (xs j) ≤ 2 ^ 50) (add-zero i) (low 0 (omega arith))) (lit< tt), kept (xs (i + 1)) (2 ^ 50) (low 1 (omega arith)) (lit< tt), kept (xs (i + (m - 1))) (2 ^ 50) (low (m - 1) (omega arith)) (lit< tt)) plain)
 
-abbrev S : tie.After-dot-arg6 → tie.Start
+abbrev S : tie.After-combined-arg6 → tie.Start
 S c = c .before .before .before .before .before .before
 
-dot-requires : tie.Need-dot-requires
-dot-requires c κs = let a = S c .args in let p = S c .pre in asked (a .m) (a .k) (a .i) (at (now (a .table))) (at (now (a .xs))) (p .0 .0) (p .0 .1) (p .0 .2) (p .1 .0) (p .1 .1)
+combined-requires : tie.Need-combined-requires
+combined-requires c κs = let a = S c .args in let p = S c .pre in asked (a .m) (a .k) (a .i) (at (now (a .table))) (at (now (a .xs))) (p .0 .0) (p .0 .1) (p .0 .2) (p .1 .0) (p .1 .1)
 
 returns : tie.Need-returns
 returns c =
     let a = S (c .before) .args in
     let p = S (c .before) .pre in
-    toZ-ofZ (sfits-of (c .dot .ok)) ∙ c .dot .ensures ∙ row-is (a .m) (a .k) (a .i) (at (now (a .table))) (at (now (a .xs))) (p .0 .0) (p .0 .1) (p .0 .2) (p .1 .0) (p .1 .1)
+    toZ-ofZ (sfits-of (c .combined .ok)) ∙ c .combined .ensures ∙ row-is (a .m) (a .k) (a .i) (at (now (a .table))) (at (now (a .xs))) (p .0 .0) (p .0 .1) (p .0 .2) (p .1 .0) (p .1 .1)
 
 pub row-at-spec : {M : Type 1} → statement M
 row-at-spec =
@@ -103,5 +103,5 @@ row-at-spec =
     (λ c. search needs)
     (λ c. search needs)
     (λ c. search needs)
-    dot-requires
+    combined-requires
     returns)

@@ -54,15 +54,6 @@ counted-requires-2 c κs = let s = c .before .before .before in (s .pre .1, belo
 counted-requires-3 : tie.Need-counted-requires-3
 counted-requires-3 c κs = let s = c .before .before .before .before in (s .pre .1, below 2 (s .args .c) 2 _ (lit< tt) (c .before .before .before .digits .ensures 2 (lit< tt)), below (s .args .m) (s .args .k) 2 _ (omega arith) (c .before .before .digits2 .ensures 2 (lit< tt)))
 
-mul-result-3 : tie.Need-mul-result-3
-mul-result-3 c = let h = sums c in omega arith
-
-add-result : tie.Need-add-result
-add-result c = let h = sums c in omega arith
-
-mul-result-4 : tie.Need-mul-result-4
-mul-result-4 c = let h = sums c in omega arith
-
 add-result-2 : tie.Need-add-result-2
 add-result-2 c = let h = sums c in let k = c .before .before .counted .ensures .1 in let l = s c .pre .1 in omega arith
 
@@ -88,8 +79,8 @@ spot-at-spec =
     counted-requires-3
     (λ c. search needs)
     (λ c. search needs)
-    mul-result-3
-    add-result
-    mul-result-4
+    (λ c. let h = sums c in omega arith)
+    (λ c. let h = sums c in omega arith)
+    (λ c. let h = sums c in omega arith)
     add-result-2
     returns)

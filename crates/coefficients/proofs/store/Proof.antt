@@ -62,26 +62,8 @@ loop-holds : tie.Need-loop-holds Inv-loop μ-loop
 unfolding scatter
 loop-holds c = (zero-le, refl)
 
-spot-at-requires : tie.Need-spot-at-requires Inv-loop μ-loop
-spot-at-requires c κs = let p = s c .pre in (p .0 .orders-low, p .0 .orders-high)
-
-mul-out : tie.Need-mul-out Inv-loop μ-loop
-mul-out c = let h = few (c .before) in omega arith
-
-element-copy-out-out : tie.Need-element-copy-out-out Inv-loop μ-loop
-element-copy-out-out c = few (c .before)
-
 cast-out : tie.Need-cast-out Inv-loop μ-loop
 cast-out c = rw (kept (z (c .before)) (2 ^ 30) (z-low (c .before)) (lit< tt)) (sfits-abs {w = w32} (z (c .before)) (let h = z-low (c .before) in omega arith))
-
-mul-t15 : tie.Need-mul-t15 Inv-loop μ-loop
-mul-t15 c = let h = place-low (c .before) in omega arith
-
-element-set-from-out : tie.Need-element-set-from-out Inv-loop μ-loop
-element-set-from-out c = place-low (c .before)
-
-add-k : tie.Need-add-k Inv-loop μ-loop
-add-k c = let h = few (c .before .before) in omega arith
 
 loop-again : tie.Need-loop-again Inv-loop μ-loop
 loop-again c =
@@ -103,13 +85,13 @@ store-spec =
     Inv-loop
     μ-loop
     loop-holds
-    spot-at-requires
-    mul-out
-    element-copy-out-out
+    (λ c κs. let p = s c .pre in (p .0 .orders-low, p .0 .orders-high))
+    (λ c. let h = few (c .before) in omega arith)
+    (λ c. few (c .before))
     cast-out
-    mul-t15
-    element-set-from-out
-    add-k
+    (λ c. let h = place-low (c .before) in omega arith)
+    (λ c. place-low (c .before))
+    (λ c. let h = few (c .before .before) in omega arith)
     (λ c. omega arith)
     loop-again
     returns)

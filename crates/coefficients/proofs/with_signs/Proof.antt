@@ -36,12 +36,6 @@ all-axes : (m c k : ℕ) (z : ℤ) (e o : ℕ → ℕ) → ((a : ℕ) → a < 3 
 unfolding signed
 all-axes m c k z e o he ho = rw (he 0 (lit< tt), he 1 (lit< tt), he 2 (lit< tt), ho 0 (lit< tt), ho 1 (lit< tt), ho 2 (lit< tt)) refl
 
-facing-requires-2 : tie.Need-facing-requires-2
-facing-requires-2 c κs = once-low c
-
-facing-requires-3 : tie.Need-facing-requires-3
-facing-requires-3 c κs = twice-low c
-
 returns : tie.Need-returns
 returns c =
     let s = c .before .before .before .before .before in
@@ -60,8 +54,8 @@ with-signs-spec =
     (λ c κs. search needs)
     (λ c. search needs)
     (λ c. search needs)
-    facing-requires-2
+    (λ c κs. once-low c)
     (λ c. search needs)
     (λ c. search needs)
-    facing-requires-3
+    (λ c κs. twice-low c)
     returns)

@@ -22,8 +22,5 @@ module _ (c : tie.After-convert) where
       ∙ converted-same (b .orders) (b .axes) (orders-some b (S .pre .0)) (at (now (S .args .table))) (at (c .before .gather .result)) (λ j. at (now (S .args .cs)) (spot (b .orders) (S .args .c) j))
       (λ j q. c .before .gather .ensures .0 j (subst (λ (i : ℕ). j < i) (sym e) q)) k (subst (λ (i : ℕ). k < i) e l)
 
-returns : tie.Need-returns
-returns c = (λ k l. is c k l, c .convert .ensures .1)
-
 pub corner-block-spec : {M : Type 1} → statement M
-corner-block-spec = tie.close (tie.spec (λ c κs. search needs) (λ c κs. search needs) returns)
+corner-block-spec = tie.close (tie.spec (λ c κs. search needs) (λ c κs. search needs) (λ c. (λ k l. is c k l, c .convert .ensures .1)))

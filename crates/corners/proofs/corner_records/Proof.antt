@@ -68,12 +68,6 @@ module _ (c : tie.After-store Inv-loop μ-loop) where
   long : coefficientCount (S inside .args .b .orders) (S inside .args .b .axes) ≤ length (inside .before .loop .xs)
   long = let h = count-low (S inside .args .b) (S inside .pre .0) in let e = inside .before .loop .inv .1 in omega arith
 
-back-table-requires : tie.Need-back-table-requires Inv-loop μ-loop
-back-table-requires c κs = (c .pre .0 .orders-low, c .pre .0 .orders-high)
-
-power-requires : tie.Need-power-requires Inv-loop μ-loop
-power-requires c κs = (lit≤ tt, c .before .pre .0 .axes-high)
-
 loop-holds : tie.Need-loop-holds Inv-loop μ-loop
 unfolding firstOf
 loop-holds c = let s = c .before .before in (zero-le, s .pre .2, refl, λ i l. absurd (none i (s .args .b .entries) l))
@@ -94,9 +88,6 @@ returns c =
     let e = ap meaning (c .enum-told .given .1) in
     let stop = e ∙ sym (rows (s .args .b) (s .pre .0) (now (s .args .cs)) ∙ firstOf-stops (2 ^ s .args .b .axes) (inside w .before .loop .c) (row (s .args .b) (now (s .args .cs))) _ _ (corner (inside w)) (inside w .before .loop .inv .2) (tested w ∙ e)) in
     (stop, λ h. absurd (done-refused _ _ _ h e))
-
-add-c : tie.Need-add-c Inv-loop μ-loop
-add-c c = let h = few (inside (c .before .before)) in omega arith
 
 loop-again : tie.Need-loop-again Inv-loop μ-loop
 loop-again c =
@@ -127,15 +118,15 @@ corner-records-spec =
     (tie.spec
     Inv-loop
     μ-loop
-    back-table-requires
-    power-requires
+    (λ c κs. (c .pre .0 .orders-low, c .pre .0 .orders-high))
+    (λ c κs. (lit≤ tt, c .before .pre .0 .axes-high))
     loop-holds
     corner-block-requires
     store-requires
     enum-told
     returns
     (λ c. search needs)
-    add-c
+    (λ c. let h = few (inside (c .before .before)) in omega arith)
     (λ c. omega arith)
     loop-again
     returns-2)

@@ -54,9 +54,6 @@ returns c =
     let h = refused-first (possibleOutcome (ordersOf (a .degree)) (a .axes) (now (a .coefficients))) (sym (w .check-numbers .ensures) ∙ e) in
     (e ∙ sym h, when-refused (overwrite (entryList (ordersOf (a .degree)) (a .axes) (now (a .coefficients))) (now (a .out))) (now (a .out)) h)
 
-block-of-requires : tie.Need-block-of-requires
-block-of-requires c κs = axes-range (S c .args .axes) (facts c .axes-done)
-
 corner-records-requires : tie.Need-corner-records-requires
 corner-records-requires c κs =
     let b = c .before .block-of in
@@ -106,7 +103,7 @@ corners-spec =
     enum-told
     returns
     (λ c. search needs)
-    block-of-requires
+    (λ c κs. axes-range (S c .args .axes) (facts c .axes-done))
     corner-records-requires
     (λ c. search needs)
     returns-2

@@ -37,14 +37,8 @@ module _ (c : tie.After-spot-at Inv-loop μ-loop) where
 loop-holds : tie.Need-loop-holds Inv-loop μ-loop
 loop-holds c = (zero-le, refl, (λ j h. absurd (not-suc-le-zero h)), (λ j h. absurd (not-suc-le-zero h)))
 
-spot-at-requires : tie.Need-spot-at-requires Inv-loop μ-loop
-spot-at-requires c κs = let p = c .before .before .pre .0 in (p .orders-low, p .orders-high)
-
 mul-xs : tie.Need-mul-xs Inv-loop μ-loop
 mul-xs c = let h = place-low c in let l = count-low (S c .args .b) (S c .pre .0) in omega arith
-
-shared-slice-copy-out-xs : tie.Need-shared-slice-copy-out-xs Inv-loop μ-loop
-shared-slice-copy-out-xs c = let h = place-low c in let e = S c .pre .2 in omega arith
 
 cast-xs : tie.Need-cast-xs Inv-loop μ-loop
 cast-xs c = widen-fits (at (S (c .before) .args .cs .now) (c .before .spot-at .result)) (c .xs .given)
@@ -84,9 +78,9 @@ gather-spec =
     Inv-loop
     μ-loop
     loop-holds
-    spot-at-requires
+    (λ c κs. let p = c .before .before .pre .0 in (p .orders-low, p .orders-high))
     mul-xs
-    shared-slice-copy-out-xs
+    (λ c. let h = place-low c in let e = S c .pre .2 in omega arith)
     cast-xs
     mul-xs-2
     array-set-from-xs

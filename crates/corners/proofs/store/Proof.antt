@@ -119,12 +119,6 @@ loop-holds : tie.Need-loop-holds Inv-loop μ-loop
 unfolding firstOf scatter
 loop-holds c = (zero-le, refl, refl)
 
-mul-with-signs : tie.Need-mul-with-signs Inv-loop μ-loop
-mul-with-signs c = let h = few c in omega arith
-
-element-copy-out-with-signs : tie.Need-element-copy-out-with-signs Inv-loop μ-loop
-element-copy-out-with-signs c = few c
-
 with-signs-requires : tie.Need-with-signs-requires Inv-loop μ-loop
 with-signs-requires c κs =
     let s = S (c .before) in
@@ -132,39 +126,12 @@ with-signs-requires c κs =
     let h = s .pre .2 (c .before .before .loop .k) (c .before .loop-test .taken) in
     (s .pre .0 .orders-low, s .pre .0 .orders-high, le-trans (le-of-eq (ap natAbs (kept x (2 ^ 51) h (lit< tt)))) (le-trans h (lit≤ tt)))
 
-limit-at-requires : tie.Need-limit-at-requires Inv-loop μ-loop
-limit-at-requires c κs = let p = S (c .before .before) .pre .0 in (p .orders-low, p .orders-high)
-
-whole-within-requires : tie.Need-whole-within-requires Inv-loop μ-loop
-whole-within-requires c κs = S (c .before .before .before) .pre .0 .axes-high
-
-cast-out : tie.Need-cast-out Inv-loop μ-loop
-cast-out c = let h = S (i (c .before)) .pre .0 .axes-high in record { sfits = omega arith }
-
-shr-out : tie.Need-shr-out Inv-loop μ-loop
-shr-out c = let h = S (i (c .before)) .pre .0 .axes-high in omega arith
-
-cast-out-2 : tie.Need-cast-out-2 Inv-loop μ-loop
-cast-out-2 c = fits (c .before) (c .if1 .taken)
-
-add-t21 : tie.Need-add-t21 Inv-loop μ-loop
-add-t21 c = let h = place-low (c .before) in omega arith
-
-mul-t22 : tie.Need-mul-t22 Inv-loop μ-loop
-mul-t22 c = let h = place-low (c .before) in omega arith
-
-element-set-from-out : tie.Need-element-set-from-out Inv-loop μ-loop
-element-set-from-out c = place-low (c .before)
-
 returns : tie.Need-returns Inv-loop μ-loop
 returns c =
     let w = c .before .before in
     let t = test (b w .axes) (b w .orders) (S (i w) .args .c) (S (i w) .args .zs .now) in
     let stop = c .refuse-unless .ensures ∙ sym (firstOf-stops (b w .entries) (k w) t 13 0 (i w .loop-test .taken) (i w .before .loop .inv .1) (ap (λ (x : Bool). refuseUnless x 13 0) (sym (test-is w) ∙ c .before .if1 .left))) in
     (stop, λ e. absurd (done-refused (meaning (c .refuse-unless .result)) 13 0 e (c .refuse-unless .ensures)))
-
-add-k : tie.Need-add-k Inv-loop μ-loop
-add-k c = let h = few (i (c .before)) in omega arith
 
 loop-again : tie.Need-loop-again Inv-loop μ-loop
 loop-again c =
@@ -194,20 +161,20 @@ store-spec =
     μ-loop
     mul-first
     loop-holds
-    mul-with-signs
-    element-copy-out-with-signs
+    (λ c. let h = few c in omega arith)
+    (λ c. few c)
     with-signs-requires
-    limit-at-requires
-    whole-within-requires
-    cast-out
-    shr-out
-    cast-out-2
-    add-t21
-    mul-t22
-    element-set-from-out
+    (λ c κs. let p = S (c .before .before) .pre .0 in (p .orders-low, p .orders-high))
+    (λ c κs. S (c .before .before .before) .pre .0 .axes-high)
+    (λ c. let h = S (i (c .before)) .pre .0 .axes-high in record { sfits = omega arith })
+    (λ c. let h = S (i (c .before)) .pre .0 .axes-high in omega arith)
+    (λ c. fits (c .before) (c .if1 .taken))
+    (λ c. let h = place-low (c .before) in omega arith)
+    (λ c. let h = place-low (c .before) in omega arith)
+    (λ c. place-low (c .before))
     (λ c κs. search needs)
     returns
-    add-k
+    (λ c. let h = few (i (c .before)) in omega arith)
     (λ c. omega arith)
     loop-again
     returns-2)

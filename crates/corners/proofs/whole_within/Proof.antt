@@ -29,12 +29,6 @@ module _ (n limit size : ℕ) (z : ℤ) (h : n ≤ 3) (fit : SFits w64 z) (is : 
   rest : (size % (1 * 2 ^ n % 18446744073709551616) ≡ 0 → ⊥) → eqb (size % (1 * 2 ^ n % 18446744073709551616)) 0 ≡ wholeWithin n limit z
   rest = rw (shifted n h, size-is) (λ e. ne-eqb (natAbs z % 2 ^ n) 0 e ∙ sym (ap (λ (t : Bool). t && leb (natAbs z / 2 ^ n) limit) (ne-eqb (natAbs z % 2 ^ n) 0 e)))
 
-rem-if1 : tie.Need-rem-if1
-rem-if1 c = some (c .before .args .n) (c .before .pre)
-
-div-result : tie.Need-div-result
-div-result c = some (c .before .before .args .n) (c .before .before .pre)
-
 returns : tie.Need-returns
 returns c = let s = c .before .before in no-rest (s .args .n) (s .args .limit) (c .before .magnitude .result) (s .args .z) (s .pre) (s .fits .z) (c .before .magnitude .ensures) (c .if1 .taken)
 
@@ -43,4 +37,4 @@ returns-2 c = let s = c .before .before in rest (s .args .n) (s .args .limit) (c
 
 pub whole-within-spec : {M : Type 1} → statement M
 whole-within-spec =
-    tie.close (tie.spec (λ c κs. search needs) (λ c. search needs) rem-if1 div-result returns returns-2)
+    tie.close (tie.spec (λ c κs. search needs) (λ c. search needs) (λ c. some (c .before .args .n) (c .before .pre)) (λ c. some (c .before .before .args .n) (c .before .before .pre)) returns returns-2)

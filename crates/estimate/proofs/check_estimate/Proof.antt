@@ -21,12 +21,6 @@ told c = shaped (c .before .before .before .args .s) (sym (c .before .before .ch
 enum-told : tie.Need-enum-told
 enum-told c = search needs
 
-node-count-requires : tie.Need-node-count-requires
-node-count-requires c κs = told c
-
-table-entries-requires : tie.Need-table-entries-requires
-table-entries-requires c κs = told (c .before .before)
-
 returns : tie.Need-returns
 unfolding estimateOutcome
 returns c =
@@ -50,9 +44,9 @@ check-estimate-spec =
     (λ c κs. search needs)
     enum-told
     (λ c. search needs)
-    node-count-requires
+    (λ c κs. told c)
     (λ c κs. search needs)
-    table-entries-requires
+    (λ c κs. told (c .before .before))
     (λ c κs. search needs)
     (λ c κs. search needs)
     (λ c κs. search needs)

@@ -118,9 +118,6 @@ module _ (g : Grid) (ok : Grids g) where
     result : b₃ ≡ placed k (rowSize g) h b
     result = last ∙ ap (λ (m : ℕ). placed k m h b) entries
 
-mul-size : tie.Need-mul-size
-mul-size c = omega (arith, column-high (c .before .args .g) (c .before .pre .0 .0))
-
 mul-inner : tie.Need-mul-inner
 mul-inner c = let s = c .before .before in omega (arith, numbers-high (s .args .g) (s .pre .0 .0))
 
@@ -175,7 +172,7 @@ pub fill-row-spec : {M : Type 1} → statement M
 fill-row-spec =
     tie.close
     (tie.spec
-    mul-size
+    (λ c. omega (arith, column-high (c .before .args .g) (c .before .pre .0 .0)))
     (λ c. search needs)
     mul-inner
     add-last

@@ -39,9 +39,6 @@ Inv-loop g samples records₀ rows step three₀ row₀ y₀ z₀ p₀ r₀ reco
 abbrev μ-loop : tie.MeasureT-loop
 μ-loop g samples records₀ rows step three₀ row₀ y₀ z₀ p₀ r₀ records three row y z p r = g .cy * g .cz - r
 
-mul-rows : tie.Need-mul-rows Inv-loop μ-loop
-mul-rows c = omega (arith, rows-high (c .before .args .g) (c .before .pre .0 .grid))
-
 mul-step : tie.Need-mul-step Inv-loop μ-loop
 mul-step c = omega (arith, column-high (c .before .before .args .g) (c .before .before .pre .0 .grid))
 
@@ -137,7 +134,7 @@ fill-rows-spec =
     (tie.spec
     Inv-loop
     μ-loop
-    mul-rows
+    (λ c. omega (arith, rows-high (c .before .args .g) (c .before .pre .0 .grid)))
     mul-step
     mul-step-2
     mul-step-3

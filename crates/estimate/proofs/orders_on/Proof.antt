@@ -23,8 +23,5 @@ unused s a h = sym (pick-false (ltb a (s .axes)) (orders s) 1 (le-ltb a (s .axes
 returns : tie.Need-returns
 returns c = let a = c .before .before .before .args in c .orders .ensures ∙ used (a .s) (a .axis) (omega arith)
 
-returns-2 : tie.Need-returns-2
-returns-2 c = let a = c .before .before .args in unused (a .s) (a .axis) (omega arith)
-
 pub orders-on-spec : {M : Type 1} → statement M
-orders-on-spec = tie.close (tie.spec (λ c κs. search needs) returns returns-2)
+orders-on-spec = tie.close (tie.spec (λ c κs. search needs) returns (λ c. let a = c .before .before .args in unused (a .s) (a .axis) (omega arith)))

@@ -78,9 +78,6 @@ module _ (l f r : ℤ) (small : (natAbs l ≤ passLimit) × (natAbs f ≤ passLi
 sub-out : tie.Need-sub-out
 sub-out c = let s = c .before in fits? (search (param (s .args .l) (s .pre .1 .0), param (s .args .r) (s .pre .1 .2), sizes)) (omega arith)
 
-slice-set-from-out : tie.Need-slice-set-from-out
-slice-set-from-out c = simp length-set (omega arith)
-
 mul-out : tie.Need-mul-out
 mul-out c = let s = c .before .before in step-double (s .args .l) (s .args .f) (s .args .r) (s .pre .1)
 
@@ -89,9 +86,6 @@ sub-out-2 c = let s = c .before .before in step-less (s .args .l) (s .args .f) (
 
 add-out : tie.Need-add-out
 add-out c = let s = c .before .before in step-S (s .args .l) (s .args .f) (s .args .r) (s .pre .1)
-
-slice-set-from-out-2 : tie.Need-slice-set-from-out-2
-slice-set-from-out-2 c = simp length-set (omega arith)
 
 returns : tie.Need-returns
 returns c = let s = c .before .before in three (s .args .l) (s .args .f) (s .args .r) (s .pre .1) (s .args .k) (now (s .args .out)) (s .args .m) (omega arith)
@@ -111,13 +105,13 @@ put-orders-spec =
     sub-out
     (λ c. search needs)
     (λ c. search needs)
-    slice-set-from-out
+    (λ c. simp length-set (omega arith))
     mul-out
     sub-out-2
     add-out
     (λ c. search needs)
     (λ c. search needs)
-    slice-set-from-out-2
+    (λ c. simp length-set (omega arith))
     (λ c. search needs)
     returns
     (λ c. search needs)

@@ -111,9 +111,6 @@ pass-requires c κs =
           (b .before .before .before .before .before .before .row-z .ensures) (b .before .before .before .row-z2 .ensures) (b .row-z3 .ensures),
     )
 
-returns : tie.Need-returns
-returns c = c .before .row-y .ensures
-
 returns-2 : tie.Need-returns-2
 returns-2 c =
     let b = c .before .before .before .before .before in
@@ -136,7 +133,7 @@ row-yz-spec =
     add-pass
     pass-requires
     (λ c. search needs)
-    returns
+    (λ c. c .before .row-y .ensures)
     (λ c. search needs)
     (λ c. search needs)
     returns-2)

@@ -126,9 +126,6 @@ module _ (c : tie.After-strides-of4) where
       subst (λ (ls : List ℕ). AreAxes (begun .args .s) (placeAt (begun .args .step)) ls others) (sym (axes-before (n more) (last more) two-axes (three-low .0) (three-low .1)))
       (are-axes (begun .args .s) (placeAt (begun .args .step)) (eqb (n more) 3) (firstAxis (last more)) (middleAxis (last more)) (c .before .before .before .strides-of2 .result) (c .before .strides-of3 .result) is-first is-middle)
 
-strides-of-requires : tie.Need-strides-of-requires
-strides-of-requires c κs = (m3 (c .before), omega arith)
-
 one-axis-requires : tie.Need-one-axis-requires
 unfolding axes without pick
 one-axis-requires c κs = asks (only c) 1 0 (c .before .if1 .taken) (only-last c) (c .strides-of .result) [] (only-axis c) tt
@@ -181,7 +178,7 @@ answer-spec =
     (tie.spec
     (λ c κs. search needs)
     (λ c κs. search needs)
-    strides-of-requires
+    (λ c κs. (m3 (c .before), omega arith))
     one-axis-requires
     cast-result
     returns

@@ -23,15 +23,6 @@ module _ (c : tie.Start) where
   third : (c .args .m ≡ 2 → ⊥) → c .args .p + 2 * c .args .near < length (now (c .args .records))
   third n = let h = c .pre .2 2 (omega arith) in omega arith
 
-entry-requires : tie.Need-entry-requires
-entry-requires c κs = low c
-
-add-entry : tie.Need-add-entry
-add-entry c = let h = next (c .before) in omega arith
-
-entry-requires-2 : tie.Need-entry-requires-2
-entry-requires-2 c κs = next (c .before)
-
 returns : tie.Need-returns
 returns c =
     let s = c .before .before .before in
@@ -39,15 +30,6 @@ returns c =
     (read (c .before .before .entry .result) (c .before .before .entry .ok) ∙ c .before .before .entry .ensures)
     (read (c .before .entry2 .result) (c .before .entry2 .ok) ∙ c .before .entry2 .ensures)
     (sym (number-none (s .args .m) (at (now (s .args .records))) (s .args .p) (s .args .near) 2 (omega arith)))
-
-mul-entry : tie.Need-mul-entry
-mul-entry c = let h = third (c .before .before .before) (c .if1 .left) in omega arith
-
-add-entry-2 : tie.Need-add-entry-2
-add-entry-2 c = let h = third (c .before .before .before) (c .if1 .left) in omega arith
-
-entry-requires-3 : tie.Need-entry-requires-3
-entry-requires-3 c κs = third (c .before .before .before) (c .if1 .left)
 
 returns-2 : tie.Need-returns-2
 returns-2 c =
@@ -62,11 +44,11 @@ pub end-in-spec : {M : Type 1} → statement M
 end-in-spec =
     tie.close
     (tie.spec
-    entry-requires
-    add-entry
-    entry-requires-2
+    (λ c κs. low c)
+    (λ c. let h = next (c .before) in omega arith)
+    (λ c κs. next (c .before))
     returns
-    mul-entry
-    add-entry-2
-    entry-requires-3
+    (λ c. let h = third (c .before .before .before) (c .if1 .left) in omega arith)
+    (λ c. let h = third (c .before .before .before) (c .if1 .left) in omega arith)
+    (λ c κs. third (c .before .before .before) (c .if1 .left))
     returns-2)

@@ -28,9 +28,6 @@ module _ (c : tie.Start) where
   high-in : (o : ℕ) → o < c .args .m → c .args .p + c .args .x .far + o * c .args .x .near < n
   high-in = safe-high (c .args .m) n (c .args .x) [] g (c .args .p) (c .pre .1)
 
-end-in-requires : tie.Need-end-in-requires
-end-in-requires c κs = let f = c .pre .0 .0 .folds in (f .m-low, f .m-high, low-in c)
-
 add-end-in : tie.Need-add-end-in
 add-end-in c = let s = c .before .before in let h = high-in s 0 (let k = s .pre .0 .0 .folds .m-low in omega arith) in omega arith
 
@@ -58,4 +55,4 @@ returns c =
 
 pub first-spec : {M : Type 1} → statement M
 first-spec =
-    tie.close (tie.spec end-in-requires add-end-in end-in-requires-2 stage-requires returns)
+    tie.close (tie.spec (λ c κs. let f = c .pre .0 .0 .folds in (f .m-low, f .m-high, low-in c)) add-end-in end-in-requires-2 stage-requires returns)

@@ -4,14 +4,8 @@ use Rattle.evaluate.proofs.Order.{apart}
 use Rattle.evaluate.proofs.middle.Statement.{statement}
 use Rattle.evaluate.proofs.middle.Tie as tie
 
-returns : tie.Need-returns
-returns c = (λ e. apart _ e (not-true _ (c .if1 .taken)), λ e. refl)
-
 axis-of-requires : tie.Need-axis-of-requires
 axis-of-requires c κs = let b = c .before in (b .pre .0, b .pre .1, b .pre .2 (not-false _ (c .if1 .left)))
 
-returns-2 : tie.Need-returns-2
-returns-2 c = (λ e. c .axis-of .ensures, λ e. apart _ (not-false _ (c .before .if1 .left)) e)
-
 pub middle-spec : {M : Type 1} → statement M
-middle-spec = tie.close (tie.spec returns axis-of-requires returns-2)
+middle-spec = tie.close (tie.spec (λ c. (λ e. apart _ e (not-true _ (c .if1 .taken)), λ e. refl)) axis-of-requires (λ c. (λ e. c .axis-of .ensures, λ e. apart _ (not-false _ (c .before .if1 .left)) e)))

@@ -16,15 +16,6 @@ use Rattle.evaluate.proofs.more_axes.Tie as tie
 low : (s : tie.Start) → (s .args .a .step ≤ steps) × (s .args .c .step ≤ steps) × (s .args .three ≡ true → s .args .b .step ≤ steps)
 low s = let a = s .args in steps-of (a .m) (a .slope) (a .a) (a .b) (a .c) (length (now (a .records))) (at (now (a .records))) (a .p) (a .three) (s .pre .steps-in)
 
-axis-of-requires : tie.Need-axis-of-requires
-axis-of-requires c κs = (c .pre .m-low, c .pre .m-high, low c .0)
-
-axis-of-requires-2 : tie.Need-axis-of-requires-2
-axis-of-requires-2 c κs = let s = c .before in (s .pre .m-low, s .pre .m-high, low s .1)
-
-middle-requires : tie.Need-middle-requires
-middle-requires c κs = let s = c .before .before in (s .pre .m-low, s .pre .m-high, low s .2)
-
 third-requires : tie.Need-third-requires
 third-requires c κs =
     let s = c .before .before .before in
@@ -41,4 +32,4 @@ returns c =
     (d .before .before .axis-of .ensures) (d .before .axis-of2 .ensures) (a .three) (d .middle .ensures) (toZ w64 (ofZ w64 (c .third .result))) (read (c .third .result) (c .third .ok) ∙ c .third .ensures)
 
 pub more-axes-spec : {M : Type 1} → statement M
-more-axes-spec = tie.close (tie.spec axis-of-requires axis-of-requires-2 middle-requires third-requires returns)
+more-axes-spec = tie.close (tie.spec (λ c κs. (c .pre .m-low, c .pre .m-high, low c .0)) (λ c κs. let s = c .before in (s .pre .m-low, s .pre .m-high, low s .1)) (λ c κs. let s = c .before .before in (s .pre .m-low, s .pre .m-high, low s .2)) third-requires returns)

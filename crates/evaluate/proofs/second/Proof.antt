@@ -44,12 +44,6 @@ mul-t13 c =
 loop-holds : tie.Need-loop-holds Inv-loop μ-loop
 loop-holds c = let s = c .before in both-none (s .args .m) (s .args .y) (after (s .args .m) (xs s) (raw s)) (s .args .p)
 
-mul-i : tie.Need-mul-i Inv-loop μ-loop
-mul-i c = let h = c .before .before .before .pre .0 .0 .folds .m-high in omega arith
-
-array-read-i : tie.Need-array-read-i Inv-loop μ-loop
-array-read-i c = let h = c .before .before .before .pre .0 .0 .folds .m-high in omega arith
-
 add-i : tie.Need-add-i Inv-loop μ-loop
 add-i c =
     let s = c .before .before .before in
@@ -126,8 +120,8 @@ second-spec =
     μ-loop
     mul-t13
     loop-holds
-    mul-i
-    array-read-i
+    (λ c. let h = c .before .before .before .pre .0 .0 .folds .m-high in omega arith)
+    (λ c. let h = c .before .before .before .pre .0 .0 .folds .m-high in omega arith)
     add-i
     first-requires
     mul-low

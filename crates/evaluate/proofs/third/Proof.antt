@@ -91,29 +91,11 @@ loop-holds c = (omega arith, refl, λ j l. absurd (none j l))
     none : (j : ℕ) → j < 0 → ⊥
     none j l = omega arith
 
-mul-second : tie.Need-mul-second Inv-loop μ-loop
-mul-second c = let h = low c in omega arith
-
-array-read-second : tie.Need-array-read-second Inv-loop μ-loop
-array-read-second c = low c
-
 add-second : tie.Need-add-second Inv-loop μ-loop
 add-second c =
     let s = start c in
     let h = safe-index (s .args .m) (n s) (xs s) (raw s) (s .args .p + getD (c .before .before .before .places-of .result .place) (t c) 0) (m2 s) (safe-here c) in
     omega arith
-
-second-requires : tie.Need-second-requires Inv-loop μ-loop
-second-requires c κs = (rest (start c), safe-here c)
-
-mul-numbers : tie.Need-mul-numbers Inv-loop μ-loop
-mul-numbers c = let h = low (c .before) in omega arith
-
-array-set-from-numbers : tie.Need-array-set-from-numbers Inv-loop μ-loop
-array-set-from-numbers c = low (c .before)
-
-add-t : tie.Need-add-t Inv-loop μ-loop
-add-t c = let h = low (c .before) in omega arith
 
 loop-again : tie.Need-loop-again Inv-loop μ-loop
 loop-again c =
@@ -198,13 +180,13 @@ third-spec =
     μ-loop
     places-of-requires
     loop-holds
-    mul-second
-    array-read-second
+    (λ c. let h = low c in omega arith)
+    (λ c. low c)
     add-second
-    second-requires
-    mul-numbers
-    array-set-from-numbers
-    add-t
+    (λ c κs. (rest (start c), safe-here c))
+    (λ c. let h = low (c .before) in omega arith)
+    (λ c. low (c .before))
+    (λ c. let h = low (c .before) in omega arith)
     (λ c. omega arith)
     loop-again
     (λ c. omega arith)

@@ -105,18 +105,12 @@ returns c =
 enum-told : tie.Need-enum-told
 enum-told c = search needs
 
-check-floats-requires : tie.Need-check-floats-requires
-check-floats-requires c κs = shape (c .before .before .before)
-
 returns-2 : tie.Need-returns-2
 returns-2 c =
     let t = c .before .before .before in
     let b = begun t in
     let r = c .before .tested .given .0 .0 in
     sym (ap (inFloat (want b)) (not-located (s b) (rs b) (want b) (x b) (r .number) (r .place) (asked (first-asked t)) (sym (tests t) ∙ ap meaning (c .before .tested .given .1))))
-
-read-position-requires : tie.Need-read-position-requires
-read-position-requires c κs = let e = c .before .before .before in (asked (first-asked (tested e)), inside e)
 
 in-float-requires : tie.Need-in-float-requires
 in-float-requires c κs = λ v h.
@@ -144,10 +138,10 @@ at-float-spec =
     (λ c κs. search needs)
     (λ c κs. search needs)
     (λ c κs. search needs)
-    check-floats-requires
+    (λ c κs. shape (c .before .before .before))
     (λ c. search needs)
     returns-2
     (λ c. search needs)
-    read-position-requires
+    (λ c κs. let e = c .before .before .before in (asked (first-asked (tested e)), inside e))
     in-float-requires
     returns-3)

@@ -34,9 +34,6 @@ module _ (c : tie.After-known-told2) where
   read : toZ w32 (ofZ w32 v) ≡ v
   read = toZ-ofZ {w = w32} (sfits-abs v (lt-of-lt-of-le small (lit≤ tt)))
 
-whole-requires : tie.Need-whole-requires
-whole-requires c κs = subst (λ z. natAbs z < 2 ^ 24) (sym (read c)) (small c)
-
 enum-told : tie.Need-enum-told
 enum-told c = search needs
 
@@ -63,7 +60,7 @@ in-float-spec =
     (tie.spec
     (λ c. search needs)
     (λ c. search needs)
-    whole-requires
+    (λ c κs. subst (λ z. natAbs z < 2 ^ 24) (sym (read c)) (small c))
     enum-told
     (λ c. search needs)
     returns

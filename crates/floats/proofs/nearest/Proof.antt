@@ -69,12 +69,6 @@ module _ (c : tie.After-rounded) where
       let start = c .before .before .before .before in
       sym (ap nearestHeld (sym (back start)) ∙ bits-mid (bits start) (c .before .before .before .if1 .left) (c .before .before .if2 .taken) ∙ clamped-fits rounding (small .sfits))
 
-cast-result : tie.Need-cast-result
-cast-result c = subst (SFits w32) (sym (result c)) (small c)
-
-returns-2 : tie.Need-returns-2
-returns-2 c = ap (λ z. toZ w32 (ofZ w32 z)) (result c) ∙ toZ-ofZ {w = w32} (small c) ∙ held c
-
 returns-3 : tie.Need-returns-3
 unfolding nearestHeld
 returns-3 c =
@@ -96,7 +90,7 @@ nearest-spec =
     (λ c κs. search needs)
     (λ c. search needs)
     rounded-requires
-    cast-result
-    returns-2
+    (λ c. subst (SFits w32) (sym (result c)) (small c))
+    (λ c. ap (λ z. toZ w32 (ofZ w32 z)) (result c) ∙ toZ-ofZ {w = w32} (small c) ∙ held c)
     returns-3
     returns-4)

@@ -44,9 +44,6 @@ finite-at : (P : Float → Type 0) → ((s : Bool) (m : ℕ) (e : ℤ) → T (fi
 unfolding div neg ofBits
 finite-at P k c = passed P k (c .before .before .args .x) (subst T (sym (c .before .before .good .0 .1)) tt) (c .before .if1 .taken) (c .if2 .taken)
 
-nearest-requires : tie.Need-nearest-requires
-nearest-requires c κs = finite-at (λ x. T (not (isNan (mul binary32 x scale)))) scaled-not-nan c
-
 returns : tie.Need-returns
 returns c =
     let f = finite-at (λ x. (true ≡ finite x) × (nearestHeld (mul binary32 x scale) ≡ clamped (step 256 x))) (λ s m e t. (refl, scaled s m e t)) (c .before) in
@@ -61,4 +58,4 @@ unfolding div ofBits
 returns-3 c = not-below (c .before .args .x) (c .if1 .left)
 
 pub step-of-spec : {M : Type 1} → statement M
-step-of-spec = tie.close (tie.spec nearest-requires returns returns-2 returns-3)
+step-of-spec = tie.close (tie.spec (λ c κs. finite-at (λ x. T (not (isNan (mul binary32 x scale)))) scaled-not-nan c) returns returns-2 returns-3)

@@ -1,6 +1,6 @@
 -- `hermite::folded` meets its contract: three calls of `combined`, one for each order.
-use native.Mathlib.Nat.{lt-of-le-of-lt}
-use lib.Dec.{lit<}
+use native.Mathlib.Nat.{le-trans, lt-of-le-of-lt}
+use lib.Dec.{lit≤, lit<}
 use lib.Signed.{mag}
 use mir.Facts.{toZ-ofZ}
 use Rattle.arith.proofs.Abs.{sfits-abs}
@@ -21,22 +21,17 @@ plain z h = toZ-ofZ (sfits-abs z (lt-of-le-of-lt h (lit< tt)))
 
 -- one order: what the call asks for, and what it gives
 module _ (s : tie.Start) (o : ℕ) (l : o < 3) where
-  asks : ((natAbs (held (at (s .args .t1) o)) ≤ 20) × (natAbs (held (at (s .args .t2) o)) ≤ 20) × (natAbs (held (at (s .args .t3) o)) ≤ 20)) × ((k : ℕ) → k < 3 → natAbs (at (s .args .w) k) ≤ 2 ^ 43)
-  asks =
-      let h = s .pre .0 o l in
-      ((rw (plain (at (s .args .t1) o) (h .0)) (h .0), rw (plain (at (s .args .t2) o) (h .1)) (h .1), rw (plain (at (s .args .t3) o) (h .2)) (h .2)), s .pre .1)
+  asks : ((natAbs (held (at (s .args .t1) o)) ≤ 32) × (natAbs (held (at (s .args .t2) o)) ≤ 32) × (natAbs (held (at (s .args .t3) o)) ≤ 32)) × ((k : ℕ) → k < 3 → natAbs (at (s .args .w) k) ≤ 2 ^ 50)
+  asks = let h = s .pre .0 o l in ((low (at (s .args .t1) o) (h .0), low (at (s .args .t2) o) (h .1), low (at (s .args .t3) o) (h .2)), λ k i. le-trans (s .pre .1 k i) (lit≤ tt))
+    where
+      low : (z : ℤ) → natAbs z ≤ 20 → natAbs (held z) ≤ 32
+      low z h = rw (plain z h) (le-trans h (lit≤ tt))
 
   gives : (r : ℤ) → mag r < 2 ^ 63 → r ≡ held (at (s .args .t1) o) *ℤ at (s .args .w) 0 +ℤ held (at (s .args .t2) o) *ℤ at (s .args .w) 1 +ℤ held (at (s .args .t3) o) *ℤ at (s .args .w) 2
       → held r ≡ at (s .args .t1) o *ℤ at (s .args .w) 0 +ℤ at (s .args .t2) o *ℤ at (s .args .w) 1 +ℤ at (s .args .t3) o *ℤ at (s .args .w) 2
   gives r ok e =
       let h = s .pre .0 o l in
       read r ok ∙ e ∙ rw (plain (at (s .args .t1) o) (h .0), plain (at (s .args .t2) o) (h .1), plain (at (s .args .t3) o) (h .2))
-
-combined-requires : tie.Need-combined-requires
-combined-requires c κs = asks (c .before .before .before) 0 (lit< tt)
-
-combined-requires-2 : tie.Need-combined-requires-2
-combined-requires-2 c κs = asks (c .before .before .before .before .before .before .before) 1 (lit< tt)
 
 combined-requires-3 : tie.Need-combined-requires-3
 combined-requires-3 c κs = asks (c .before .before .before .before .before .before .before .before .before .before .before) 2 (lit< tt)
@@ -55,11 +50,11 @@ folded-spec =
     (λ c. search needs)
     (λ c. search needs)
     (λ c. search needs)
-    combined-requires
+    (λ c κs. asks (c .before .before .before) 0 (lit< tt))
     (λ c. search needs)
     (λ c. search needs)
     (λ c. search needs)
-    combined-requires-2
+    (λ c κs. asks (c .before .before .before .before .before .before .before) 1 (lit< tt))
     (λ c. search needs)
     (λ c. search needs)
     (λ c. search needs)

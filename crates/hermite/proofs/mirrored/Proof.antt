@@ -17,19 +17,10 @@ k-x c i t = element (c .args .t2) i (2 ^ 62) (c .pre i (lit< t)) (lit< tt)
 
 ruleset known = (k-x, sizes)
 
-sub-t8 : tie.Need-sub-t8
-sub-t8 c = fits? (search known depth 40) (omega arith)
-
-sub-t15 : tie.Need-sub-t15
-sub-t15 c = fits? (search known depth 40) (omega arith)
-
 returns : tie.Need-returns
 returns c =
     let s = c .before .before .before .before in
     mirror-slope (s .args .t2) _ _ _ (s .args .slope) (c .before .before .before .if1 .taken) (value? (search known depth 40) (omega arith)) (value? (search known depth 40) tt) (value? (search known depth 40) (omega arith))
-
-sub-t22 : tie.Need-sub-t22
-sub-t22 c = fits? (search known depth 40) (omega arith)
 
 returns-2 : tie.Need-returns-2
 returns-2 c =
@@ -41,13 +32,13 @@ mirrored-spec =
     tie.close
     (tie.spec
     (λ c. search needs)
-    sub-t8
+    (λ c. fits? (search known depth 40) (omega arith))
     (λ c. search needs)
     (λ c. search needs)
-    sub-t15
+    (λ c. fits? (search known depth 40) (omega arith))
     returns
     (λ c. search needs)
     (λ c. search needs)
-    sub-t22
+    (λ c. fits? (search known depth 40) (omega arith))
     (λ c. search needs)
     returns-2)

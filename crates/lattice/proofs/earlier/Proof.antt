@@ -8,9 +8,6 @@ use Rattle.lattice.proofs.earlier.Tie as tie
 enum-told : tie.Need-enum-told
 enum-told c = search needs
 
-returns : tie.Need-returns
-returns c = sym (refused-first _ (ap meaning (c .before .a .given .1)))
-
 returns-2 : tie.Need-returns-2
 returns-2 c =
     sym (first-passed _ _ (ap meaning (c .before .before .before .enum-told .given .1)) ∙ ap meaning (c .before .b .given .1))
@@ -21,4 +18,4 @@ returns-3 c = sym (first-passed _ _ (ap meaning (c .before .before .enum-told .g
 pub earlier-spec : {M : Type 1} → statement M
 earlier-spec =
     tie.close
-    (tie.spec (λ c. search needs) enum-told (λ c. search needs) (λ c. search needs) returns returns-2 returns-3)
+    (tie.spec (λ c. search needs) enum-told (λ c. search needs) (λ c. search needs) (λ c. sym (refused-first _ (ap meaning (c .before .a .given .1)))) returns-2 returns-3)

@@ -8,11 +8,5 @@ use Rattle.lukhtari.proofs.done_of.Tie as tie
 enum-told : tie.Need-enum-told
 enum-told c = search needs
 
-returns : tie.Need-returns
-returns c = ap (λ a. doneOf (meaning a)) (sym (c .enum-told .given .1))
-
-returns-2 : tie.Need-returns-2
-returns-2 c = ap (λ a. doneOf (meaning a)) (sym (c .before .a .given .1))
-
 pub done-of-spec : {M : Type 1} → statement M
-done-of-spec = tie.close (tie.spec enum-told (λ c. search needs) returns returns-2)
+done-of-spec = tie.close (tie.spec enum-told (λ c. search needs) (λ c. ap (λ a. doneOf (meaning a)) (sym (c .enum-told .given .1))) (λ c. ap (λ a. doneOf (meaning a)) (sym (c .before .a .given .1))))

@@ -4,8 +4,5 @@ use borrow.Author.Needs.{needs}
 use Rattle.lukhtari.proofs.lukhtari_dose.Statement.{statement}
 use Rattle.lukhtari.proofs.lukhtari_dose.Tie as tie
 
-returns : tie.Need-returns
-returns c = c .whole-of .ensures ∙ ap wholeFrom (c .before .at-position .ensures)
-
 pub lukhtari-dose-spec : {M : Type 1} → statement M
-lukhtari-dose-spec = tie.close (tie.spec (λ c κs. search needs) (λ c κs. search needs) returns)
+lukhtari-dose-spec = tie.close (tie.spec (λ c κs. search needs) (λ c κs. search needs) (λ c. c .whole-of .ensures ∙ ap wholeFrom (c .before .at-position .ensures)))

@@ -4,8 +4,5 @@ use borrow.Author.Needs.{needs}
 use Rattle.lukhtari.proofs.lukhtari_slope_in_cell.Statement.{statement}
 use Rattle.lukhtari.proofs.lukhtari_slope_in_cell.Tie as tie
 
-returns : tie.Need-returns
-returns c = c .whole-of .ensures ∙ ap wholeFrom (c .before .in-cell .ensures)
-
 pub lukhtari-slope-in-cell-spec : {M : Type 1} → statement M
-lukhtari-slope-in-cell-spec = tie.close (tie.spec (λ c κs. search needs) (λ c κs. search needs) returns)
+lukhtari-slope-in-cell-spec = tie.close (tie.spec (λ c κs. search needs) (λ c κs. search needs) (λ c. c .whole-of .ensures ∙ ap wholeFrom (c .before .in-cell .ensures)))

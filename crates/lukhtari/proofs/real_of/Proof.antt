@@ -15,12 +15,6 @@ nought : wholeOf (ofBits binary32 0) ≡ some (pos 0)
 unfolding wholeOf pick ofBits
 nought = refl
 
-returns : tie.Need-returns
-returns c = ap (λ a. realOf (toldFloat a)) (sym (c .before .a .given .1))
-
-returns-2 : tie.Need-returns-2
-returns-2 c = ap (λ a. realOf (toldFloat a)) (sym (c .before .a2 .given .1))
-
 returns-3 : tie.Need-returns-3
 returns-3 c =
     let r = c .before .a3 .given .0 .0 in
@@ -28,4 +22,4 @@ returns-3 c =
 
 pub real-of-spec : {M : Type 1} → statement M
 real-of-spec =
-    tie.close (tie.spec (λ c. search needs) (λ c. search needs) (λ c. search needs) returns returns-2 returns-3)
+    tie.close (tie.spec (λ c. search needs) (λ c. search needs) (λ c. search needs) (λ c. ap (λ a. realOf (toldFloat a)) (sym (c .before .a .given .1))) (λ c. ap (λ a. realOf (toldFloat a)) (sym (c .before .a2 .given .1))) returns-3)

@@ -5,11 +5,5 @@ use borrow.Author.Needs.{needs}
 use Rattle.lukhtari.proofs.table_of.Statement.{statement}
 use Rattle.lukhtari.proofs.table_of.Tie as tie
 
-returns : tie.Need-returns
-returns c = ap (λ a. tableFrom (tableMeaning a)) (sym (c .before .a .given .1))
-
-returns-2 : tie.Need-returns-2
-returns-2 c = ap (λ a. tableFrom (tableMeaning a)) (sym (c .before .a2 .given .1))
-
 pub table-of-spec : {M : Type 1} → statement M
-table-of-spec = tie.close (tie.spec (λ c. search needs) (λ c. search needs) returns returns-2)
+table-of-spec = tie.close (tie.spec (λ c. search needs) (λ c. search needs) (λ c. ap (λ a. tableFrom (tableMeaning a)) (sym (c .before .a .given .1))) (λ c. ap (λ a. tableFrom (tableMeaning a)) (sym (c .before .a2 .given .1))))

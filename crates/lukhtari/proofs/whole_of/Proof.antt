@@ -14,8 +14,5 @@ returns c =
     ap (λ (v : ℤ). wholeFrom (done v)) (toZ-ofZ {w = w32} (record { sfits = c .known-told .given .0 .1 }))
     ∙ ap (λ a. wholeFrom (told a)) (sym (c .before .a .given .1))
 
-returns-2 : tie.Need-returns-2
-returns-2 c = ap (λ a. wholeFrom (told a)) (sym (c .before .a2 .given .1))
-
 pub whole-of-spec : {M : Type 1} → statement M
-whole-of-spec = tie.close (tie.spec (λ c. search needs) (λ c. search needs) returns returns-2)
+whole-of-spec = tie.close (tie.spec (λ c. search needs) (λ c. search needs) returns (λ c. ap (λ a. wholeFrom (told a)) (sym (c .before .a2 .given .1))))

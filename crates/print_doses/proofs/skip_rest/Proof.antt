@@ -9,20 +9,5 @@ Inv-loop fd turns₀ turns = Unit {0}
 abbrev μ-loop : tie.MeasureT-loop
 μ-loop fd turns₀ turns = turns
 
-loop-holds : tie.Need-loop-holds Inv-loop μ-loop
-loop-holds c = tt
-
-skip-some-requires : tie.Need-skip-some-requires Inv-loop μ-loop
-skip-some-requires c κs = tt
-
-loop-again : tie.Need-loop-again Inv-loop μ-loop
-loop-again c = tt
-
-returns : tie.Need-returns Inv-loop μ-loop
-returns c = tt
-
-returns-2 : tie.Need-returns-2 Inv-loop μ-loop
-returns-2 c = tt
-
 pub skip-rest-spec : {M : Type 1} → statement M
-skip-rest-spec = tie.close (tie.spec Inv-loop μ-loop loop-holds skip-some-requires (λ c. omega arith) (λ c. omega arith) loop-again returns returns-2)
+skip-rest-spec = tie.close (tie.spec Inv-loop μ-loop (λ c. tt) (λ c κs. tt) (λ c. omega arith) (λ c. omega arith) (λ c. tt) (λ c. tt) (λ c. tt))

@@ -37,9 +37,6 @@ module _ (c : tie.After-position-step) where
 enum-told : tie.Need-enum-told
 enum-told c = search needs
 
-lay-out-requires : tie.Need-lay-out-requires
-lay-out-requires c κs = (facts c .shape, facts c .here)
-
 corners-within-requires : tie.Need-corners-within-requires
 corners-within-requires c κs = let f = facts (c .before) in ((f .shape, f .long), (f .here, c .lay-out .ensures))
 
@@ -88,7 +85,7 @@ at-position-spec =
     enum-told
     (λ c κs. search needs)
     (λ c κs. search needs)
-    lay-out-requires
+    (λ c κs. (facts c .shape, facts c .here))
     corners-within-requires
     answer-requires
     returns

@@ -24,9 +24,6 @@ returns c = λ rs e.
     let g = ap meaning (c .enum-told .given .1) in
     g ∙ sym (refused-first _ (sym (c .before .before .check-shape .ensures) ∙ g))
 
-table-entries-requires : tie.Need-table-entries-requires
-table-entries-requires c κs = shape-ok c
-
 returns-2 : tie.Need-returns-2
 unfolding askedOutcome
 returns-2 c = λ rs e.
@@ -46,7 +43,7 @@ check-asked-spec =
     enum-told
     returns
     (λ c. search needs)
-    table-entries-requires
+    (λ c κs. shape-ok c)
     (λ c κs. search needs)
     (λ c κs. search needs)
     (λ c κs. search needs)

@@ -15,12 +15,6 @@ returns c =
     let k = element (b .args .p) (b .fits .p .sfits) in
     c .refuse-unless .ensures ∙ below-zero (b .args .p) (steps * (b .args .count - 1)) (b .args .axis) (rw k at (c .before .if1 .taken))
 
-sub-refuse-unless : tie.Need-sub-refuse-unless
-sub-refuse-unless c = c .before .before .pre .0
-
-mul-refuse-unless : tie.Need-mul-refuse-unless
-mul-refuse-unless c = let h = c .before .before .pre .1 in omega arith
-
 returns-2 : tie.Need-returns-2
 returns-2 c =
     let b = c .before .before .before in
@@ -34,7 +28,7 @@ check-coordinate-spec =
     (λ c κs. search needs)
     returns
     (λ c κs. search needs)
-    sub-refuse-unless
-    mul-refuse-unless
+    (λ c. c .before .before .pre .0)
+    (λ c. let h = c .before .before .pre .1 in omega arith)
     (λ c κs. search needs)
     returns-2)

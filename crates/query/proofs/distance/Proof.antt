@@ -7,9 +7,6 @@ use borrow.Author.Needs.{needs}
 use Rattle.query.proofs.distance.Statement.{statement}
 use Rattle.query.proofs.distance.Tie as tie
 
-cast-magnitude : tie.Need-cast-magnitude
-cast-magnitude c = widen-fits (c .args .p) (c .fits .p .sfits)
-
 cast-result : tie.Need-cast-result
 cast-result c =
     let e = c .magnitude .ensures ∙ ap natAbs (widened (c .before .args .p) (c .before .fits .p .sfits)) in
@@ -20,4 +17,4 @@ returns : tie.Need-returns
 returns c = c .magnitude .ensures ∙ ap natAbs (widened (c .before .args .p) (c .before .fits .p .sfits))
 
 pub distance-spec : {M : Type 1} → statement M
-distance-spec = tie.close (tie.spec cast-magnitude (λ c κs. search needs) cast-result returns)
+distance-spec = tie.close (tie.spec (λ c. widen-fits (c .args .p) (c .fits .p .sfits)) (λ c κs. search needs) cast-result returns)

@@ -25,9 +25,6 @@ module _ (c : tie.After-enum-told) where
 enum-told : tie.Need-enum-told
 enum-told c = search needs
 
-lay-out-requires : tie.Need-lay-out-requires
-lay-out-requires c κs = (facts c .shape, facts c .here)
-
 corners-within-requires : tie.Need-corners-within-requires
 corners-within-requires c κs = let f = facts (c .before) in ((f .shape, f .long), (f .here, c .lay-out .ensures))
 
@@ -74,7 +71,7 @@ in-cell-spec =
     (λ c κs. search needs)
     (λ c. search needs)
     enum-told
-    lay-out-requires
+    (λ c κs. (facts c .shape, facts c .here))
     corners-within-requires
     answer-requires
     returns

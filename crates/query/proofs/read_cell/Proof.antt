@@ -13,9 +13,6 @@ module _ (c : tie.Start) where
   facts : Near (c .args .s) (now (c .args .records)) (c .args .cell)
   facts = near (c .args .s) (now (c .args .records)) (wanted (c .args .slope-axis)) (c .args .cell) (placeAt (c .args .step)) passed
 
-lay-out-requires : tie.Need-lay-out-requires
-lay-out-requires c κs = (facts c .shape, facts c .here)
-
 corners-within-requires : tie.Need-corners-within-requires
 corners-within-requires c κs = let f = facts (c .before) in ((f .shape, f .long), (f .here, c .lay-out .ensures))
 
@@ -47,7 +44,7 @@ pub read-cell-spec : {M : Type 1} → statement M
 read-cell-spec =
     tie.close
     (tie.spec
-    lay-out-requires
+    (λ c κs. (facts c .shape, facts c .here))
     corners-within-requires
     answer-requires
     returns

@@ -7,15 +7,6 @@ use borrow.Author.Needs.{needs}
 use Rattle.report.proofs.cells_of.Statement.{statement}
 use Rattle.report.proofs.cells_of.Tie as tie
 
-cells-on-requires : tie.Need-cells-on-requires
-cells-on-requires c κs = c .pre .least 0 (lit< tt)
-
-cells-on-requires-2 : tie.Need-cells-on-requires-2
-cells-on-requires-2 c κs = c .before .pre .least 1 (lit< tt)
-
-cells-on-requires-3 : tie.Need-cells-on-requires-3
-cells-on-requires-3 c κs = c .before .before .pre .least 2 (lit< tt)
-
 returns : tie.Need-returns
 unfolding cellsAlong countOf
 returns c = let a = c .before .before .before .args in three-same _ _ _ (cellsAlong (header (a .axes) (a .t2))) (c .before .before .cells-on .ensures) (c .before .cells-on2 .ensures) (c .cells-on3 .ensures)
@@ -25,9 +16,9 @@ cells-of-spec =
     tie.close
     (tie.spec
     (λ c. search needs)
-    cells-on-requires
+    (λ c κs. c .pre .least 0 (lit< tt))
     (λ c. search needs)
-    cells-on-requires-2
+    (λ c κs. c .before .pre .least 1 (lit< tt))
     (λ c. search needs)
-    cells-on-requires-3
+    (λ c κs. c .before .before .pre .least 2 (lit< tt))
     returns)

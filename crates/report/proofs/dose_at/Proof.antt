@@ -32,9 +32,6 @@ module _ (c : tie.After-in-cell) where
       c .in-cell .ensures
       ∙ answered (shape start) (now (start .args .records)) (start .args .cell) (placeAt (c .before .middle-of .result)) (start .pre .0) (start .pre .1) (c .before .middle-of .ensures)
 
-middle-of-requires : tie.Need-middle-of-requires
-middle-of-requires c κs = shaped (shape c) (c .pre .0 .shape) .axes-high
-
 enum-told : tie.Need-enum-told
 enum-told c = search needs
 
@@ -51,4 +48,4 @@ returns-2 c =
 pub dose-at-spec : {M : Type 1} → statement M
 dose-at-spec =
     tie.close
-    (tie.spec middle-of-requires (λ c κs. search needs) (λ c. search needs) enum-told returns returns-2)
+    (tie.spec (λ c κs. shaped (shape c) (c .pre .0 .shape) .axes-high) (λ c κs. search needs) (λ c. search needs) enum-told returns returns-2)

@@ -22,9 +22,6 @@ module _ (c : tie.Start) where
   known : Estimable shape (now (c .args .samples)) (length (now (c .args .records)))
   known = estimated shape (now (c .args .samples)) (length (now (c .args .records))) (c .pre)
 
-table-entries-requires : tie.Need-table-entries-requires
-table-entries-requires c κs = known (c .before .before .before) .shape
-
 returns : tie.Need-returns
 returns c =
     let s = c .before .before .before .before in
@@ -36,4 +33,4 @@ returns c =
 
 pub estimate-degree-spec : {M : Type 1} → statement M
 estimate-degree-spec =
-    tie.close (tie.spec (λ c κs. search needs) table-entries-requires (λ c. search needs) returns)
+    tie.close (tie.spec (λ c κs. search needs) (λ c κs. known (c .before .before .before) .shape) (λ c. search needs) returns)

@@ -56,20 +56,11 @@ module _ (c : tie.After-cell-at Inv-loop μ-loop) where
   cell : c .cell-at .result ≡ cellAt (table (first .before .before)) (c .before .before .loop .i)
   cell = c .cell-at .ensures ∙ cell-is (table (first .before .before)) (cells first) (c .before .before .loop .i) (first .cells-of .ensures)
 
-cells-of-requires : tie.Need-cells-of-requires Inv-loop μ-loop
-cells-of-requires c κs = counts-between (table (c .before)) 3 (shape (c .before))
-
 mul-total : tie.Need-mul-total Inv-loop μ-loop
 mul-total c = let b = between c in let h : getD (cells c) 1 0 * getD (cells c) 2 0 ≤ 64 * 64 = mul-le-mul (b .most 1 (lit< tt)) (b .most 2 (lit< tt)) in omega arith
 
-mul-total-2 : tie.Need-mul-total-2 Inv-loop μ-loop
-mul-total-2 c = let h = few c in omega arith
-
 loop-holds : tie.Need-loop-holds Inv-loop μ-loop
 loop-holds c = let a = c .before .before .args in (omega arith, omega arith, lines-none (lineAt (a .axes) (a .counts) (now (a .cubic)) (now (a .quintic))) (now (a .out)))
-
-cell-at-requires : tie.Need-cell-at-requires Inv-loop μ-loop
-cell-at-requires c κs = between (c .before .before)
 
 put-line-requires : tie.Need-put-line-requires Inv-loop μ-loop
 put-line-requires c κs =
@@ -124,14 +115,14 @@ put-lines-spec =
     (tie.spec
     Inv-loop
     μ-loop
-    cells-of-requires
+    (λ c κs. counts-between (table (c .before)) 3 (shape (c .before)))
     (λ c. search needs)
     (λ c. search needs)
     (λ c. search needs)
     mul-total
-    mul-total-2
+    (λ c. let h = few c in omega arith)
     loop-holds
-    cell-at-requires
+    (λ c κs. between (c .before .before))
     put-line-requires
     add-i
     (λ c. omega arith)

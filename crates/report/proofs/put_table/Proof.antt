@@ -45,9 +45,6 @@ module _ (c : tie.After-put-lines-arg) where
   lines : joinedFrom low high ≡ cellLines (table start) (samples start)
   lines = ap (λ (rs : List ℤ). joinedFrom rs high) low-is ∙ ap (joinedFrom (recordsOf (shapeOf (table start) 3) (samples start))) high-is ∙ lines-are (table start) (samples start) (start .pre .0)
 
-estimate-degree-requires : tie.Need-estimate-degree-requires
-estimate-degree-requires c κs = let s = c .before .before in cubic-taken (table s) (samples s) (s .pre .0)
-
 estimate-degree-requires-2 : tie.Need-estimate-degree-requires-2
 estimate-degree-requires-2 c κs = let s = c .before .before .before .before .before in quintic-taken (table s) (samples s) (s .pre .0)
 
@@ -79,7 +76,7 @@ put-table-spec =
     tie.close
     (tie.spec
     (λ c. search needs)
-    estimate-degree-requires
+    (λ c κs. let s = c .before .before in cubic-taken (table s) (samples s) (s .pre .0))
     (λ c. search needs)
     estimate-degree-requires-2
     (λ c. search needs)

@@ -66,12 +66,6 @@ returns c =
     text-put (now (a .out)) (reportText (now (a .input))) (refusedLine 9) _ (p .result) (p .ensures .0) (sym (too-long (now (a .input)) (c .before .before .if1 .taken))) (p .ensures .1)
     (omega (arith, refused-low 9 (lit< tt))) (c .before .put-refused-line-arg .given .0 .1)
 
-put-refused-line-requires-2 : tie.Need-put-refused-line-requires-2
-put-refused-line-requires-2 c κs = omega (arith, low-number (c .before), c .put-refused-line-arg2 .given .0 .1)
-
-node-count-requires : tie.Need-node-count-requires
-node-count-requires c κs = shape (input c) (table c) (was-read c)
-
 array-share-prefix-samples : tie.Need-array-share-prefix-samples
 array-share-prefix-samples c =
     let r = read (c .before) in
@@ -114,9 +108,9 @@ report-spec =
     (λ c. search needs)
     (λ c κs. search needs)
     (λ c. search needs)
-    put-refused-line-requires-2
+    (λ c κs. omega (arith, low-number (c .before), c .put-refused-line-arg2 .given .0 .1))
     (λ c. search needs)
-    node-count-requires
+    (λ c κs. shape (input c) (table c) (was-read c))
     array-share-prefix-samples
     slice-aggregate-put-table
     put-table-requires

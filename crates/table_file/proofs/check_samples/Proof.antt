@@ -37,9 +37,6 @@ loop-holds : tie.Need-loop-holds Inv-loop μ-loop
 unfolding firstOf
 loop-holds c = (omega arith, omega arith, refl)
 
-cast-x : tie.Need-cast-x Inv-loop μ-loop
-cast-x c = widen-fits (c .sample-at .result) (c .sample-at .ok)
-
 returns : tie.Need-returns Inv-loop μ-loop
 returns c =
     let a = c .before .before .before .before .before .before .before .args in
@@ -76,7 +73,7 @@ check-samples-spec =
     μ-loop
     loop-holds
     (λ c κs. omega arith)
-    cast-x
+    (λ c. widen-fits (c .sample-at .result) (c .sample-at .ok))
     (λ c κs. search needs)
     (λ c κs. search needs)
     returns

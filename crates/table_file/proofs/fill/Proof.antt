@@ -25,9 +25,6 @@ Inv-loop bytes start count samples₀ at₀ i₀ samples at i =
 abbrev μ-loop : tie.MeasureT-loop
 μ-loop bytes start count samples₀ at₀ i₀ samples at i = count - i
 
-loop-holds : tie.Need-loop-holds Inv-loop μ-loop
-loop-holds c = (omega arith, omega arith, filled-none _ _)
-
 slice-set-from-x : tie.Need-slice-set-from-x Inv-loop μ-loop
 slice-set-from-x c =
     let a = c .before .before .before .before .args in
@@ -63,7 +60,7 @@ fill-spec =
     (tie.spec
     Inv-loop
     μ-loop
-    loop-holds
+    (λ c. (omega arith, omega arith, filled-none _ _))
     (λ c κs. omega arith)
     (λ c. omega arith)
     slice-set-from-x

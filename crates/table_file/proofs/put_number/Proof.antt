@@ -7,18 +7,6 @@ use borrow.Author.Needs.{needs}
 use Rattle.table_file.proofs.put_number.Statement.{statement}
 use Rattle.table_file.proofs.put_number.Tie as tie
 
-slice-write-bytes-2 : tie.Need-slice-write-bytes-2
-slice-write-bytes-2 c = simp length-set (omega arith)
-
-slice-write-bytes-3 : tie.Need-slice-write-bytes-3
-slice-write-bytes-3 c = simp length-set (omega arith)
-
-slice-write-bytes-4 : tie.Need-slice-write-bytes-4
-slice-write-bytes-4 c = simp length-set (omega arith)
-
-returns : tie.Need-returns
-returns c = stores-are (c .args .bytes .now) (c .args .at) (c .args .v)
-
 pub put-number-spec : {M : Type 1} → statement M
 put-number-spec =
     tie.close
@@ -27,12 +15,12 @@ put-number-spec =
     (λ c. search needs)
     (λ c. search needs)
     (λ c. search needs)
-    slice-write-bytes-2
+    (λ c. simp length-set (omega arith))
     (λ c. search needs)
     (λ c. search needs)
-    slice-write-bytes-3
+    (λ c. simp length-set (omega arith))
     (λ c. search needs)
     (λ c. search needs)
-    slice-write-bytes-4
+    (λ c. simp length-set (omega arith))
     (λ c. search needs)
-    returns)
+    (λ c. stores-are (c .args .bytes .now) (c .args .at) (c .args .v)))

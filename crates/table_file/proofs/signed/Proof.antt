@@ -7,14 +7,8 @@ use borrow.Author.Needs.{needs}
 use Rattle.table_file.proofs.signed.Statement.{statement}
 use Rattle.table_file.proofs.signed.Tie as tie
 
-sub-result : tie.Need-sub-result
-sub-result c = high-fits (c .before .args .v) (omega arith) (omega arith)
-
 cast-result-3 : tie.Need-cast-result-3
 cast-result-3 c = rw (high-held (c .before .args .v) (omega arith) (omega arith)) (signed-fits (c .before .args .v) (omega arith))
-
-returns : tie.Need-returns
-returns c = signed-is (c .before .args .v) (omega arith)
 
 returns-2 : tie.Need-returns-2
 returns-2 c =
@@ -22,4 +16,4 @@ returns-2 c =
 
 pub signed-spec : {M : Type 1} → statement M
 signed-spec =
-    tie.close (tie.spec (λ c. search needs) (λ c. search needs) sub-result cast-result-3 returns returns-2)
+    tie.close (tie.spec (λ c. search needs) (λ c. search needs) (λ c. high-fits (c .before .args .v) (omega arith) (omega arith)) cast-result-3 (λ c. signed-is (c .before .args .v) (omega arith)) returns-2)

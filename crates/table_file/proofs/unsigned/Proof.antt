@@ -5,12 +5,6 @@ use mathlib.Core.Path.{refl}
 use Rattle.table_file.proofs.unsigned.Statement.{statement}
 use Rattle.table_file.proofs.unsigned.Tie as tie
 
-cast-result : tie.Need-cast-result
-cast-result c = widen-fits (c .before .args .x) (c .before .fits .x .sfits)
-
-add-result : tie.Need-add-result
-add-result c = raised-fits (c .before .args .x) (c .before .fits .x) (c .if1 .taken)
-
 cast-result-2 : tie.Need-cast-result-2
 cast-result-2 c =
     rw (raised-held (c .before .args .x) (c .before .fits .x) (c .if1 .taken)) (tt, record { fits = unsigned-below (c .before .args .x) (c .before .fits .x) })
@@ -19,12 +13,6 @@ cast-result-3 : tie.Need-cast-result-3
 cast-result-3 c =
     rw (not-below (c .before .args .x) (c .before .fits .x) (c .if1 .left)) (tt, record { fits = unsigned-below (c .before .args .x) (c .before .fits .x) })
 
-returns : tie.Need-returns
-returns c = rw (raised-held (c .before .args .x) (c .before .fits .x) (c .if1 .taken)) refl
-
-returns-2 : tie.Need-returns-2
-returns-2 c = rw (not-below (c .before .args .x) (c .before .fits .x) (c .if1 .left)) refl
-
 pub unsigned-spec : {M : Type 1} → statement M
 unsigned-spec =
-    tie.close (tie.spec cast-result add-result cast-result-2 cast-result-3 returns returns-2)
+    tie.close (tie.spec (λ c. widen-fits (c .before .args .x) (c .before .fits .x .sfits)) (λ c. raised-fits (c .before .args .x) (c .before .fits .x) (c .if1 .taken)) cast-result-2 cast-result-3 (λ c. rw (raised-held (c .before .args .x) (c .before .fits .x) (c .if1 .taken)) refl) (λ c. rw (not-below (c .before .args .x) (c .before .fits .x) (c .if1 .left)) refl))

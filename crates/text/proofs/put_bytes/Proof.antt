@@ -17,9 +17,6 @@ Inv-loop out₀ at bytes i₀ out i = (i ≤ length bytes) × (length out ≡ le
 abbrev μ-loop : tie.MeasureT-loop
 μ-loop out₀ at bytes i₀ out i = length bytes - i
 
-loop-holds : tie.Need-loop-holds Inv-loop μ-loop
-loop-holds c = (omega arith, refl, refl)
-
 loop-again : tie.Need-loop-again Inv-loop μ-loop
 loop-again c =
     let a = c .before .before .before .args in
@@ -29,9 +26,6 @@ loop-again c =
       ap (λ (m : List ℕ). set m (a .at + l .i) (getD (a .bytes .now) (l .i) 0)) (l .inv .2)
           ∙ sets-next (a .bytes .now) (a .out .now) (a .at) (l .i) 0 (omega arith),
     )
-
-same-length : tie.Need-same-length Inv-loop μ-loop
-same-length c = c .before .loop .inv .1
 
 returns : tie.Need-returns Inv-loop μ-loop
 returns c =
@@ -48,7 +42,7 @@ put-bytes-spec =
     (tie.spec
     Inv-loop
     μ-loop
-    loop-holds
+    (λ c. (omega arith, refl, refl))
     (λ c. omega arith)
     (λ c. omega arith)
     (λ c. omega arith)
@@ -56,5 +50,5 @@ put-bytes-spec =
     (λ c. omega arith)
     loop-again
     (λ c. omega arith)
-    same-length
+    (λ c. c .before .loop .inv .1)
     returns)

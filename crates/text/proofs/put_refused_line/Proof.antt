@@ -8,9 +8,6 @@ use borrow.Author.Needs.{needs}
 use Rattle.text.proofs.put_refused_line.Statement.{statement}
 use Rattle.text.proofs.put_refused_line.Tie as tie
 
-put-bytes-requires : tie.Need-put-bytes-requires
-put-bytes-requires c κs = omega (arith, refused-length (c .before .before .before .args .number))
-
 put-number-then-requires : tie.Need-put-number-then-requires
 put-number-then-requires c κs =
     let b = c .before .before .before in
@@ -32,7 +29,7 @@ put-refused-line-spec =
     tie.close
     (tie.spec
     (λ c. search needs)
-    put-bytes-requires
+    (λ c κs. omega (arith, refused-length (c .before .before .before .args .number)))
     put-number-then-requires
     (λ c. search needs)
     returns)

@@ -30,9 +30,6 @@ module _ (x : ℤ) (r : ℕ) (f : SFits w32 x) (s : r ≡ natAbs (toZ w64 (ofZ w
   positive : ltZ (toZ w32 (ofZ w32 x)) (pos 0) ≡ false → signedDecimal x ≡ decimal r
   positive e = not-below x (rw (element x (f .sfits)) at e) ∙ ap decimal size-is
 
-cast-magnitude : tie.Need-cast-magnitude
-cast-magnitude c = widen-fits (c .before .args .x) (c .before .fits .x .sfits)
-
 slice-write-out : tie.Need-slice-write-out
 slice-write-out c =
     let b = c .before .before .before in
@@ -44,9 +41,6 @@ put-number-requires c κs =
     let b = c .before .before .before .before in
     let m = c .before .before .magnitude in
     simp length-set (omega (arith, ap length (negative (b .args .x) (m .result) (b .fits .x) (m .ensures) (c .before .if1 .taken))))
-
-same-length : tie.Need-same-length
-same-length c = simp length-set at (c .before .before .put-number .kept .0)
 
 returns : tie.Need-returns
 returns c =
@@ -80,12 +74,12 @@ pub put-signed-spec : {M : Type 1} → statement M
 put-signed-spec =
     tie.close
     (tie.spec
-    cast-magnitude
+    (λ c. widen-fits (c .before .args .x) (c .before .fits .x .sfits))
     (λ c κs. search needs)
     slice-write-out
     (λ c. search needs)
     put-number-requires
-    same-length
+    (λ c. simp length-set at (c .before .before .put-number .kept .0))
     returns
     put-number-requires-2
     (λ c. search needs)
