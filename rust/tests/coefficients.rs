@@ -190,28 +190,16 @@ fn wrong_lengths() {
             call.records.resize(length, 7);
             assert_eq!(run(&call), refused(4, 0));
         }
-        let mut call = Call::new(shape, vec![7; entries], [0; 3]);
-        let needed = call.room;
-        for room in [0, 1, needed - 1] {
-            call.room = room;
-            assert_eq!(run(&call), refused(9, 0));
-        }
-        for room in [needed, needed + 1, needed + 217] {
-            call.room = room;
-            assert_eq!(run(&call), Ok(()));
-        }
+        let call = Call::new(shape, vec![7; entries], [0; 3]);
+        check_rooms(&call, |call| &mut call.room, run);
     }
 }
 
 #[test]
 fn wrong_shapes_are_refused() {
     for (axes, degree) in KINDS {
-        for (shape, number, place) in wrong_shapes(axes, degree) {
-            let right = cube(axes, degree, 2);
-            let mut call = Call::new(right, vec![7; right.entries()], [0; 3]);
-            call.shape = shape;
-            assert_eq!(run(&call), refused(number, place), "{shape:?}");
-        }
+        let call_of = |right: Shape| Call::new(right, vec![7; right.entries()], [0; 3]);
+        check_wrong_shapes(axes, degree, call_of, |call| &mut call.shape, run);
     }
 }
 

@@ -218,13 +218,7 @@ fn wrong_lengths() {
             };
             assert_eq!(run(&call), expected);
         }
-        let needed = right.room;
-        for room in [0, needed - 1, needed, needed + 1, needed + 217] {
-            let mut call = right.clone();
-            call.room = room;
-            let expected = if room < needed { refused(9, 0) } else { Ok(()) };
-            assert_eq!(run(&call), expected);
-        }
+        check_rooms(&right, |call| &mut call.room, run);
     }
 }
 

@@ -162,28 +162,16 @@ fn wrong_lengths() {
 fn short_and_long_buffers() {
     for (axes, degree) in KINDS {
         let shape = cube(axes, degree, 3);
-        let mut call = Call::new(shape, Random::new(3).samples(shape.nodes()));
-        let needed = call.room;
-        for room in [0, 1, needed / 2, needed - 1] {
-            call.room = room;
-            assert_eq!(run(&call), refused(9, 0));
-        }
-        for room in [needed, needed + 1, needed + 1000] {
-            call.room = room;
-            assert_eq!(run(&call), Ok(()));
-        }
+        let call = Call::new(shape, Random::new(3).samples(shape.nodes()));
+        check_rooms(&call, |call| &mut call.room, run);
     }
 }
 
 #[test]
 fn wrong_shapes_are_refused() {
     for (axes, degree) in KINDS {
-        for (shape, number, place) in wrong_shapes(axes, degree) {
-            let right = cube(axes, degree, 2);
-            let mut call = Call::new(right, vec![7; right.nodes()]);
-            call.shape = shape;
-            assert_eq!(run(&call), refused(number, place), "{shape:?}");
-        }
+        let call_of = |right: Shape| Call::new(right, vec![7; right.nodes()]);
+        check_wrong_shapes(axes, degree, call_of, |call| &mut call.shape, run);
     }
 }
 

@@ -2,15 +2,16 @@
 ghost use mathlib.Core.Path.{_≡_};
 ghost use mathlib.Core.Bool.{true};
 ghost use Prim.Native.Nat.{ℕ, _+_, _*_, _/_, _%_, _^_, _<_, _≤_};
-ghost use lib.Dec.{ltb};
+ghost use lib.Dec.{leb, ltb, eqb};
 ghost use lib.IntN.{pos, natAbs};
 ghost use lib.Signed.{nonNeg};
 ghost use lib.ListN.{length};
-ghost use Rattle.lattice.specs.Outcome.{firstOf, passed};
+ghost use Rattle.arith.specs.Choice.{pick};
+ghost use Rattle.lattice.specs.Outcome.{refuseUnless, firstOf, passed};
 ghost use Rattle.lattice.specs.Answer.{meaning};
 ghost use Rattle.lattice.specs.Buffer.{at};
 ghost use Rattle.lattice.specs.Shape.{count, orders, entries, size, Shaped};
-ghost use Rattle.cell.specs.Cell.{placeAt, indexOutcome, cellOutcome, cornersOutcome, Accepted, Laid, Small, startOf, limitOf, limitIn, Limits, recordOutcome};
+ghost use Rattle.cell.specs.Cell.{placeAt, cellOutcome, cornersOutcome, Accepted, Laid, Small, startOf, limitOf, limitIn, Limits, recordOutcome};
 use lattice::Answer;
 use lattice::Shape;
 
@@ -83,14 +84,12 @@ const LIMITS: [[i32; 27]; 2] = [
     ],
 ];
 
-fn check_index(s: Shape, index: u32, axis: u32) -> Answer
-    requires { ⌜ axis < 3 ⌝ }
-    ensures { λ r. ⌜ meaning r ≡ indexOutcome s index axis ⌝ }
+fn check_index(n: u32, count: u32, index: u32, axis: u32) -> Answer
+    ensures { λ r. ⌜ meaning r ≡ refuseUnless (pick (ltb axis n) (leb (index + 2) count) (eqb index 0)) 14 axis ⌝ }
 {
     let a = axis as usize;
-    let count = s.counts[a] as usize;
-    if axis < s.axes {
-        lattice::refuse_unless(index as usize + 2 <= count, 14, a)
+    if axis < n {
+        lattice::refuse_unless(index as usize + 2 <= count as usize, 14, a)
     } else {
         lattice::refuse_unless(index == 0, 14, a)
     }
@@ -100,9 +99,9 @@ fn check_index(s: Shape, index: u32, axis: u32) -> Answer
 pub fn check_cell(s: Shape, cell: [u32; 3]) -> Answer
     ensures { λ r. ⌜ meaning r ≡ cellOutcome s (placeAt cell) ⌝ }
 {
-    let x = check_index(s, cell[0], 0);
-    let y = check_index(s, cell[1], 1);
-    let z = check_index(s, cell[2], 2);
+    let x = check_index(s.axes, s.counts[0], cell[0], 0);
+    let y = check_index(s.axes, s.counts[1], cell[1], 1);
+    let z = check_index(s.axes, s.counts[2], cell[2], 2);
     lattice::earlier(lattice::earlier(x, y), z)
 }
 

@@ -8,8 +8,8 @@ pub type Run<'a> = Box<dyn FnMut() -> i64 + 'a>;
 
 // A round lasts at least so long for each run; there are rounds until their number or time is out.
 const ROUND: Duration = Duration::from_micros(300);
-const ROUNDS: usize = 200;
-const TIME: Duration = Duration::from_secs(2);
+const ROUNDS: usize = 600;
+const TIME: Duration = Duration::from_secs(3);
 
 // Nanoseconds a call: the best of many rounds, in which all runs take turns, each after one run
 // that brings its data back into the caches.

@@ -250,6 +250,39 @@ pub fn check_faults<C: Clone>(
     }
 }
 
+// Refusal 9 in rooms below the call's own, none in larger ones.
+#[track_caller]
+pub fn check_rooms<C: Clone>(
+    call: &C,
+    room_of: fn(&mut C) -> &mut usize,
+    run: impl Fn(&C) -> model::Answer<()>,
+) {
+    let needed = *room_of(&mut call.clone());
+    let rooms = [0, 1, needed / 2, needed - 1, needed, needed + 1];
+    for room in rooms.into_iter().chain([needed + 217, needed + 1000]) {
+        let mut other = call.clone();
+        *room_of(&mut other) = room;
+        let expected = if room < needed { refused(9, 0) } else { Ok(()) };
+        assert_eq!(run(&other), expected, "room {room}");
+    }
+}
+
+// The refusal of each wrong shape in a call that is right for the cube of two nodes an axis.
+#[track_caller]
+pub fn check_wrong_shapes<C: Clone>(
+    axes: u32,
+    degree: u32,
+    call_of: impl Fn(Shape) -> C,
+    shape_of: fn(&mut C) -> &mut Shape,
+    run: impl Fn(&C) -> model::Answer<()>,
+) {
+    for (shape, number, place) in wrong_shapes(axes, degree) {
+        let mut call = call_of(cube(axes, degree, 2));
+        *shape_of(&mut call) = shape;
+        assert_eq!(run(&call), refused(number, place), "{shape:?}");
+    }
+}
+
 // The faults of a shape in order: 1, 2, 3 on each axis.
 pub fn shape_faults<C: 'static>(shape_of: fn(&mut C) -> &mut Shape, axes: u32) -> Vec<Fault<C>> {
     let mut faults = vec![
