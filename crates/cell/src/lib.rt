@@ -87,12 +87,8 @@ const LIMITS: [[i32; 27]; 2] = [
 fn check_index(n: u32, count: u32, index: u32, axis: u32) -> Answer
     ensures { λ r. ⌜ meaning r ≡ refuseUnless (pick (ltb axis n) (leb (index + 2) count) (eqb index 0)) 14 axis ⌝ }
 {
-    let a = axis as usize;
-    if axis < n {
-        lattice::refuse_unless(index as usize + 2 <= count as usize, 14, a)
-    } else {
-        lattice::refuse_unless(index == 0, 14, a)
-    }
+    let inside = index as usize + 2 <= count as usize;
+    lattice::refuse_on_axis(n, axis, inside, index == 0, 14)
 }
 
 // Refusal 14.

@@ -2,7 +2,9 @@
 ghost use mathlib.Core.Path.{_≡_};
 ghost use mathlib.Core.List.{[], _∷_};
 ghost use Prim.Native.Nat.{_<_};
+ghost use lib.Dec.{ltb};
 ghost use lib.ListN.{getD};
+ghost use Rattle.arith.specs.Choice.{pick};
 ghost use Rattle.lattice.specs.Outcome.{refuseUnless, first};
 ghost use Rattle.lattice.specs.Answer.{meaning};
 ghost use Rattle.lattice.specs.Shape.{axesOutcome, degreeOutcome, countAllowed, countsOutcome, shapeOutcome, ordersOf, entries, nodes, size, Shaped};
@@ -71,15 +73,22 @@ pub fn check_degree(degree: u32) -> Answer
     refuse_unless(degree == 3 || degree == 5, 2, 0)
 }
 
-fn check_count(n: u32, count: u32, axis: u32) -> Answer
-    ensures { λ r. ⌜ meaning r ≡ refuseUnless (countAllowed n count axis) 3 axis ⌝ }
+// A refusal on an axis, by one test where the axis is used and by another where it is not.
+pub fn refuse_on_axis(n: u32, axis: u32, used: bool, unused: bool, number: u32) -> Answer
+    ensures { λ r. ⌜ meaning r ≡ refuseUnless (pick (ltb axis n) used unused) number axis ⌝ }
 {
     let place = axis as usize;
     if axis < n {
-        refuse_unless(2 <= count && count <= 64, 3, place)
+        refuse_unless(used, number, place)
     } else {
-        refuse_unless(count == 1, 3, place)
+        refuse_unless(unused, number, place)
     }
+}
+
+fn check_count(n: u32, count: u32, axis: u32) -> Answer
+    ensures { λ r. ⌜ meaning r ≡ refuseUnless (countAllowed n count axis) 3 axis ⌝ }
+{
+    refuse_on_axis(n, axis, 2 <= count && count <= 64, count == 1, 3)
 }
 
 // Refusal 3.

@@ -59,25 +59,19 @@ pub fn check_asked(s: Shape, given: usize, slope_axis: SlopeAxis) -> Answer
     lattice::earlier(long, check_slope(s, slope_axis))
 }
 
-fn check_step(s: Shape, step: u32, axis: u32) -> Answer
-    requires { ⌜ axis < 3 ⌝ }
-    ensures { λ r. ⌜ meaning r ≡ refuseUnless (pick (ltb axis (s .axes)) (leb step steps) (eqb step 0)) 11 axis ⌝ }
+fn check_step(n: u32, step: u32, axis: u32) -> Answer
+    ensures { λ r. ⌜ meaning r ≡ refuseUnless (pick (ltb axis n) (leb step steps) (eqb step 0)) 11 axis ⌝ }
 {
-    let a = axis as usize;
-    if axis < s.axes {
-        lattice::refuse_unless(step <= 256, 11, a)
-    } else {
-        lattice::refuse_unless(step == 0, 11, a)
-    }
+    lattice::refuse_on_axis(n, axis, step <= 256, step == 0, 11)
 }
 
 // Refusal 11 of an in-cell step.
 fn check_steps(s: Shape, step: [u32; 3]) -> Answer
     ensures { λ r. ⌜ meaning r ≡ stepsOutcome s (placeAt step) ⌝ }
 {
-    let x = check_step(s, step[0], 0);
-    let y = check_step(s, step[1], 1);
-    let z = check_step(s, step[2], 2);
+    let x = check_step(s.axes, step[0], 0);
+    let y = check_step(s.axes, step[1], 1);
+    let z = check_step(s.axes, step[2], 2);
     lattice::earlier(lattice::earlier(x, y), z)
 }
 
