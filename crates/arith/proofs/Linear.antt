@@ -9,7 +9,7 @@ use lib.Signed.{_≤ℤ_, _<ℤ_}
 use Rattle.arith.proofs.Laws.{+ℤ-swap4}
 use Rattle.arith.proofs.Ring.{E, var, con, _⊞_, _⊠_, ⊟_, _↑_, den, nth}
 use Rattle.arith.specs.Int.{_^ℤ_}
-use Rattle.arith.proofs.Quote.{Quoted, quotes, ring!}
+use Rattle.arith.proofs.Quote.{Quoted, quotes, ring! }
 use Rattle.arith.proofs.Order.{subℕ-pos, le-elim, le-intro, lt-elim, lt-intro, pos-inj}
 
 -- the two parts of a number: x = pz x − nz x, one of them 0

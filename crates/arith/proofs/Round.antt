@@ -10,7 +10,7 @@ use lib.Signed.{_≤ℤ_, _<ℤ_, ltZ-yes}
 use lib.Dec.{ltb→lt, lt→ltb}
 use Rattle.arith.specs.Int.{_^ℤ_, floorDiv, roundHalfUp, Rounding}
 use Rattle.arith.proofs.Laws.{*ℤ-negℤ}
-use Rattle.arith.proofs.Quote.{quotes, ring!}
+use Rattle.arith.proofs.Quote.{quotes, ring! }
 use Rattle.arith.proofs.Order.{le-elim, le-intro, pos-inj, ≤ℤ-total, <ℤ→≤ℤ}
 use Rattle.arith.proofs.Abs.{abs-mul, abs-add, abs≤}
 use Rattle.arith.proofs.Linear.{eq→ℕ, le→ℕ, lt→ℕ, ℕ→le, ℕ→lt}

@@ -10,7 +10,7 @@ use Rattle.arith.specs.Sum.{sum, total}
 use Rattle.arith.proofs.Laws.{+ℤ-swap4, +ℤ-*ℤ, *ℤ-+ℤ}
 use Rattle.arith.proofs.Abs.{abs-add, abs-mul}
 use Rattle.arith.proofs.Choices.{by-m}
-use Rattle.arith.proofs.Quote.{quotes, ring!}
+use Rattle.arith.proofs.Quote.{quotes, ring! }
 
 -- ---- sums of integers
 

@@ -10,7 +10,7 @@ use Rattle.arith.specs.Int.{Rounding}
 use Rattle.arith.specs.Sum.{sum, times}
 use Rattle.arith.proofs.Abs.{abs-mul, abs-add}
 use Rattle.arith.proofs.Choices.{by-n}
-use Rattle.arith.proofs.Quote.{quotes, ring!}
+use Rattle.arith.proofs.Quote.{quotes, ring! }
 use Rattle.arith.proofs.Round.{Nearly}
 use Rattle.lattice.specs.Axes.{Place, Field, Rule, origin, put, along, sweep, axes}
 use Rattle.lattice.proofs.Along.{Linear, linear-size, Each, each-axes, each-without, last-first, times-order, length-order, length-axes}

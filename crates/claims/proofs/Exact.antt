@@ -5,7 +5,7 @@ use Prim.Native.Nat.{ℕ, _*_, _<_}
 use lib.IntN.{ℤ, _*ℤ_}
 use Rattle.arith.specs.Sum.{sum, product}
 use Rattle.arith.proofs.Laws.{*ℤ-assoc, *ℤ-pos-one}
-use Rattle.arith.proofs.Quote.{quotes, ring!}
+use Rattle.arith.proofs.Quote.{quotes, ring! }
 use Rattle.arith.proofs.Sums.{sum-ext, sum-right}
 use Rattle.lattice.specs.Axes.{Place, Field, Rule, origin, put, along, sweep, axes, without}
 use Rattle.lattice.proofs.Along.{put-at, put-off, Fresh, Distinct, distinct-axes, sweep-fuse, Reordered, sweep-order, last-first}

@@ -5,7 +5,7 @@ use Prim.Native.Nat.{ℕ, _+_, _≤_}
 use lib.Dec.{le→leb}
 use lib.IntN.{ℤ, pos, _+ℤ_, _-ℤ_}
 use lib.Signed.{_≤ℤ_, leZ-yes}
-use Rattle.arith.proofs.Quote.{quotes, ring!}
+use Rattle.arith.proofs.Quote.{quotes, ring! }
 
 pub less : (c u : ℕ) → pos (c + u) -ℤ pos c ≡ pos u
 less c u = go (pos c) (pos u)

@@ -7,7 +7,7 @@ use lib.Dec.{T, leb, leb→le}
 use lib.IntN.{ℤ, pos, _-ℤ_, _*ℤ_, natAbs}
 use Rattle.arith.specs.Sum.{sum}
 use Rattle.arith.proofs.Choices.{by-m, all, all-at, by-order, by-2}
-use Rattle.arith.proofs.Quote.{quotes, ring!}
+use Rattle.arith.proofs.Quote.{quotes, ring! }
 use Rattle.lattice.specs.Buffer.{at}
 use Rattle.hermite.specs.Hermite.{multiplier, solved}
 use Rattle.coefficients.specs.Blocks.{tabled, Modest, Forth, Back}

@@ -10,7 +10,7 @@ use lib.Dec.{ltb, lit≤}
 use lib.IntN.{ℤ, pos, negsuc, _+ℤ_, _*ℤ_, natAbs}
 use borrow.Author.Tests.{ltb-true}
 use Rattle.arith.proofs.Choices.{on-pick}
-use Rattle.arith.proofs.Quote.{quotes, ring!}
+use Rattle.arith.proofs.Quote.{quotes, ring! }
 use Rattle.arith.proofs.Sums.{total-ext}
 use Rattle.arith.specs.Sum.{sum, total}
 use Rattle.lattice.proofs.Along.{put-off, each-axes, Linear, linear-size, distinct-axes, Reordered, sweep-order}

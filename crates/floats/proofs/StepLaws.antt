@@ -15,7 +15,7 @@ use lib.Ieee.Positive.{den, den-pos}
 use borrow.Author.Tests.{leb-true}
 use Rattle.arith.specs.Int.{roundHalfUp}
 use Rattle.arith.proofs.Abs.{abs-neg}
-use Rattle.arith.proofs.Quote.{quotes, ring!}
+use Rattle.arith.proofs.Quote.{quotes, ring! }
 use Rattle.arith.proofs.Linear.{ℕ→le}
 use Rattle.arith.proofs.Round.{Nearest, round-near, round-unique, round-exact, round-mono, round-same}
 use Rattle.floats.specs.Step.{signed, numerator, step, clamped}

@@ -9,7 +9,7 @@ use borrow.Author.Tests.{lt-ltb, le-ltb}
 use lib.Dec.{ltb, eqb, lit≤}
 use lib.IntN.{ℤ, pos, _*ℤ_, natAbs}
 use Rattle.arith.proofs.Choices.{pick-true, pick-false, by-order, by-place, by-count}
-use Rattle.arith.proofs.Quote.{quotes, ring!}
+use Rattle.arith.proofs.Quote.{quotes, ring! }
 use Rattle.arith.proofs.Sums.{sum-ext, graded-sum}
 use Rattle.arith.specs.Choice.{pick}
 use Rattle.arith.specs.Sum.{sum, total}

@@ -9,7 +9,7 @@ use native.Mathlib.Decide.{decLt}
 use lib.IntN.{ℤ, pos, _+ℤ_, _-ℤ_, _*ℤ_, zero-*ℤ, *ℤ-zero, +ℤ-idl, +ℤ-idr}
 use Rattle.arith.proofs.Choices.{by-m, by-order}
 use Rattle.arith.proofs.Laws.{*ℤ-pos-one}
-use Rattle.arith.proofs.Quote.{quotes, ring!}
+use Rattle.arith.proofs.Quote.{quotes, ring! }
 use Rattle.arith.proofs.Sums.{sum-ext, sum-zero, sum-first, sum-ends}
 use Rattle.arith.specs.Choice.{pick}
 use Rattle.arith.specs.Int.{_^ℤ_}

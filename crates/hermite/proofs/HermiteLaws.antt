@@ -8,7 +8,7 @@ use lib.IntN.{ℤ, pos, negsuc, negℤ, _+ℤ_, _-ℤ_, _*ℤ_, *ℤ-comm, zero-
 use Rattle.arith.proofs.Abs.{abs-neg}
 use Rattle.arith.proofs.Choices.{pick-true, pick-false}
 use Rattle.arith.proofs.Laws.{negℤ-*ℤ, *ℤ-negℤ, *ℤ-left-comm}
-use Rattle.arith.proofs.Quote.{quotes, ring!}
+use Rattle.arith.proofs.Quote.{quotes, ring! }
 use Rattle.arith.proofs.Sums.{sum-ext, sum-left, sum-right, sum-swap, sum-zero, sum-neg, sum-ends, sum-halves}
 use Rattle.arith.specs.Int.{_^ℤ_}
 use Rattle.arith.specs.Sum.{sum}

@@ -10,7 +10,7 @@ use native.Mathlib.Decide.{decLe}
 use lib.IntN.{ℤ, pos, negℤ, _+ℤ_, _-ℤ_, _*ℤ_, natAbs}
 use Rattle.arith.proofs.Abs.{abs-mul, abs-add, abs-neg}
 use Rattle.arith.proofs.Choices.{by-m}
-use Rattle.arith.proofs.Quote.{quotes, ring!}
+use Rattle.arith.proofs.Quote.{quotes, ring! }
 use Rattle.arith.proofs.Sums.{abs-sum, total-ext, total-mono, total-ends}
 use Rattle.arith.specs.Int.{_^ℤ_}
 use Rattle.arith.specs.Sum.{sum, total}

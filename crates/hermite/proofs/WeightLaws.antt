@@ -13,7 +13,7 @@ use mir.Val.{SFits}
 use mir.Facts.{toZ-ofZ}
 use Rattle.arith.specs.Int.{_^ℤ_}
 use Rattle.arith.proofs.Abs.{abs-mul-le, abs-minus}
-use Rattle.arith.proofs.Quote.{quotes, ring!}
+use Rattle.arith.proofs.Quote.{quotes, ring! }
 use Rattle.lattice.specs.Buffer.{at}
 use Rattle.hermite.specs.Hermite.{Kind, value, slope, kindOf, weight}
 use Rattle.arith.proofs.Choices.{by-3}

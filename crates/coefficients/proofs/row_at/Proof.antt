@@ -7,7 +7,7 @@ use borrow.Author.Needs.{sfits-of}
 use lib.Dec.{lit<}
 use Rattle.arith.specs.Sum.{sum}
 use Rattle.arith.proofs.Choices.{by-m, by-3}
-use Rattle.arith.proofs.Quote.{quotes, ring!}
+use Rattle.arith.proofs.Quote.{quotes, ring! }
 use Rattle.lattice.specs.Buffer.{at}
 use Rattle.coefficients.specs.Blocks.{tabled, Modest, Within}
 use Rattle.arith.proofs.Machine.{kept, kept-low}
