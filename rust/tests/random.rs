@@ -100,9 +100,9 @@ fn random_point(random: &mut Random, shape: Shape) -> Where {
             }
             Where::Cell(cell, u)
         }
-        // A float within a half step of the step.
+        // A float within a half step of the step; the sum is exact up to the last step of 64 nodes.
         _ => Where::Float(steps.map(|step| {
-            let part = random.range(-2047, 2047) as f32 / 4096.0;
+            let part = random.range(-511, 511) as f32 / 1024.0;
             (step as f32 + part) / 256.0
         })),
     }
