@@ -2,6 +2,5 @@ pub mod AnswerLaws
 pub mod EndLaws
 pub mod Sizes
 pub mod ByIndex
-pub mod Filling
 pub mod Order
 pub mod Answering

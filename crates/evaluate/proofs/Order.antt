@@ -3,7 +3,7 @@ use mathlib.Core.Path.{_≡_, refl, sym, ap, subst, _∙_}
 use mathlib.Core.Bool.{Bool, true, false}
 use mathlib.Core.List.{List, [], _∷_}
 use Prim.Native.Nat.{ℕ, zero, suc, _+_, _*_, _-_, _^_, _≤_, _<_}
-use native.Mathlib.Nat.{pow-zero}
+use native.Mathlib.Nat.{pow-zero, le-trans, le-of-eq}
 use native.Mathlib.Omega.{arith}
 use native.Mathlib.Decide.{ℕ-discrete, decLt}
 use lib.Dec.{ltb, eqb}
@@ -17,16 +17,18 @@ use Rattle.lattice.specs.Buffer.{at}
 use Rattle.lattice.specs.Axes.{axes, without}
 use Rattle.lattice.proofs.ShapeLaws.{pow-one, pow-two}
 use Rattle.hermite.specs.Stage.{steps}
+use Rattle.hermite.specs.declared.Basis.{Basis}
 use Rattle.evaluate.specs.declared.Axis.{Axis}
 use Rattle.evaluate.specs.declared.Strides.{Strides}
+use Rattle.hermite.specs.Stage.{load}
 use Rattle.evaluate.specs.Stages.{offsetBy, offsetOf, after, numbersAt, endsOf, also, firstAxis, middleAxis, AllPrepared, Safe, Made, AllSteps, Workable, WorkedOff}
-use Rattle.evaluate.proofs.EndLaws.{offset-low, offset-high, number-at, number-none}
+use Rattle.evaluate.proofs.EndLaws.{offset-low, offset-high, number-at, number-none, safe-low, safe-high, load-same}
 
 pub apart : {A : Type 0} (b : Bool) → b ≡ true → b ≡ false → A
 apart true e k = let z : _≡_ {A = ℕ} 0 1 = cc in absurd (omega arith)
 apart false e k = let z : _≡_ {A = ℕ} 0 1 = cc in absurd (omega arith)
 
--- ---- where the numbers of the last stage stand
+-- ---- where the numbers of a stage stand
 
 no-fourth : {A : Type 0} (t : ℕ) → suc (suc (suc (suc t))) < 4 → A
 no-fourth t l = absurd (none t l)
@@ -91,22 +93,17 @@ module _ (near far : ℕ) where
       all : Stand 3 true near far (0 ∷ near ∷ 2 * near ∷ far ∷ (far + near) ∷ (far + 2 * near) ∷ []) 6
       all = (refl, quintic)
 
--- ---- the numbers of the last stage, held one after the other
-
--- the numbers of one end, from k on
-pub end-numbers : (m k : ℕ) (xs : List ℤ) (a b c : ℤ) → 2 ≤ m → a ≡ at xs k → b ≡ at xs (k + 1) → c ≡ pick (ltb 2 m) (at xs (k + 2)) (pos 0)
-    → (o : ℕ) → o < 3 → at (a ∷ b ∷ c ∷ []) o ≡ pick (ltb o m) (at xs (k + o)) (pos 0)
-end-numbers m k xs a b c h ea eb ec zero l = ea ∙ ap (at xs) (omega arith) ∙ sym (pick-true (ltb 0 m) (at xs (k + 0)) (pos 0) (lt-ltb 0 m (omega arith)))
-end-numbers m k xs a b c h ea eb ec (suc zero) l = eb ∙ sym (pick-true (ltb 1 m) (at xs (k + 1)) (pos 0) (lt-ltb 1 m (omega arith)))
-end-numbers m k xs a b c h ea eb ec (suc (suc zero)) l = ec
-end-numbers m k xs a b c h ea eb ec (suc (suc (suc o))) l = absurd (none o l)
-  where
-    none : (o : ℕ) → suc (suc (suc o)) < 3 → ⊥
-    none o l = omega arith
+-- ---- the numbers of a stage, held one after the other
 
 -- g of the first t places
 abbrev pub Held : ℕ → Bool → Axis → (ℕ → ℤ) → ℕ → List ℤ → ℕ → Type 0
 Held m three z g p xs t = (j : ℕ) → j < t → at xs j ≡ g (p + pick three (offsetOf m z j) 0)
+
+pub held-none : {A : Type 0} (j : ℕ) → j < 0 → A
+held-none j l = absurd (none j l)
+  where
+    none : (j : ℕ) → j < 0 → ⊥
+    none j l = omega arith
 
 -- never more than six
 pub ends-few : (m : ℕ) (three : Bool) → m ≤ 3 → endsOf m three ≤ 6
@@ -131,7 +128,7 @@ module _ (m : ℕ) (z : Axis) (g : ℕ → ℤ) (p : ℕ) (xs : List ℤ) (t : �
   held-two true e l h j k = apart true refl e
   held-two false e l h j k = h j (omega arith)
 
-  pub held-three : (three : Bool) → three ≡ true → endsOf m three ≤ t → Held m three z g p xs t → Held m true z g p xs (2 * m)
+  pub held-three : (three : Bool) → three ≡ true → endsOf m three ≤ t → Held m three z g p xs t → (j : ℕ) → j < 2 * m → at xs j ≡ g (p + offsetOf m z j)
   unfolding endsOf pick
   held-three true e l h j k = h j (omega arith)
   held-three false e l h j k = apart false e refl
@@ -159,48 +156,72 @@ module _ (m n : ℕ) (z : Axis) (xs : List Axis) (g : ℕ → ℤ) (p : ℕ) whe
       nothing : (p : ℕ) → p + 0 ≡ p
       nothing p = omega arith
 
-  -- of three, the ends of the last
-  module _ (ys : List ℤ) (h : Held m true z (after m xs g) p ys (2 * m)) (end : ℕ → ℤ) where
-    pub held-low : ((o : ℕ) → o < 3 → end o ≡ pick (ltb o m) (at ys (0 + o)) (pos 0)) → (o : ℕ) → o < 3 → end o ≡ numbersAt m (after m xs g) p (z .near) o
-    unfolding pick
-    held-low e o l = e o l ∙ go (decLt o m)
-      where
-        twice : (m o : ℕ) → o < m → o < 2 * m
-        twice m o k = omega arith
+-- all numbers of a stage
+module _ (m : ℕ) (z : Axis) (g : ℕ → ℤ) (p : ℕ) (ys : List ℤ) (h : (t : ℕ) → t < 2 * m → at ys t ≡ g (p + offsetOf m z t)) where
+  pub row-low : (o : ℕ) → o < 3 → numbersAt m (at ys) 0 1 o ≡ numbersAt m g p (z .near) o
+  row-low o l = go (decLt o m)
+    where
+      go : Dec (o < m) → numbersAt m (at ys) 0 1 o ≡ numbersAt m g p (z .near) o
+      go (yes k) =
+          number-at m (at ys) 0 1 o k ∙ ap (at ys) (omega arith) ∙ h o (omega (arith, k)) ∙ ap (λ (i : ℕ). g (p + i)) (offset-low m z o k)
+          ∙ sym (number-at m g p (z .near) o k)
+      go (no k) = number-none m (at ys) 0 1 o (omega (arith, k)) ∙ sym (number-none m g p (z .near) o (omega (arith, k)))
 
-        go : Dec (o < m) → pick (ltb o m) (at ys (0 + o)) (pos 0) ≡ numbersAt m (after m xs g) p (z .near) o
-        go (yes k) =
-            pick-true (ltb o m) (at ys (0 + o)) (pos 0) (lt-ltb o m k) ∙ ap (at ys) (omega arith) ∙ h o (twice m o k)
-            ∙ ap (λ (i : ℕ). after m xs g (p + i)) (offset-low m z o k) ∙ sym (number-at m (after m xs g) p (z .near) o k)
-        go (no k) = pick-false (ltb o m) (at ys (0 + o)) (pos 0) (le-ltb o m (omega (arith, k))) ∙ sym (number-none m (after m xs g) p (z .near) o (omega (arith, k)))
+  pub row-high : (o : ℕ) → o < 3 → numbersAt m (at ys) m 1 o ≡ numbersAt m g (p + z .far) (z .near) o
+  row-high o l = go (decLt o m)
+    where
+      assoc : (p f k : ℕ) → p + (f + k) ≡ p + f + k
+      assoc p f k = omega arith
 
-    pub held-high : ((o : ℕ) → o < 3 → end o ≡ pick (ltb o m) (at ys (m + o)) (pos 0)) → (o : ℕ) → o < 3 → end o ≡ numbersAt m (after m xs g) (p + z .far) (z .near) o
-    unfolding pick
-    held-high e o l = e o l ∙ go (decLt o m)
-      where
-        twice : (m o : ℕ) → o < m → m + o < 2 * m
-        twice m o k = omega arith
+      go : Dec (o < m) → numbersAt m (at ys) m 1 o ≡ numbersAt m g (p + z .far) (z .near) o
+      go (yes k) =
+          number-at m (at ys) m 1 o k ∙ ap (at ys) (omega arith) ∙ h (m + o) (omega (arith, k))
+          ∙ ap g (ap (λ (i : ℕ). p + i) (offset-high m z o k) ∙ assoc p (z .far) (o * z .near)) ∙ sym (number-at m g (p + z .far) (z .near) o k)
+      go (no k) = number-none m (at ys) m 1 o (omega (arith, k)) ∙ sym (number-none m g (p + z .far) (z .near) o (omega (arith, k)))
 
-        assoc : (p f k : ℕ) → p + (f + k) ≡ p + f + k
-        assoc p f k = omega arith
+  pub row-load : (b : Basis) → load b (numbersAt m g p (z .near)) (numbersAt m g (p + z .far) (z .near)) ≤ 2 ^ 63 - 2 ^ 45
+      → load b (numbersAt m (at ys) 0 1) (numbersAt m (at ys) m 1) ≤ 2 ^ 63 - 2 ^ 45
+  row-load b s =
+      le-trans (le-of-eq (load-same b (numbersAt m (at ys) 0 1) (numbersAt m (at ys) m 1) (numbersAt m g p (z .near)) (numbersAt m g (p + z .far) (z .near)) row-low row-high)) s
 
-        go : Dec (o < m) → pick (ltb o m) (at ys (m + o)) (pos 0) ≡ numbersAt m (after m xs g) (p + z .far) (z .near) o
-        go (yes k) =
-            pick-true (ltb o m) (at ys (m + o)) (pos 0) (lt-ltb o m k) ∙ h (m + o) (twice m o k)
-            ∙ ap (after m xs g) (ap (λ (i : ℕ). p + i) (offset-high m z o k) ∙ assoc p (z .far) (o * z .near)) ∙ sym (number-at m (after m xs g) (p + z .far) (z .near) o k)
-        go (no k) = pick-false (ltb o m) (at ys (m + o)) (pos 0) (le-ltb o m (omega (arith, k))) ∙ sym (number-none m (after m xs g) (p + z .far) (z .near) o (omega (arith, k)))
+-- what is safe is an index of the records
+pub safe-index : (m n : ℕ) (xs : List Axis) (g : ℕ → ℤ) (p : ℕ) → 2 ≤ m → Safe m n xs g p → p < n
+safe-index m n [] g p h s = s
+safe-index m n (x ∷ xs) g p h s = safe-index m n xs g p h (subst (Safe m n xs g) (nothing p (x .near)) (safe-low m n x xs g p s 0 (omega arith)))
+  where
+    nothing : (p k : ℕ) → p + 0 * k ≡ p
+    nothing p k = omega arith
+
+-- a turn of the loop that fills them, number t standing i from the first
+pub record Turn (m n : ℕ) (three : Bool) (z : Axis) (xs : List Axis) (g : ℕ → ℤ) (p i t : ℕ) : Type 0 where
+  pub few : t < 6
+  pub safe : Safe m n xs g (p + i)
+  pub index : p + i < n
+  pub held : (ys : List ℤ) (v : ℤ) → length ys ≡ 6 → Held m three z (after m xs g) p ys t → v ≡ after m xs g (p + i) → Held m three z (after m xs g) p (set ys t v) (t + 1)
+
+module _ (m n : ℕ) (three : Bool) (z : Axis) (xs : List Axis) (g : ℕ → ℤ) (p : ℕ) (m2 : 2 ≤ m) (m3 : m ≤ 3) (safe : Safe m n (also three z xs) g p) where
+  pub reach : three ≡ true → (z .near < n) × (z .far + z .near < n)
+  reach e =
+      let s = subst (λ (b : Bool). Safe m n (also b z xs) g p) e safe in
+      let h = safe-index m n xs g (p + 1 * z .near) m2 (safe-low m n z xs g p s 1 (omega arith)) in
+      let k = safe-index m n xs g (p + z .far + 1 * z .near) m2 (safe-high m n z xs g p s 1 (omega arith)) in
+      (omega arith, omega arith)
+
+  pub turn : (place : List ℕ) (count : ℕ) → Stand m three (z .near) (z .far) place count → (t : ℕ) → t < count → Turn m n three z xs g p (getD place t 0) t
+  turn place count stand t l = let s = safe-at m n z xs g p three safe t below in record {
+    few = let h = ends-few m three m3 in let k = below in omega arith;
+    safe = subst (λ (i : ℕ). Safe m n xs g (p + i)) (sym is) s;
+    index = subst (λ (i : ℕ). p + i < n) (sym is) (safe-index m n xs g (p + pick three (offsetOf m z t) 0) m2 s);
+    held = λ ys v e h k. held-more m three z (after m xs g) p ys t v e (let h = ends-few m three m3 in let k = below in omega arith) h (k ∙ ap (λ (i : ℕ). after m xs g (p + i)) is);
+  }
+    where
+      below : t < endsOf m three
+      below = subst (λ (k : ℕ). t < k) (stand .0) l
+
+      is : getD place t 0 ≡ pick three (offsetOf m z t) 0
+      is = stand .1 t below
 
 -- ---- the axes in their working order
-
--- powers read from an array
-pub power-at : (m a : ℕ) → a < 3 → getD {A = ℕ} (1 ∷ m ∷ m * m ∷ []) a 0 ≡ m ^ a
-power-at m zero l = sym (pow-zero m)
-power-at m (suc zero) l = sym (pow-one m)
-power-at m (suc (suc zero)) l = sym (pow-two m)
-power-at m (suc (suc (suc a))) l = absurd (none a l)
-  where
-    none : (a : ℕ) → suc (suc (suc a)) < 3 → ⊥
-    none a l = omega arith
 
 -- the axes before the last, the last of them first
 pub axes-before : (n a : ℕ) → 2 ≤ n → n ≤ 3 → a < n → without a (axes n) ≡ also (eqb n 3) (middleAxis a) (firstAxis a ∷ [])
@@ -258,3 +279,11 @@ module _ (m : ℕ) (slope : Bool) (a b c : Strides) (n : ℕ) (g : ℕ → ℤ) 
     worked-off true between r e = record { last = z; others = y ∷ x ∷ []; made-last = made-z; made = (between .0 refl, (made-x, tt)); is = e }
     worked-off false between r e =
         record { last = z; others = x ∷ []; made-last = made-z; made = (made-x, tt); is = e ∙ ap (λ (v : Axis). after m (v ∷ x ∷ []) g p) (between .1 refl) }
+
+-- with m and the kind as constants
+module _ (a : Strides) (rest : List Strides) (g : ℕ → ℤ) (p : ℕ) (m k : ℕ) (slope b : Bool) (em : m ≡ k) (eb : slope ≡ b) where
+  pub workable-as : (n : ℕ) → Workable m slope a rest n g p → Workable k b a rest n g p
+  workable-as n w = subst (λ (i : ℕ). Workable i b a rest n g p) em (subst (λ (v : Bool). Workable m v a rest n g p) eb w)
+
+  pub worked-off-as : (r : ℤ) → WorkedOff k b a rest g p r → WorkedOff m slope a rest g p r
+  worked-off-as r w = subst (λ (v : Bool). WorkedOff m v a rest g p r) (sym eb) (subst (λ (i : ℕ). WorkedOff i b a rest g p r) (sym em) w)

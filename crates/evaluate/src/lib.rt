@@ -3,18 +3,17 @@ ghost use mathlib.Core.Path.{_≡_};
 ghost use mathlib.Core.List.{[], _∷_};
 ghost use mathlib.Core.Bool.{true, false};
 ghost use Prim.Native.Nat.{ℕ, _+_, _*_, _-_, _^_, _<_, _≤_};
-ghost use lib.Dec.{ltb};
-ghost use lib.IntN.{pos};
+ghost use lib.IntN.{ℤ};
 ghost use lib.ListN.{length, getD};
 ghost use Rattle.arith.specs.Choice.{pick};
 ghost use Rattle.lattice.specs.Buffer.{at};
 ghost use Rattle.lattice.specs.Records.{recordsField};
-ghost use Rattle.hermite.specs.Stage.{steps};
+ghost use Rattle.hermite.specs.Stage.{steps, load};
 ghost use Rattle.cell.specs.Cell.{placeAt};
 ghost use Rattle.hermite.specs.Hermite.{kindOf};
 ghost use Rattle.evaluate.specs.Evaluate.{answer, askAt, kindOn, lastAxis};
 ghost use Rattle.evaluate.specs.Wants.{wanted};
-ghost use Rattle.evaluate.specs.Stages.{after, numbersAt, offsetBy, endsOf, also, stridesOf, firstAxis, middleAxis, Made, AllPrepared, Safe, Workable, WorkedOff, Ready};
+ghost use Rattle.evaluate.specs.Stages.{worked, after, numbersAt, offsetBy, endsOf, also, stridesOf, firstAxis, middleAxis, Made, Prepared, AllPrepared, Safe, Workable, WorkedOff, Ready};
 use cell::Layout;
 use hermite::Basis;
 use lattice::Shape;
@@ -97,28 +96,7 @@ fn first(m: usize, x: Axis, records: &[i32], p: usize) -> i64
     hermite::stage(m, basis, x.shift, low, high)
 }
 
-// The number after the second stage: the first gives the numbers of its two ends.
-fn second(m: usize, y: Axis, x: Axis, records: &[i32], p: usize) -> i64
-    requires { ⌜ AllPrepared m (y ∷ x ∷ []) ⌝ }
-    requires { ⌜ Safe m (length (now records)) (y ∷ x ∷ []) (at (now records)) p ⌝ }
-    ensures { λ r. ⌜ r ≡ after m (y ∷ x ∷ []) (at (now (records .entry))) p ⌝ }
-{
-    let near = [0, y.near, 2 * y.near];
-    let far = y.far;
-    let mut low = [0i64; 3];
-    let mut high = [0i64; 3];
-    let mut o: usize = 0;
-    while o < m {
-        let i = p + near[o];
-        low[o] = first(m, x, records, i);
-        high[o] = first(m, x, records, i + far);
-        o += 1;
-    }
-    let basis = y.basis;
-    hermite::stage(m, basis, y.shift, low, high)
-}
-
-// Where the numbers stand that the last of three stages takes, from the first on; of two stages there is one.
+// Where the numbers of both ends stand, from the first on; where there is no third stage, one number.
 fn places_of(m: usize, three: bool, near: usize, far: usize) -> Places
     requires { ⌜ (2 ≤ m) × (m ≤ 3) × (three ≡ true → far + 2 * near < 2 ^ 64) ⌝ }
     ensures { λ r. ⌜ (r .count ≡ endsOf m three) × ((t : ℕ) → t < endsOf m three → getD (r .place) t 0 ≡ pick three (offsetBy m near far t) 0) ⌝ }
@@ -144,7 +122,7 @@ fn places_of(m: usize, three: bool, near: usize, far: usize) -> Places
 // The m numbers from k on, as those of an end.
 fn end_of(m: usize, numbers: [i64; 6], k: usize) -> [i64; 3]
     requires { ⌜ (2 ≤ m) × (m ≤ 3) × (k + m ≤ 6) ⌝ }
-    ensures { λ r. ⌜ ((o : ℕ) → o < 3 → at r o ≡ pick (ltb o m) (at numbers (k + o)) (pos 0)) ⌝ }
+    ensures { λ r. ⌜ ((o : ℕ) → o < 3 → at r o ≡ numbersAt m (at numbers) k 1 o) ⌝ }
 {
     let a = numbers[k];
     let b = numbers[k + 1];
@@ -152,6 +130,47 @@ fn end_of(m: usize, numbers: [i64; 6], k: usize) -> [i64; 3]
         return [a, b, 0];
     }
     [a, b, numbers[k + 2]]
+}
+
+// One stage: the numbers of both ends stand one after the other.
+fn work_off(m: usize, a: Axis, numbers: [i64; 6]) -> i64
+    requires { ⌜ Prepared m a × (load (a .basis) (numbersAt m (at numbers) 0 1) (numbersAt m (at numbers) m 1) ≤ 2 ^ 63 - 2 ^ 45) ⌝ }
+    ensures { λ r. ⌜ ((g : ℕ → ℤ) (p : ℕ) → ((t : ℕ) → t < 2 * m → at numbers t ≡ g (p + offsetBy m (a .near) (a .far) t)) → r ≡ worked m a g p) ⌝ }
+{
+    let low = end_of(m, numbers, 0);
+    let high = end_of(m, numbers, m);
+    let basis = a.basis;
+    hermite::stage(m, basis, a.shift, low, high)
+}
+
+// The number after the second stage: the first gives the numbers of both ends.
+fn second(m: usize, y: Axis, x: Axis, records: &[i32], p: usize) -> i64
+    requires { ⌜ AllPrepared m (y ∷ x ∷ []) ⌝ }
+    requires { ⌜ Safe m (length (now records)) (y ∷ x ∷ []) (at (now records)) p ⌝ }
+    ensures { λ r. ⌜ r ≡ after m (y ∷ x ∷ []) (at (now (records .entry))) p ⌝ }
+{
+    let ends = places_of(m, true, y.near, y.far);
+    let count = ends.count;
+    let place = ends.place;
+    let mut numbers = [0i64; 6];
+    let mut t: usize = 0;
+    while t < count {
+        numbers[t] = first(m, x, records, p + place[t]);
+        t += 1;
+    }
+    work_off(m, y, numbers)
+}
+
+// The same, with m a constant of the call.
+fn second_by_degree(m: usize, y: Axis, x: Axis, records: &[i32], p: usize) -> i64
+    requires { ⌜ AllPrepared m (y ∷ x ∷ []) ⌝ }
+    requires { ⌜ Safe m (length (now records)) (y ∷ x ∷ []) (at (now records)) p ⌝ }
+    ensures { λ r. ⌜ r ≡ after m (y ∷ x ∷ []) (at (now (records .entry))) p ⌝ }
+{
+    if m == 2 {
+        return second(2, y, x, records, p);
+    }
+    second(3, y, x, records, p)
 }
 
 // The number after the third stage; where there are two axes, after the second.
@@ -166,16 +185,13 @@ fn third(m: usize, three: bool, z: Axis, y: Axis, x: Axis, records: &[i32], p: u
     let mut numbers = [0i64; 6];
     let mut t: usize = 0;
     while t < count {
-        numbers[t] = second(m, y, x, records, p + place[t]);
+        numbers[t] = second_by_degree(m, y, x, records, p + place[t]);
         t += 1;
     }
     if !three {
         return numbers[0];
     }
-    let basis = z.basis;
-    let low = end_of(m, numbers, 0);
-    let high = end_of(m, numbers, m);
-    hermite::stage(m, basis, z.shift, low, high)
+    work_off(m, z, numbers)
 }
 
 // The stage of one axis, to units.
@@ -185,6 +201,34 @@ fn one_axis(m: usize, slope: bool, a: Strides, records: &[i32], p: usize) -> i64
 {
     let x = axis_of(m, slope, false, false, a.step, a.far, a.near);
     first(m, x, records, p)
+}
+
+// The same, with m and the kind constants of the call.
+fn one_axis_by_kind(m: usize, slope: bool, a: Strides, records: &[i32], p: usize) -> i64
+    requires { ⌜ Workable m slope a [] (length (now records)) (at (now records)) p ⌝ }
+    ensures { λ r. ⌜ WorkedOff m slope a [] (at (now (records .entry))) p r ⌝ }
+{
+    if m == 2 {
+        if slope {
+            return one_axis(2, true, a, records, p);
+        }
+        return one_axis(2, false, a, records, p);
+    }
+    if slope {
+        return one_axis(3, true, a, records, p);
+    }
+    one_axis(3, false, a, records, p)
+}
+
+// The last stage of more than one, the kind a constant of the call.
+fn last_stage(m: usize, slope: bool, c: Strides) -> Axis
+    requires { ⌜ (2 ≤ m) × (m ≤ 3) × (c .step ≤ steps) ⌝ }
+    ensures { λ r. ⌜ Made m slope true false c r ⌝ }
+{
+    if slope {
+        return axis_of(m, true, true, false, c.step, c.far, c.near);
+    }
+    axis_of(m, false, true, false, c.step, c.far, c.near)
 }
 
 // The stage between the first and the last; where there are two axes, the last.
@@ -213,7 +257,7 @@ fn more_axes(
     ensures { λ r. ⌜ WorkedOff m slope c (also three b (a ∷ [])) (at (now (records .entry))) p r ⌝ }
 {
     let x = axis_of(m, false, false, true, a.step, a.far, a.near);
-    let z = axis_of(m, slope, true, false, c.step, c.far, c.near);
+    let z = last_stage(m, slope, c);
     let y = middle(m, three, b, z);
     third(m, three, z, y, x, records, p)
 }
@@ -257,12 +301,24 @@ fn strides_of(m: usize, step: [u32; 3], l: Layout, axis: u32) -> Strides
     requires { ⌜ (m ≤ 3) × (axis < 3) ⌝ }
     ensures { λ r. ⌜ r ≡ stridesOf (getD step axis 0) (getD (l .far) axis 0) (m ^ axis) ⌝ }
 {
-    let a = axis as usize;
-    let near = [1, m, m * m];
+    if axis == 0 {
+        return Strides {
+            step: step[0],
+            far: l.far[0],
+            near: 1,
+        };
+    }
+    if axis == 1 {
+        return Strides {
+            step: step[1],
+            far: l.far[1],
+            near: m,
+        };
+    }
     Strides {
-        step: step[a],
-        far: l.far[a],
-        near: near[a],
+        step: step[2],
+        far: l.far[2],
+        near: m * m,
     }
 }
 
@@ -285,7 +341,7 @@ pub fn answer(
     let last = last_axis(n, want);
     if n == 1 {
         let x = strides_of(m, step, l, 0);
-        return one_axis(m, slope, x, records, p) as i32;
+        return one_axis_by_kind(m, slope, x, records, p) as i32;
     }
     let a = strides_of(m, step, l, first_axis(last));
     let b = strides_of(m, step, l, middle_axis(last));

@@ -126,21 +126,21 @@ module _ (c : tie.After-strides-of4) where
       subst (λ (ls : List ℕ). AreAxes (begun .args .s) (placeAt (begun .args .step)) ls others) (sym (axes-before (n more) (last more) two-axes (three-low .0) (three-low .1)))
       (are-axes (begun .args .s) (placeAt (begun .args .step)) (eqb (n more) 3) (firstAxis (last more)) (middleAxis (last more)) (c .before .before .before .strides-of2 .result) (c .before .strides-of3 .result) is-first is-middle)
 
-one-axis-requires : tie.Need-one-axis-requires
+one-axis-by-kind-requires : tie.Need-one-axis-by-kind-requires
 unfolding axes without pick
-one-axis-requires c κs = asks (only c) 1 0 (c .before .if1 .taken) (only-last c) (c .strides-of .result) [] (only-axis c) tt
+one-axis-by-kind-requires c κs = asks (only c) 1 0 (c .before .if1 .taken) (only-last c) (c .strides-of .result) [] (only-axis c) tt
 
 cast-result : tie.Need-cast-result
 unfolding axes without pick
 cast-result c =
     let d = c .before in
-    fits (only d) (c .one-axis .result) (c .one-axis .ok) (gives (only d) 1 0 (d .before .if1 .taken) (only-last d) (d .strides-of .result) [] (only-axis d) tt (c .one-axis .result) (c .one-axis .ensures))
+    fits (only d) (c .one-axis-by-kind .result) (c .one-axis-by-kind .ok) (gives (only d) 1 0 (d .before .if1 .taken) (only-last d) (d .strides-of .result) [] (only-axis d) tt (c .one-axis-by-kind .result) (c .one-axis-by-kind .ensures))
 
 returns : tie.Need-returns
 unfolding axes without pick
 returns c =
     let d = c .before in
-    cast (only d) (c .one-axis .result) (c .one-axis .ok) (gives (only d) 1 0 (d .before .if1 .taken) (only-last d) (d .strides-of .result) [] (only-axis d) tt (c .one-axis .result) (c .one-axis .ensures))
+    cast (only d) (c .one-axis-by-kind .result) (c .one-axis-by-kind .ok) (gives (only d) 1 0 (d .before .if1 .taken) (only-last d) (d .strides-of .result) [] (only-axis d) tt (c .one-axis-by-kind .result) (c .one-axis-by-kind .ensures))
 
 strides-of-requires-2 : tie.Need-strides-of-requires-2
 strides-of-requires-2 c κs =
@@ -179,7 +179,7 @@ answer-spec =
     (λ c κs. search needs)
     (λ c κs. search needs)
     (λ c κs. (m3 (c .before), omega arith))
-    one-axis-requires
+    one-axis-by-kind-requires
     cast-result
     returns
     (λ c κs. search needs)

@@ -20,16 +20,16 @@ third-requires : tie.Need-third-requires
 third-requires c κs =
     let s = c .before .before .before in
     let a = s .args in
-    third-asks (a .m) (a .slope) (a .a) (a .b) (a .c) (length (now (a .records))) (at (now (a .records))) (a .p) (c .before .before .axis-of .result) (c .middle .result) (c .before .axis-of2 .result)
-    (c .before .before .axis-of .ensures) (c .before .axis-of2 .ensures) (a .three) (c .middle .ensures) (s .pre)
+    third-asks (a .m) (a .slope) (a .a) (a .b) (a .c) (length (now (a .records))) (at (now (a .records))) (a .p) (c .before .before .axis-of .result) (c .middle .result) (c .before .last-stage .result)
+    (c .before .before .axis-of .ensures) (c .before .last-stage .ensures) (a .three) (c .middle .ensures) (s .pre)
 
 returns : tie.Need-returns
 returns c =
     let d = c .before in
     let s = d .before .before .before in
     let a = s .args in
-    worked-off (a .m) (a .slope) (a .a) (a .b) (a .c) (length (now (a .records))) (at (now (a .records))) (a .p) (d .before .before .axis-of .result) (d .middle .result) (d .before .axis-of2 .result)
-    (d .before .before .axis-of .ensures) (d .before .axis-of2 .ensures) (a .three) (d .middle .ensures) (toZ w64 (ofZ w64 (c .third .result))) (read (c .third .result) (c .third .ok) ∙ c .third .ensures)
+    worked-off (a .m) (a .slope) (a .a) (a .b) (a .c) (length (now (a .records))) (at (now (a .records))) (a .p) (d .before .before .axis-of .result) (d .middle .result) (d .before .last-stage .result)
+    (d .before .before .axis-of .ensures) (d .before .last-stage .ensures) (a .three) (d .middle .ensures) (toZ w64 (ofZ w64 (c .third .result))) (read (c .third .result) (c .third .ok) ∙ c .third .ensures)
 
 pub more-axes-spec : {M : Type 1} → statement M
 more-axes-spec = tie.close (tie.spec (λ c κs. (c .pre .m-low, c .pre .m-high, low c .0)) (λ c κs. let s = c .before in (s .pre .m-low, s .pre .m-high, low s .1)) (λ c κs. let s = c .before .before in (s .pre .m-low, s .pre .m-high, low s .2)) third-requires returns)

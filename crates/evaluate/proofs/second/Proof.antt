@@ -1,28 +1,27 @@
--- `evaluate::second` meets its contract: the first stage fills both ends, order by order.
-use mathlib.Core.Path.{_∙_}
+-- `evaluate::second` meets its contract: the first stage gives the numbers one after the other.
+use mathlib.Core.Path.{_≡_, refl, subst, _∙_}
+use mathlib.Core.Bool.{true}
 use mathlib.Core.List.{List, [], _∷_}
-use Prim.Native.Nat.{ℕ, _+_, _-_}
+use Prim.Native.Nat.{ℕ, _+_, _*_, _-_, _≤_, _<_}
 use native.Mathlib.Omega.{arith}
-use lib.ListN.{length}
+use lib.ListN.{length, getD, length-set}
 use lib.IntN.{ℤ}
 use mir.Syntax.{w64}
 use mir.Val.{toZ, ofZ}
 use denote.Ref.{now}
-use Rattle.lattice.specs.Buffer.{at}
-use Rattle.hermite.specs.Hermite.{kindOf}
 use Rattle.arith.proofs.Machine.{read}
+use Rattle.lattice.specs.Buffer.{at}
 use Rattle.evaluate.specs.declared.Axis.{Axis}
-use Rattle.evaluate.specs.Stages.{after}
-use Rattle.evaluate.proofs.EndLaws.{safe-load, stage-after, no-third}
-use Rattle.evaluate.proofs.Filling.{low-safe, high-safe, low-below, high-below, near-below, BothFilled, both-none, both-more, both-all}
+use Rattle.evaluate.specs.Stages.{offsetOf, after}
+use Rattle.evaluate.proofs.Order.{Held, Turn, held-none, held-three, row-load, reach, turn}
 use Rattle.evaluate.proofs.second.Statement.{statement}
 use Rattle.evaluate.proofs.second.Tie as tie
 
 abbrev Inv-loop : tie.InvT-loop
-Inv-loop m y x records p near far low₀ high₀ o₀ low high o = BothFilled m y (after m (x ∷ []) (at records)) p low high o
+Inv-loop m y x records p count place numbers₀ t₀ numbers t = (t ≤ count) × (length numbers ≡ 6) × Held m true y (after m (x ∷ []) (at records)) p numbers t
 
 abbrev μ-loop : tie.MeasureT-loop
-μ-loop m y x records p near far low₀ high₀ o₀ low high o = m - o
+μ-loop m y x records p count place numbers₀ t₀ numbers t = count - t
 
 module _ (s : tie.Start Inv-loop μ-loop) where
   abbrev n : ℕ
@@ -34,83 +33,58 @@ module _ (s : tie.Start Inv-loop μ-loop) where
   abbrev raw : ℕ → ℤ
   raw = at (now (s .args .records))
 
-mul-t13 : tie.Need-mul-t13 Inv-loop μ-loop
-mul-t13 c =
-    let s = c .before in
-    let f = s .pre .0 .0 .folds in
-    let h = near-below (s .args .m) (n s) (s .args .y) (xs s) (raw s) (s .args .p) (f .m-low) (f .m-high) (s .pre .1) in
-    omega arith
+  m2 : 2 ≤ s .args .m
+  m2 = s .pre .0 .0 .folds .m-low
 
-loop-holds : tie.Need-loop-holds Inv-loop μ-loop
-loop-holds c = let s = c .before in both-none (s .args .m) (s .args .y) (after (s .args .m) (xs s) (raw s)) (s .args .p)
+  m3 : s .args .m ≤ 3
+  m3 = s .pre .0 .0 .folds .m-high
 
-add-i : tie.Need-add-i Inv-loop μ-loop
-add-i c =
-    let s = c .before .before .before in
-    let f = s .pre .0 .0 .folds in
-    let h = low-below (s .args .m) (n s) (s .args .y) (xs s) (raw s) (s .args .p) (f .m-low) (f .m-high) (s .pre .1) (c .before .loop .o) (c .loop-test .taken) in
-    omega arith
+-- a turn of the loop
+module _ (c : tie.In-loop Inv-loop μ-loop) where
+  abbrev start : tie.Start Inv-loop μ-loop
+  start = c .before .before .before .before
 
-first-requires : tie.Need-first-requires Inv-loop μ-loop
-first-requires c κs =
-    let s = c .before .before .before in
-    let f = s .pre .0 .0 .folds in
-    (s .pre .0 .1, low-safe (s .args .m) (n s) (s .args .y) (xs s) (raw s) (s .args .p) (f .m-low) (f .m-high) (s .pre .1) (c .before .loop .o) (c .loop-test .taken))
+  here : Turn (start .args .m) (n start) true (start .args .y) (xs start) (raw start) (start .args .p) (getD (c .before .before .before .places-of .result .place) (c .before .loop .t) 0) (c .before .loop .t)
+  here =
+      let a = start .args in
+      let e = c .before .before .before .places-of in
+      turn (a .m) (n start) true (a .y) (xs start) (raw start) (a .p) (m2 start) (m3 start) (start .pre .1) (e .result .place) (e .result .count) (e .ensures) (c .before .loop .t) (c .loop-test .taken)
 
-mul-low : tie.Need-mul-low Inv-loop μ-loop
-mul-low c = let h = c .before .before .before .before .pre .0 .0 .folds .m-high in omega arith
-
-array-set-from-low : tie.Need-array-set-from-low Inv-loop μ-loop
-array-set-from-low c = let h = c .before .before .before .before .pre .0 .0 .folds .m-high in omega arith
-
-add-first : tie.Need-add-first Inv-loop μ-loop
-add-first c =
-    let s = c .before .before .before .before in
-    let f = s .pre .0 .0 .folds in
-    let h = high-below (s .args .m) (n s) (s .args .y) (xs s) (raw s) (s .args .p) (f .m-low) (f .m-high) (s .pre .1) (c .before .before .loop .o) (c .before .loop-test .taken) in
-    omega arith
-
-first-requires-2 : tie.Need-first-requires-2 Inv-loop μ-loop
-first-requires-2 c κs =
-    let s = c .before .before .before .before in
-    let f = s .pre .0 .0 .folds in
-    (s .pre .0 .1, high-safe (s .args .m) (n s) (s .args .y) (xs s) (raw s) (s .args .p) (f .m-low) (f .m-high) (s .pre .1) (c .before .before .loop .o) (c .before .loop-test .taken))
-
-mul-high : tie.Need-mul-high Inv-loop μ-loop
-mul-high c = let h = c .before .before .before .before .before .pre .0 .0 .folds .m-high in omega arith
-
-array-set-from-high : tie.Need-array-set-from-high Inv-loop μ-loop
-array-set-from-high c = let h = c .before .before .before .before .before .pre .0 .0 .folds .m-high in omega arith
-
-add-o : tie.Need-add-o Inv-loop μ-loop
-add-o c = let h = c .before .before .before .before .before .pre .0 .0 .folds .m-high in omega arith
+places-of-requires : tie.Need-places-of-requires Inv-loop μ-loop
+places-of-requires c κs = (m2 c, m3 c, λ e. let h = reach (c .args .m) (n c) true (c .args .y) (xs c) (raw c) (c .args .p) (m2 c) (m3 c) (c .pre .1) e in omega arith)
 
 loop-again : tie.Need-loop-again Inv-loop μ-loop
 loop-again c =
-    let s = c .before .before .before .before .before in
-    let i = c .before .before .before .loop in
-    both-more (s .args .m) (s .args .y) (after (s .args .m) (xs s) (raw s)) (s .args .p) (s .pre .0 .0 .folds .m-high) (i .low) (i .high) (i .o) (c .before .before .loop-test .taken) (i .inv)
-    (toZ w64 (ofZ w64 (c .before .first .result))) (toZ w64 (ofZ w64 (c .first2 .result)))
-    (read (c .before .first .result) (c .before .first .ok) ∙ c .before .first .ensures) (read (c .first2 .result) (c .first2 .ok) ∙ c .first2 .ensures)
-
-stage-requires : tie.Need-stage-requires Inv-loop μ-loop
-stage-requires c κs =
-    let s = c .before .before .before .before in
-    let i = c .before .before .loop in
-    let all = both-all (s .args .m) (s .args .y) (after (s .args .m) (xs s) (raw s)) (s .args .p) (i .low) (i .high) (i .o) (i .inv) (c .before .loop-test .left) in
-    let numbers = after (s .args .m) (xs s) (raw s) in (
-      (s .pre .0 .0 .shift-low, safe-load (s .args .m) (n s) (s .args .y) (xs s) (raw s) (s .args .p) (s .pre .1) (at (i .low)) (at (i .high)) (all .0) (all .1)),
-      λ e. (no-third (s .args .m) numbers (s .args .p) (s .args .y .near) (at (i .low)) (all .0) e, no-third (s .args .m) numbers (s .args .p + s .args .y .far) (s .args .y .near) (at (i .high)) (all .1) e),
+    let d = c .before in
+    let i = d .before .loop in (
+      omega arith,
+      simp length-set (i .inv .1),
+      here d .held (i .numbers) (toZ w64 (ofZ w64 (c .first .result))) (i .inv .1) (i .inv .2) (read (c .first .result) (c .first .ok) ∙ c .first .ensures),
     )
 
+-- after the last turn
+module _ (c : tie.After-loop Inv-loop μ-loop) where
+  abbrev begun : tie.Start Inv-loop μ-loop
+  begun = c .before .before .before .before
+
+  held : (t : ℕ) → t < 2 * begun .args .m → at (c .before .loop .numbers) t ≡ after (begun .args .m) (xs begun) (raw begun) (begun .args .p + offsetOf (begun .args .m) (begun .args .y) t)
+  held =
+      let a = begun .args in
+      let i = c .before .loop in
+      held-three (a .m) (a .y) (after (a .m) (xs begun) (raw begun)) (a .p) (i .numbers) (i .t) true refl
+      (subst (λ (k : ℕ). k ≤ i .t) (c .before .before .before .places-of .ensures .0) (c .loop-test .left)) (i .inv .2)
+
+work-off-requires : tie.Need-work-off-requires Inv-loop μ-loop
+work-off-requires c κs =
+    let s = begun c in
+    let a = s .args in
+    (s .pre .0 .0, row-load (a .m) (a .y) (after (a .m) (xs s) (raw s)) (a .p) (c .before .loop .numbers) (held c) (a .y .basis) (s .pre .1 .1))
+
 returns : tie.Need-returns Inv-loop μ-loop
+unfolding after
 returns c =
-    let s = c .before .before .before .before .before in
-    let i = c .before .before .before .loop in
-    let f = s .pre .0 .0 .folds in
-    let all = both-all (s .args .m) (s .args .y) (after (s .args .m) (xs s) (raw s)) (s .args .p) (i .low) (i .high) (i .o) (i .inv) (c .before .before .loop-test .left) in
-    stage-after (s .args .m) (n s) (s .args .y) (xs s) (raw s) (s .args .p) (s .pre .1) (at (i .low)) (at (i .high)) (all .0) (all .1) (f .m-high)
-    (toZ w64 (ofZ w64 (c .stage .result))) (read (c .stage .result) (c .stage .ok) ∙ c .stage .ensures (kindOf (s .args .y .slope)) (s .args .m) (s .args .y .step) f)
+    let s = begun (c .before) in
+    read (c .work-off .result) (c .work-off .ok) ∙ c .work-off .ensures (after (s .args .m) (xs s) (raw s)) (s .args .p) (held (c .before))
 
 pub second-spec : {M : Type 1} → statement M
 second-spec =
@@ -118,20 +92,16 @@ second-spec =
     (tie.spec
     Inv-loop
     μ-loop
-    mul-t13
-    loop-holds
-    (λ c. let h = c .before .before .before .pre .0 .0 .folds .m-high in omega arith)
-    (λ c. let h = c .before .before .before .pre .0 .0 .folds .m-high in omega arith)
-    add-i
-    first-requires
-    mul-low
-    array-set-from-low
-    add-first
-    first-requires-2
-    mul-high
-    array-set-from-high
-    add-o
+    places-of-requires
+    (λ c. (omega arith, refl, λ j l. held-none j l))
+    (λ c. let h = here c .few in omega arith)
+    (λ c. here c .few)
+    (λ c. let h = here c .index in omega arith)
+    (λ c κs. (start c .pre .0 .1, here c .safe))
+    (λ c. let h = here (c .before) .few in omega arith)
+    (λ c. here (c .before) .few)
+    (λ c. let h = here (c .before) .few in omega arith)
     (λ c. omega arith)
     loop-again
-    stage-requires
+    work-off-requires
     returns)
