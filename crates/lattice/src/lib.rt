@@ -96,9 +96,14 @@ pub fn check_counts(n: u32, x: u32, y: u32, z: u32) -> Answer
     ensures { λ r. ⌜ meaning r ≡ countsOutcome n (λ a. getD (x ∷ y ∷ z ∷ []) a 0) ⌝ }
 {
     let on_x = check_count(n, x, 0);
+    if let Answer::Refused(_) = on_x {
+        return on_x;
+    }
     let on_y = check_count(n, y, 1);
-    let on_z = check_count(n, z, 2);
-    earlier(earlier(on_x, on_y), on_z)
+    if let Answer::Refused(_) = on_y {
+        return on_y;
+    }
+    check_count(n, z, 2)
 }
 
 pub fn check_shape(s: Shape) -> Answer
