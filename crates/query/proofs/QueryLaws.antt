@@ -1,12 +1,13 @@
 -- The facts behind a query that is not refused, when it is not, and a query by position as the query by its cell and in-cell step.
-use mathlib.Core.Path.{_≡_, sym, ap, _∙_}
+use mathlib.Core.Path.{_≡_, sym, ap, subst, _∙_}
 use mathlib.Core.Bool.{Bool, true, _&&_}
 use mathlib.Core.List.{List}
 use Prim.Native.Nat.{ℕ, _+_, _*_, _-_, _^_, _≤_, _<_}
 use native.Mathlib.Omega.{arith}
 use native.Mathlib.Decide.{decLt}
 use lib.Dec.{leb, ltb, eqb}
-use lib.ListN.{length}
+use lib.ListN.{length, take}
+use lib.Seq.{take-length}
 use lib.IntN.{ℤ, natAbs}
 use lib.Signed.{nonNeg, mag}
 use mir.Syntax.{w32}
@@ -101,6 +102,20 @@ pub record Passed (s : Shape) (rs : List ℤ) (want : Want) (cell step : Place) 
   pub asked : askedOutcome s rs want ≡ done tt
   pub cells : cellOutcome s cell ≡ done tt
   pub inside : stepsOutcome s step ≡ done tt
+
+-- a query that is not refused before 5 and gives this outcome
+abbrev pub Read : Shape → List ℤ → Want → Place → Place → Outcome ℤ → Type 0
+Read s rs want cell step o = Passed s rs want cell step × (reading s rs want cell step ≡ o)
+
+-- the slice made anew of all the records
+abbrev pub lent : List ℤ → List ℤ
+lent rs = take (length rs) rs
+
+pub lent-long : (rs : List ℤ) → length rs ≡ length (lent rs)
+lent-long rs = ap length (sym (take-length rs))
+
+pub lend : (s : Shape) (rs : List ℤ) (want : Want) (cell step : Place) (o : Outcome ℤ) → Read s rs want cell step o → Read s (lent rs) want cell step o
+lend s rs want cell step o = subst (λ (xs : List ℤ). Read s xs want cell step o) (sym (take-length rs))
 
 module _ (s : Shape) (rs : List ℤ) (want : Want) (cell step : Place) where
   pub by-cell-passed : first (askedOutcome s rs want) (first (cellOutcome s cell) (stepsOutcome s step)) ≡ done tt → Passed s rs want cell step
@@ -219,7 +234,7 @@ position-steps s p f h = firstOf-passes 3 (λ a. refuseUnless (pick (ltb a (s .a
 
 -- the cell and the in-cell step that the code works out
 pub at-place : (s : Shape) (rs : List ℤ) (want : Want) (p : Position) (cell step : Place) → askedOutcome s rs want ≡ done tt → firstOf 3 (positionOutcome s p) ≡ done tt → cell ≡ positionCell s p → step ≡ positionStep s p
-    → Passed s rs want cell step × (reading s rs want cell step ≡ byPosition s rs want p)
+    → Read s rs want cell step (byPosition s rs want p)
 at-place s rs want p cell step a w c u =
     let f = shaped s (asked-parts s rs want a .0) in (
       record { asked = a; cells = rw c (position-cells s p f w); inside = rw u (position-steps s p f w) },

@@ -197,11 +197,13 @@ fn read_cell(
     requires { ⌜ (cellOutcome s (placeAt cell) ≡ done tt) × (stepsOutcome s (placeAt step) ≡ done tt) ⌝ }
     ensures { λ r. ⌜ told r ≡ reading s (now (records .entry)) (wanted «slope_axis») (placeAt cell) (placeAt step) ⌝ }
 {
+    // Slices made anew stay in registers.
+    let k = records.len();
     let l = cell::lay_out(s, cell);
-    if cell::corners_within(s, records, cell, l) {
-        return Reading::Value(evaluate::answer(s, records, cell, step, slope_axis, l));
+    if cell::corners_within(s, &records[..k], cell, l) {
+        return Reading::Value(evaluate::answer(s, &records[..k], cell, step, slope_axis, l));
     }
-    beyond(s, records, cell, l)
+    beyond(s, &records[..k], cell, l)
 }
 
 // Refusal 5 of the corners of a position's cell, or the dose or slope.
@@ -226,11 +228,20 @@ pub fn in_cell(s: Shape, records: &[i32], q: CellQuery) -> Reading
     match asked {
         Answer::Refused(r) => Reading::Refused(r),
         Answer::Done => {
+            // Slices made anew stay in registers.
+            let k = records.len();
             let l = cell::lay_out(s, cell);
-            if cell::corners_within(s, records, cell, l) {
-                return Reading::Value(evaluate::answer(s, records, cell, step, slope_axis, l));
+            if cell::corners_within(s, &records[..k], cell, l) {
+                return Reading::Value(evaluate::answer(
+                    s,
+                    &records[..k],
+                    cell,
+                    step,
+                    slope_axis,
+                    l,
+                ));
             }
-            beyond(s, records, cell, l)
+            beyond(s, &records[..k], cell, l)
         }
     }
 }
@@ -247,11 +258,20 @@ pub fn at_position(s: Shape, records: &[i32], q: Query) -> Reading
         Answer::Done => {
             let cell = position_cell(s, position);
             let step = position_step(s, position, cell);
+            // Slices made anew stay in registers.
+            let k = records.len();
             let l = cell::lay_out(s, cell);
-            if cell::corners_within(s, records, cell, l) {
-                return Reading::Value(evaluate::answer(s, records, cell, step, slope_axis, l));
+            if cell::corners_within(s, &records[..k], cell, l) {
+                return Reading::Value(evaluate::answer(
+                    s,
+                    &records[..k],
+                    cell,
+                    step,
+                    slope_axis,
+                    l,
+                ));
             }
-            beyond(s, records, cell, l)
+            beyond(s, &records[..k], cell, l)
         }
     }
 }

@@ -3,7 +3,8 @@ use denote.Ref.{now}
 use Rattle.lattice.specs.Answer.{meaning}
 use Rattle.cell.specs.Cell.{placeAt}
 use Rattle.evaluate.specs.Wants.{wanted}
-use Rattle.query.proofs.QueryLaws.{Passed, by-cell-passed, by-cell-stops, by-cell-reads, Near, near, ready, answered, stopped}
+use Rattle.query.specs.Queries.{byCell}
+use Rattle.query.proofs.QueryLaws.{Passed, Read, by-cell-passed, by-cell-stops, by-cell-reads, lent, lent-long, lend, Near, near, ready, answered, stopped}
 use borrow.Author.Needs.{needs}
 use Rattle.query.proofs.in_cell.Statement.{statement}
 use Rattle.query.proofs.in_cell.Tie as tie
@@ -19,35 +20,41 @@ module _ (c : tie.After-enum-told) where
       by-cell-passed (a .s) (now (a .records)) (wanted (a .q .«slope_axis»)) (placeAt (a .q .cell)) (placeAt (a .q .step))
       (sym (c .before .before .check-cell-query .ensures (now (a .records)) refl) ∙ ap meaning (c .enum-told .given .1))
 
-  facts : Near (start .args .s) (now (start .args .records)) (start .args .q .cell)
-  facts = let a = start .args in near (a .s) (now (a .records)) (wanted (a .q .«slope_axis»)) (a .q .cell) (placeAt (a .q .step)) passed
+  place : Read (start .args .s) (lent (now (start .args .records))) (wanted (start .args .q .«slope_axis»)) (placeAt (start .args .q .cell)) (placeAt (start .args .q .step)) (byCell (start .args .s) (now (start .args .records)) (wanted (start .args .q .«slope_axis»)) (placeAt (start .args .q .cell)) (placeAt (start .args .q .step)))
+  place =
+      let a = start .args in
+      lend (a .s) (now (a .records)) (wanted (a .q .«slope_axis»)) (placeAt (a .q .cell)) (placeAt (a .q .step)) _
+      (passed, sym (by-cell-reads (a .s) (now (a .records)) (wanted (a .q .«slope_axis»)) (placeAt (a .q .cell)) (placeAt (a .q .step)) passed))
+
+  facts : Near (start .args .s) (lent (now (start .args .records))) (start .args .q .cell)
+  facts = let a = start .args in near (a .s) (lent (now (a .records))) (wanted (a .q .«slope_axis»)) (a .q .cell) (placeAt (a .q .step)) (place .0)
 
 enum-told : tie.Need-enum-told
 enum-told c = search needs
 
 corners-within-requires : tie.Need-corners-within-requires
-corners-within-requires c κs = let f = facts (c .before) in ((f .shape, f .long), (f .here, c .lay-out .ensures))
+corners-within-requires c κs = let f = facts (c .before .before) in ((f .shape, f .long), (f .here, c .before .lay-out .ensures))
 
 answer-requires : tie.Need-answer-requires
 answer-requires c κs =
-    let w = c .before in
-    let l = w .before in
+    let w = c .before .before in
+    let l = w .before .before in
     let a = start (l .before) .args in
-    ready (a .s) (now (a .records)) (wanted (a .q .«slope_axis»)) (a .q .cell) (placeAt (a .q .step)) (passed (l .before)) (l .lay-out .result) (l .lay-out .ensures) (sym (w .corners-within .ensures) ∙ c .if1 .taken)
+    ready (a .s) (lent (now (a .records))) (wanted (a .q .«slope_axis»)) (a .q .cell) (placeAt (a .q .step)) (place (l .before) .0) (l .lay-out .result) (l .lay-out .ensures) (sym (w .corners-within .ensures) ∙ c .before .if1 .taken)
 
 returns : tie.Need-returns
 returns c =
-    let w = c .before .before in
-    let e = w .before .before in
+    let w = c .before .before .before in
+    let e = w .before .before .before in
     let a = start e .args in
-    answered (a .s) (now (a .records)) (wanted (a .q .«slope_axis»)) (a .q .cell) (placeAt (a .q .step)) (sym (w .corners-within .ensures) ∙ c .before .if1 .taken) (c .answer .result) (c .answer .ok) (c .answer .ensures)
-    ∙ sym (by-cell-reads (a .s) (now (a .records)) (wanted (a .q .«slope_axis»)) (placeAt (a .q .cell)) (placeAt (a .q .step)) (passed e))
+    answered (a .s) (lent (now (a .records))) (wanted (a .q .«slope_axis»)) (a .q .cell) (placeAt (a .q .step)) (sym (w .corners-within .ensures) ∙ c .before .before .if1 .taken) (c .answer .result) (c .answer .ok) (c .answer .ensures) ∙ place e .1
 
 beyond-requires : tie.Need-beyond-requires
 beyond-requires c κs =
-    let w = c .before in
-    let f = facts (w .before .before) in
-    ((f .shape, f .long), ((f .here, w .before .lay-out .ensures), sym (w .corners-within .ensures) ∙ c .if1 .left))
+    let w = c .before .before in
+    let l = w .before .before in
+    let f = facts (l .before) in
+    ((f .shape, f .long), ((f .here, l .lay-out .ensures), sym (w .corners-within .ensures) ∙ c .before .if1 .left))
 
 returns-2 : tie.Need-returns-2
 returns-2 c =
@@ -59,10 +66,9 @@ returns-2 c =
 
 returns-3 : tie.Need-returns-3
 returns-3 c =
-    let e = c .before .before .before .before in
+    let e = c .before .before .before .before .before .before in
     let a = start e .args in
-    stopped (a .s) (now (a .records)) (wanted (a .q .«slope_axis»)) (a .q .cell) (placeAt (a .q .step)) _ (c .beyond .ensures)
-    ∙ sym (by-cell-reads (a .s) (now (a .records)) (wanted (a .q .«slope_axis»)) (placeAt (a .q .cell)) (placeAt (a .q .step)) (passed e))
+    stopped (a .s) (lent (now (a .records))) (wanted (a .q .«slope_axis»)) (a .q .cell) (placeAt (a .q .step)) _ (c .beyond .ensures) ∙ place e .1
 
 pub in-cell-spec : {M : Type 1} → statement M
 in-cell-spec =
@@ -72,9 +78,12 @@ in-cell-spec =
     (λ c. search needs)
     enum-told
     (λ c κs. (facts c .shape, facts c .here))
+    (λ c. lent-long (start (c .before .before) .args .records .now))
     corners-within-requires
+    (λ c. lent-long (start (c .before .before .before .before .before) .args .records .now))
     answer-requires
     returns
+    (λ c. lent-long (start (c .before .before .before .before .before) .args .records .now))
     beyond-requires
     returns-2
     returns-3)
