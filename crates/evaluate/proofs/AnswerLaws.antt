@@ -1,5 +1,6 @@
 -- What an answer reads, for every rounding: the corners' records only, and no place on the axes worked off; and what it is on one axis.
 use mathlib.Core.Path.{_≡_, refl, sym, ap, subst, _∙_, fun-ext}
+use mathlib.Core.Bool.{Bool, true, false}
 use mathlib.Core.List.{List, [], _∷_}
 use Prim.Native.Nat.{ℕ, _*_, _≤_, _<_}
 use native.Mathlib.Omega.{arith}
@@ -14,10 +15,11 @@ use Rattle.arith.proofs.Round.{round-common}
 use Rattle.lattice.specs.Axes.{Place, Field, origin, put, along, sweep, axes, without}
 use Rattle.lattice.proofs.Along.{put-at, put-off, each-axes, each-without, Fresh, distinct-axes, distinct-without, fresh-back}
 use Rattle.lattice.proofs.Local.{Depends, linear-depends, sweep-local, used, OnAxis, on-used}
-use Rattle.hermite.specs.Hermite.{value, slope, divisor, stageSum}
+use Rattle.hermite.specs.Hermite.{value, slope, kindOf, divisor, stageSum}
 use Rattle.hermite.proofs.HermiteLaws.{stage-linear, stage-multiple}
 use Rattle.cell.specs.Cell.{AtEnds, InCorners}
 use Rattle.evaluate.specs.Evaluate.{Want, dose, slopeAlong, Ask, kindOn, lastAxis, divisorOn, stageOn, toEighth, toUnit, inEighths, before, answerBy, answer}
+use Rattle.evaluate.specs.Wants.{wantOf}
 
 -- an axis before the last has the weights of a value
 pub kind-before : (w : Want) (a n : ℕ) → (a ≡ lastAxis n w → ⊥) → kindOn w a ≡ value
@@ -29,6 +31,12 @@ kind-before (slopeAlong l) a n h = pick-false (eqb a l) slope value (ne-eqb a l 
 pub kind-slope : (l n : ℕ) → kindOn (slopeAlong l) (lastAxis n (slopeAlong l)) ≡ slope
 unfolding kindOn lastAxis
 kind-slope l n = pick-true (eqb l l) slope value (eq-eqb l l refl)
+
+-- and so it is by whether it is a slope
+pub kind-last : (b : Bool) (a n : ℕ) → kindOf b ≡ kindOn (wantOf b a) (lastAxis n (wantOf b a))
+unfolding kindOf kindOn
+kind-last true a n = sym (kind-slope a n)
+kind-last false a n = refl
 
 module _ (round : Rounding) (q : Ask) where
   -- ---- the corners only

@@ -10,18 +10,17 @@ ghost use Rattle.lattice.specs.Buffer.{at};
 ghost use Rattle.lattice.specs.Records.{recordsField};
 ghost use Rattle.hermite.specs.Stage.{steps, load};
 ghost use Rattle.cell.specs.Cell.{placeAt};
-ghost use Rattle.hermite.specs.Hermite.{kindOf};
-ghost use Rattle.evaluate.specs.Evaluate.{answer, askAt, kindOn, lastAxis};
-ghost use Rattle.evaluate.specs.Wants.{wanted};
+ghost use Rattle.evaluate.specs.Evaluate.{answer, askAt, lastAxis};
+ghost use Rattle.evaluate.specs.Wants.{wantOf};
 ghost use Rattle.evaluate.specs.Stages.{worked, after, numbersAt, offsetBy, endsOf, also, stridesOf, firstAxis, middleAxis, Made, Prepared, AllPrepared, Safe, Workable, WorkedOff, Ready};
 use cell::Layout;
 use hermite::Basis;
 use lattice::Shape;
 
 // A query for a dose has no slope axis.
-pub enum SlopeAxis {
-    NoSlope,
-    Along(u32),
+pub struct SlopeAxis {
+    pub given: bool,
+    pub axis: u32,
 }
 
 // One axis of a cell: the step in it, and the strides to the next node and to the next order.
@@ -262,24 +261,12 @@ fn more_axes(
     third(m, three, z, y, x, records, p)
 }
 
-fn is_slope(want: SlopeAxis) -> bool
-    ensures { λ r. ⌜ ((n : ℕ) → kindOf r ≡ kindOn (wanted want) (lastAxis n (wanted want))) ⌝ }
-{
-    match want {
-        SlopeAxis::NoSlope => false,
-        SlopeAxis::Along(_) => true,
-    }
-}
-
 // The axis that is worked off last.
-fn last_axis(n: u32, want: SlopeAxis) -> u32
+fn last_axis(n: u32, slope: bool, axis: u32) -> u32
     requires { ⌜ 1 ≤ n ⌝ }
-    ensures { λ r. ⌜ r ≡ lastAxis n (wanted want) ⌝ }
+    ensures { λ r. ⌜ r ≡ lastAxis n (wantOf slope axis) ⌝ }
 {
-    match want {
-        SlopeAxis::NoSlope => n - 1,
-        SlopeAxis::Along(a) => a,
-    }
+    if slope { axis } else { n - 1 }
 }
 
 // The axis that is worked off first of two or three.
@@ -328,17 +315,17 @@ pub fn answer(
     records: &[i32],
     cell: [u32; 3],
     step: [u32; 3],
-    want: SlopeAxis,
+    slope: bool,
+    axis: u32,
     l: Layout,
 ) -> i32
-    requires { ⌜ Ready s (now records) (placeAt cell) (placeAt step) (wanted want) l ⌝ }
-    ensures { λ r. ⌜ r ≡ answer (askAt s (wanted want) (placeAt cell) (placeAt step)) (recordsField s (now (records .entry))) ⌝ }
+    requires { ⌜ Ready s (now records) (placeAt cell) (placeAt step) (wantOf slope axis) l ⌝ }
+    ensures { λ r. ⌜ r ≡ answer (askAt s (wantOf slope axis) (placeAt cell) (placeAt step)) (recordsField s (now (records .entry))) ⌝ }
 {
     let m = l.orders;
     let n = s.axes;
     let p = l.base;
-    let slope = is_slope(want);
-    let last = last_axis(n, want);
+    let last = last_axis(n, slope, axis);
     if n == 1 {
         let x = strides_of(m, step, l, 0);
         return one_axis_by_kind(m, slope, x, records, p) as i32;

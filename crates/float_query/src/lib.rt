@@ -1,11 +1,11 @@
 // Doses and slopes by three float positions, as floats.
 ghost use mathlib.Core.Path.{_≡_};
-ghost use Prim.Native.Nat.{_<_, _≤_, _^_};
+ghost use Prim.Native.Nat.{ℕ, _<_, _≤_, _^_};
 ghost use lib.IntN.{ℤ, natAbs};
 ghost use Rattle.lattice.specs.Outcome.{done, first};
 ghost use Rattle.lattice.specs.Answer.{meaning};
 ghost use Rattle.lattice.specs.Shape.{count, Shaped};
-ghost use Rattle.evaluate.specs.Wants.{wanted};
+ghost use Rattle.evaluate.specs.Wants.{wanted, wantOf};
 ghost use Rattle.query.specs.Answers.{told};
 ghost use Rattle.float_query.specs.Floats.{floatsAt, byFloat, heldOutcome};
 ghost use Rattle.float_query.specs.Answers.{toldFloat, inFloat};
@@ -52,17 +52,18 @@ fn check_floats(s: Shape, x: FloatStep, y: FloatStep, z: FloatStep) -> Answer
 }
 
 // A whole-number answer as a float.
-fn in_float(a: Reading, slope_axis: SlopeAxis) -> FloatReading
+fn in_float(a: Reading, slope: bool) -> FloatReading
     requires { ⌜ ((v : ℤ) → told a ≡ done v → natAbs v < 2 ^ 24) ⌝ }
-    ensures { λ r. ⌜ toldFloat r ≡ inFloat (wanted «slope_axis») (told a) ⌝ }
+    ensures { λ r. ⌜ ((axis : ℕ) → toldFloat r ≡ inFloat (wantOf slope axis) (told a)) ⌝ }
 {
     match a {
         Reading::Refused(r) => FloatReading::Refused(r),
         Reading::Value(v) => {
             let x = floats::whole(v);
-            match slope_axis {
-                SlopeAxis::NoSlope => FloatReading::Dose(x),
-                SlopeAxis::Along(_) => FloatReading::Slope(x),
+            if slope {
+                FloatReading::Slope(x)
+            } else {
+                FloatReading::Dose(x)
             }
         }
     }
@@ -72,7 +73,9 @@ fn in_float(a: Reading, slope_axis: SlopeAxis) -> FloatReading
 pub fn at_float(s: Shape, records: &[i32], p: FloatPosition, slope_axis: SlopeAxis) -> FloatReading
     ensures { λ r. ⌜ toldFloat r ≡ inFloat (wanted «slope_axis») (byFloat s (now (records .entry)) (wanted «slope_axis») (floatsAt p)) ⌝ }
 {
-    let asked = query::check_asked(s, records.len(), slope_axis);
+    let slope = slope_axis.given;
+    let axis = slope_axis.axis;
+    let asked = query::check_asked(s, records.len(), slope, axis);
     if let Answer::Refused(r) = asked {
         return FloatReading::Refused(r);
     }
@@ -83,6 +86,6 @@ pub fn at_float(s: Shape, records: &[i32], p: FloatPosition, slope_axis: SlopeAx
     if let Answer::Refused(r) = tested {
         return FloatReading::Refused(r);
     }
-    let answer = query::read_position(s, records, [x.step, y.step, z.step], slope_axis);
-    in_float(answer, slope_axis)
+    let answer = query::read_position(s, records, [x.step, y.step, z.step], slope, axis);
+    in_float(answer, slope)
 }

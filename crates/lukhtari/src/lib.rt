@@ -149,7 +149,10 @@ pub extern "C" fn lukhtari_dose(shape: Shape, records: &[i32], position: Positio
     let at = position.at;
     let q = Query {
         position: at,
-        slope_axis: SlopeAxis::NoSlope,
+        slope_axis: SlopeAxis {
+            given: false,
+            axis: 0,
+        },
     };
     whole_of(query::at_position(shape, records, q))
 }
@@ -167,7 +170,10 @@ pub extern "C" fn lukhtari_slope(
     let at = position.at;
     let q = Query {
         position: at,
-        slope_axis: SlopeAxis::Along(axis),
+        slope_axis: SlopeAxis {
+            given: true,
+            axis: axis,
+        },
     };
     whole_of(query::at_position(shape, records, q))
 }
@@ -187,7 +193,10 @@ pub extern "C" fn lukhtari_dose_in_cell(
     let q = CellQuery {
         cell: at,
         step: step,
-        slope_axis: SlopeAxis::NoSlope,
+        slope_axis: SlopeAxis {
+            given: false,
+            axis: 0,
+        },
     };
     whole_of(query::in_cell(shape, records, q))
 }
@@ -208,7 +217,10 @@ pub extern "C" fn lukhtari_slope_in_cell(
     let q = CellQuery {
         cell: at,
         step: step,
-        slope_axis: SlopeAxis::Along(axis),
+        slope_axis: SlopeAxis {
+            given: true,
+            axis: axis,
+        },
     };
     whole_of(query::in_cell(shape, records, q))
 }
@@ -244,7 +256,11 @@ pub extern "C" fn lukhtari_dose_float(
 ) -> Real
     ensures { λ r. ⌜ seen r ≡ realFrom (byFloat shape (now (records .entry)) dose (floatsAt position)) ⌝ }
 {
-    real_of(float_query::at_float(shape, records, position, SlopeAxis::NoSlope))
+    let none = SlopeAxis {
+        given: false,
+        axis: 0,
+    };
+    real_of(float_query::at_float(shape, records, position, none))
 }
 
 // Slope along an axis at the step nearest to a position in cells.
@@ -257,7 +273,11 @@ pub extern "C" fn lukhtari_slope_float(
 ) -> Real
     ensures { λ r. ⌜ seen r ≡ realFrom (byFloat shape (now (records .entry)) (slopeAlong axis) (floatsAt position)) ⌝ }
 {
-    real_of(float_query::at_float(shape, records, position, SlopeAxis::Along(axis)))
+    let along = SlopeAxis {
+        given: true,
+        axis: axis,
+    };
+    real_of(float_query::at_float(shape, records, position, along))
 }
 
 fn table_of(a: TableAnswer) -> Table

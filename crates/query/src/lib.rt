@@ -12,7 +12,7 @@ ghost use Rattle.lattice.specs.Answer.{meaning};
 ghost use Rattle.lattice.specs.Shape.{size, Shaped};
 ghost use Rattle.hermite.specs.Stage.{steps};
 ghost use Rattle.cell.specs.Cell.{placeAt, cellOutcome, cornersOutcome, Accepted, Laid};
-ghost use Rattle.evaluate.specs.Wants.{wanted};
+ghost use Rattle.evaluate.specs.Wants.{wanted, wantOf};
 ghost use Rattle.query.specs.Answers.{told};
 ghost use Rattle.query.specs.Queries.{wantOutcome, askedOutcome, reading, stepsOutcome, byCell, positionAt, coordinateOutcome, positionOutcome, cellOf, positionCell, positionStep, byPosition};
 use cell::Layout;
@@ -38,25 +38,26 @@ pub enum Reading {
 }
 
 // Refusal 12.
-fn check_slope(s: Shape, slope_axis: SlopeAxis) -> Answer
-    ensures { λ r. ⌜ meaning r ≡ wantOutcome s (wanted «slope_axis») ⌝ }
+fn check_slope(s: Shape, slope: bool, axis: u32) -> Answer
+    ensures { λ r. ⌜ meaning r ≡ wantOutcome s (wantOf slope axis) ⌝ }
 {
-    match slope_axis {
-        SlopeAxis::NoSlope => Answer::Done,
-        SlopeAxis::Along(a) => lattice::refuse_unless(a < s.axes, 12, 0),
+    if slope {
+        lattice::refuse_unless(axis < s.axes, 12, 0)
+    } else {
+        Answer::Done
     }
 }
 
 // Refusals 1, 2, 3, 4 and 12, of `given` records' entries.
-pub fn check_asked(s: Shape, given: usize, slope_axis: SlopeAxis) -> Answer
-    ensures { λ r. ⌜ ((rs : List ℤ) → length rs ≡ given → meaning r ≡ askedOutcome s rs (wanted «slope_axis»)) ⌝ }
+pub fn check_asked(s: Shape, given: usize, slope: bool, axis: u32) -> Answer
+    ensures { λ r. ⌜ ((rs : List ℤ) → length rs ≡ given → meaning r ≡ askedOutcome s rs (wantOf slope axis)) ⌝ }
 {
     let shape = lattice::check_shape(s);
     if let Answer::Refused(_) = shape {
         return shape;
     }
     let long = lattice::refuse_unless(given == lattice::table_entries(s), 4, 0);
-    lattice::earlier(long, check_slope(s, slope_axis))
+    lattice::earlier(long, check_slope(s, slope, axis))
 }
 
 fn check_step(n: u32, step: u32, axis: u32) -> Answer
@@ -141,13 +142,17 @@ fn position_step(s: Shape, p: [i32; 3], cell: [u32; 3]) -> [u32; 3]
 }
 
 // Refusals 1, 2, 3, 4, 12, 14 and 11 of a query by cell.
-fn check_cell_query(s: Shape, given: usize, q: CellQuery) -> Answer
-    ensures { λ r. ⌜ ((rs : List ℤ) → length rs ≡ given → meaning r ≡ first (askedOutcome s rs (wanted (q .«slope_axis»))) (first (cellOutcome s (placeAt (q .cell))) (stepsOutcome s (placeAt (q .step))))) ⌝ }
+fn check_cell_query(
+    s: Shape,
+    given: usize,
+    cell: [u32; 3],
+    step: [u32; 3],
+    slope: bool,
+    axis: u32,
+) -> Answer
+    ensures { λ r. ⌜ ((rs : List ℤ) → length rs ≡ given → meaning r ≡ first (askedOutcome s rs (wantOf slope axis)) (first (cellOutcome s (placeAt cell)) (stepsOutcome s (placeAt step)))) ⌝ }
 {
-    let slope_axis = q.slope_axis;
-    let cell = q.cell;
-    let step = q.step;
-    let asked = check_asked(s, given, slope_axis);
+    let asked = check_asked(s, given, slope, axis);
     if let Answer::Refused(_) = asked {
         return asked;
     }
@@ -159,12 +164,10 @@ fn check_cell_query(s: Shape, given: usize, q: CellQuery) -> Answer
 }
 
 // Refusals 1, 2, 3, 4, 12 and 11 of a query by position.
-fn check_query(s: Shape, given: usize, q: Query) -> Answer
-    ensures { λ r. ⌜ ((rs : List ℤ) → length rs ≡ given → meaning r ≡ first (askedOutcome s rs (wanted (q .«slope_axis»))) (firstOf 3 (positionOutcome s (positionAt (q .position))))) ⌝ }
+fn check_query(s: Shape, given: usize, position: [i32; 3], slope: bool, axis: u32) -> Answer
+    ensures { λ r. ⌜ ((rs : List ℤ) → length rs ≡ given → meaning r ≡ first (askedOutcome s rs (wantOf slope axis)) (firstOf 3 (positionOutcome s (positionAt position)))) ⌝ }
 {
-    let slope_axis = q.slope_axis;
-    let position = q.position;
-    let asked = check_asked(s, given, slope_axis);
+    let asked = check_asked(s, given, slope, axis);
     if let Answer::Refused(_) = asked {
         return asked;
     }
@@ -191,40 +194,42 @@ fn read_cell(
     records: &[i32],
     cell: [u32; 3],
     step: [u32; 3],
-    slope_axis: SlopeAxis,
+    slope: bool,
+    axis: u32,
 ) -> Reading
-    requires { ⌜ askedOutcome s (now records) (wanted «slope_axis») ≡ done tt ⌝ }
+    requires { ⌜ askedOutcome s (now records) (wantOf slope axis) ≡ done tt ⌝ }
     requires { ⌜ (cellOutcome s (placeAt cell) ≡ done tt) × (stepsOutcome s (placeAt step) ≡ done tt) ⌝ }
-    ensures { λ r. ⌜ told r ≡ reading s (now (records .entry)) (wanted «slope_axis») (placeAt cell) (placeAt step) ⌝ }
+    ensures { λ r. ⌜ told r ≡ reading s (now (records .entry)) (wantOf slope axis) (placeAt cell) (placeAt step) ⌝ }
 {
     // Slices made anew stay in registers.
     let k = records.len();
     let l = cell::lay_out(s, cell);
     if cell::corners_within(s, &records[..k], cell, l) {
-        return Reading::Value(evaluate::answer(s, &records[..k], cell, step, slope_axis, l));
+        return Reading::Value(evaluate::answer(s, &records[..k], cell, step, slope, axis, l));
     }
     beyond(s, &records[..k], cell, l)
 }
 
 // Refusal 5 of the corners of a position's cell, or the dose or slope.
-pub fn read_position(s: Shape, records: &[i32], p: [i32; 3], slope_axis: SlopeAxis) -> Reading
-    requires { ⌜ askedOutcome s (now records) (wanted «slope_axis») ≡ done tt ⌝ }
+pub fn read_position(s: Shape, records: &[i32], p: [i32; 3], slope: bool, axis: u32) -> Reading
+    requires { ⌜ askedOutcome s (now records) (wantOf slope axis) ≡ done tt ⌝ }
     requires { ⌜ firstOf 3 (positionOutcome s (positionAt p)) ≡ done tt ⌝ }
-    ensures { λ r. ⌜ told r ≡ reading s (now (records .entry)) (wanted «slope_axis») (positionCell s (positionAt p)) (positionStep s (positionAt p)) ⌝ }
+    ensures { λ r. ⌜ told r ≡ reading s (now (records .entry)) (wantOf slope axis) (positionCell s (positionAt p)) (positionStep s (positionAt p)) ⌝ }
 {
     let cell = position_cell(s, p);
     let step = position_step(s, p, cell);
-    read_cell(s, records, cell, step, slope_axis)
+    read_cell(s, records, cell, step, slope, axis)
 }
 
 // The dose or slope at a step of a cell.
 pub fn in_cell(s: Shape, records: &[i32], q: CellQuery) -> Reading
     ensures { λ r. ⌜ told r ≡ byCell s (now (records .entry)) (wanted (q .«slope_axis»)) (placeAt (q .cell)) (placeAt (q .step)) ⌝ }
 {
-    let slope_axis = q.slope_axis;
+    let slope = q.slope_axis.given;
+    let axis = q.slope_axis.axis;
     let cell = q.cell;
     let step = q.step;
-    let asked = check_cell_query(s, records.len(), q);
+    let asked = check_cell_query(s, records.len(), cell, step, slope, axis);
     match asked {
         Answer::Refused(r) => Reading::Refused(r),
         Answer::Done => {
@@ -237,7 +242,8 @@ pub fn in_cell(s: Shape, records: &[i32], q: CellQuery) -> Reading
                     &records[..k],
                     cell,
                     step,
-                    slope_axis,
+                    slope,
+                    axis,
                     l,
                 ));
             }
@@ -250,9 +256,10 @@ pub fn in_cell(s: Shape, records: &[i32], q: CellQuery) -> Reading
 pub fn at_position(s: Shape, records: &[i32], q: Query) -> Reading
     ensures { λ r. ⌜ told r ≡ byPosition s (now (records .entry)) (wanted (q .«slope_axis»)) (positionAt (q .position)) ⌝ }
 {
-    let slope_axis = q.slope_axis;
+    let slope = q.slope_axis.given;
+    let axis = q.slope_axis.axis;
     let position = q.position;
-    let asked = check_query(s, records.len(), q);
+    let asked = check_query(s, records.len(), position, slope, axis);
     match asked {
         Answer::Refused(r) => Reading::Refused(r),
         Answer::Done => {
@@ -267,7 +274,8 @@ pub fn at_position(s: Shape, records: &[i32], q: Query) -> Reading
                     &records[..k],
                     cell,
                     step,
-                    slope_axis,
+                    slope,
+                    axis,
                     l,
                 ));
             }

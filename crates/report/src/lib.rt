@@ -54,7 +54,10 @@ fn dose_at(axes: u32, counts: [u32; 3], degree: u32, records: &[i32], cell: [u32
         CellQuery {
             cell: cell,
             step: step,
-            slope_axis: SlopeAxis::NoSlope,
+            slope_axis: SlopeAxis {
+                given: false,
+                axis: 0,
+            },
         },
     );
     match reading {

@@ -24,7 +24,8 @@ use Rattle.cell.specs.Cell.{placeAt}
 use Rattle.evaluate.specs.declared.Strides.{Strides}
 use Rattle.evaluate.specs.Evaluate.{lastAxis, askAt, answer}
 use Rattle.evaluate.specs.Stages.{stridesOf, also, firstAxis, middleAxis, Workable, WorkedOff}
-use Rattle.evaluate.specs.Wants.{wanted}
+use Rattle.evaluate.specs.Wants.{wantOf}
+use Rattle.evaluate.proofs.AnswerLaws.{kind-last}
 use Rattle.evaluate.proofs.Answering.{IsAxis, AreAxes, is-axis, are-axes, workable-in, answer-in, answer-fits}
 use Rattle.evaluate.proofs.Order.{axes-before, axes-low}
 use Rattle.evaluate.proofs.answer.Statement.{statement}
@@ -32,19 +33,19 @@ use Rattle.evaluate.proofs.answer.Tie as tie
 
 module _ (t : tie.After-last-axis) where
   abbrev b : tie.Start
-  b = t .before .before
+  b = t .before
 
   abbrev n : ℕ
   n = b .args .s .axes
 
   abbrev last : ℕ
-  last = lastAxis n (wanted (b .args .want))
+  last = lastAxis n (wantOf (b .args .slope) (b .args .axis))
 
   abbrev Is : ℕ → Strides → Type 0
   Is = IsAxis (b .args .s) (placeAt (b .args .step))
 
   abbrev result : ℤ
-  result = answer (askAt (b .args .s) (wanted (b .args .want)) (placeAt (b .args .cell)) (placeAt (b .args .step))) (recordsField (b .args .s) (now (b .args .records)))
+  result = answer (askAt (b .args .s) (wantOf (b .args .slope) (b .args .axis)) (placeAt (b .args .cell)) (placeAt (b .args .step))) (recordsField (b .args .s) (now (b .args .records)))
 
   m3 : b .args .l .orders ≤ 3
   m3 = subst (λ (i : ℕ). i ≤ 3) (sym (b .pre .laid .orders-are)) (orders-range (b .args .s .degree) .1)
@@ -55,15 +56,15 @@ module _ (t : tie.After-last-axis) where
 
   -- axis a, of strides v, is the last, and those of vs come before
   module _ (k a : ℕ) (ek : n ≡ k) (ea : last ≡ a) (v : Strides) (vs : List Strides) (is-last : Is a v) (are : AreAxes (b .args .s) (placeAt (b .args .step)) (without a (axes k)) vs) where
-    asks : Workable (b .args .l .orders) (t .before .is-slope .result) v vs (length (now (b .args .records))) (at (now (b .args .records))) (b .args .l .base)
+    asks : Workable (b .args .l .orders) (b .args .slope) v vs (length (now (b .args .records))) (at (now (b .args .records))) (b .args .l .base)
     asks =
-        workable-in (b .args .s) (now (b .args .records)) (placeAt (b .args .cell)) (placeAt (b .args .step)) (wanted (b .args .want)) (b .args .l) (b .pre) k a ek ea
-        (t .before .is-slope .result) (t .before .is-slope .ensures) v vs is-last are
+        workable-in (b .args .s) (now (b .args .records)) (placeAt (b .args .cell)) (placeAt (b .args .step)) (wantOf (b .args .slope) (b .args .axis)) (b .args .l) (b .pre) k a ek ea
+        (b .args .slope) (kind-last (b .args .slope) (b .args .axis)) v vs is-last are
 
-    gives : (r : ℤ) → WorkedOff (b .args .l .orders) (t .before .is-slope .result) v vs (at (now (b .args .records))) (b .args .l .base) r → r ≡ result
+    gives : (r : ℤ) → WorkedOff (b .args .l .orders) (b .args .slope) v vs (at (now (b .args .records))) (b .args .l .base) r → r ≡ result
     gives =
-        answer-in (b .args .s) (now (b .args .records)) (placeAt (b .args .cell)) (placeAt (b .args .step)) (wanted (b .args .want)) (b .args .l) (b .pre) k a ek ea
-        (t .before .is-slope .result) (t .before .is-slope .ensures) v vs is-last are
+        answer-in (b .args .s) (now (b .args .records)) (placeAt (b .args .cell)) (placeAt (b .args .step)) (wantOf (b .args .slope) (b .args .axis)) (b .args .l) (b .pre) k a ek ea
+        (b .args .slope) (kind-last (b .args .slope) (b .args .axis)) v vs is-last are
 
   -- the stages' result r is the answer, and fits 32 bits
   module _ (r : ℤ) (ok : mag r < 2 ^ 63) (e : r ≡ result) where
@@ -71,7 +72,7 @@ module _ (t : tie.After-last-axis) where
     fits =
         sfits-abs (toZ w64 (ofZ w64 r)) (lt-of-lt-of-le
         (subst (λ z. natAbs z < 2 ^ 24) (sym (read r ok ∙ e))
-        (answer-fits (b .args .s) (now (b .args .records)) (placeAt (b .args .cell)) (placeAt (b .args .step)) (wanted (b .args .want)) (b .args .l) (b .pre))) (lit≤ tt))
+        (answer-fits (b .args .s) (now (b .args .records)) (placeAt (b .args .cell)) (placeAt (b .args .step)) (wantOf (b .args .slope) (b .args .axis)) (b .args .l) (b .pre))) (lit≤ tt))
 
     cast : toZ w32 (ofZ w32 (toZ w64 (ofZ w64 r))) ≡ result
     cast = toZ-ofZ {w = w32} fits ∙ read r ok ∙ e
@@ -93,7 +94,7 @@ module _ (c : tie.After-strides-of4) where
   more = c .before .before .before .before .before .before
 
   abbrev begun : tie.Start
-  begun = more .before .before
+  begun = more .before
 
   three-low : (n more ≤ 3) × (last more < n more) × (last more < 3)
   three-low = let h = begun .pre .shape .axes-high in let k = begun .pre .last in (h, k, omega arith)
@@ -176,7 +177,6 @@ pub answer-spec : {M : Type 1} → statement M
 answer-spec =
     tie.close
     (tie.spec
-    (λ c κs. search needs)
     (λ c κs. search needs)
     (λ c κs. (m3 (c .before), omega arith))
     one-axis-by-kind-requires

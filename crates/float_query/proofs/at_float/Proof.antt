@@ -122,7 +122,7 @@ returns-3 : tie.Need-returns-3
 returns-3 c =
     let e = c .before .before .before .before .before in
     let b = here e in
-    c .in-float .ensures
+    c .in-float .ensures (b .args .slope-axis .axis)
     ∙ ap (inFloat (want b)) (c .before .read-position .ensures
     ∙ ap (λ (p : Position). reading (s b) (rs b) (want b) (positionCell (s b) p) (positionStep (s b) p)) (place-is e)
     ∙ sym (by-float-reads (s b) (rs b) (want b) (x b) (asked (first-asked (tested e))) (passed e)))

@@ -1,4 +1,5 @@
 use mathlib.Core.Path.{_≡_, sym, ap, subst, _∙_}
+use mathlib.Core.Bool.{Bool}
 use mathlib.Core.Option.{some}
 use Prim.Native.Nat.{_<_, _^_}
 use native.Mathlib.Nat.{lt-of-lt-of-le}
@@ -10,7 +11,7 @@ use mir.Facts.{toZ-ofZ}
 use Rattle.arith.proofs.Abs.{sfits-abs}
 use Rattle.lattice.specs.Outcome.{done}
 use Rattle.evaluate.specs.Evaluate.{dose, slopeAlong}
-use Rattle.evaluate.specs.Wants.{wanted}
+use Rattle.evaluate.specs.Wants.{wantOf}
 use Rattle.query.specs.Answers.{told}
 use Rattle.float_query.specs.Answers.{asDose, asSlope, inFloat}
 use borrow.Author.Needs.{needs}
@@ -34,25 +35,22 @@ module _ (c : tie.After-known-told2) where
   read : toZ w32 (ofZ w32 v) ≡ v
   read = toZ-ofZ {w = w32} (sfits-abs v (lt-of-lt-of-le small (lit≤ tt)))
 
-enum-told : tie.Need-enum-told
-enum-told c = search needs
-
 returns : tie.Need-returns
-returns c = let a = c .before .before .before .args in sym (ap (λ z. inFloat (wanted (a .slope-axis)) (told z)) (c .before .a .given .1))
+returns c axis = let a = c .before .before .before .args in sym (ap (λ z. inFloat (wantOf (a .slope) axis) (told z)) (c .before .a .given .1))
 
 returns-2 : tie.Need-returns-2
-returns-2 c =
-    let k = c .before .before .before in
+returns-2 c axis =
+    let k = c .before .before in
     let a = start k .args in
-    ap (λ z. done (asDose z)) (c .before .before .whole .ensures ∙ ap some (read k))
-    ∙ sym (ap (λ z. inFloat z (told (a .a))) (ap wanted (c .enum-told .given .1)) ∙ ap (inFloat dose) (is k))
+    ap (λ z. done (asSlope z)) (c .before .whole .ensures ∙ ap some (read k))
+    ∙ sym (ap (λ (b : Bool). inFloat (wantOf b axis) (told (a .a))) (c .if1 .taken) ∙ ap (inFloat (slopeAlong axis)) (is k))
 
 returns-3 : tie.Need-returns-3
-returns-3 c =
-    let k = c .before .before .before in
+returns-3 c axis =
+    let k = c .before .before in
     let a = start k .args in
-    ap (λ z. done (asSlope z)) (c .before .before .whole .ensures ∙ ap some (read k))
-    ∙ sym (ap (λ z. inFloat z (told (a .a))) (ap wanted (c .enum-told2 .given .1)) ∙ ap (inFloat (slopeAlong _)) (is k))
+    ap (λ z. done (asDose z)) (c .before .whole .ensures ∙ ap some (read k))
+    ∙ sym (ap (λ (b : Bool). inFloat (wantOf b axis) (told (a .a))) (c .if1 .left) ∙ ap (inFloat dose) (is k))
 
 pub in-float-spec : {M : Type 1} → statement M
 in-float-spec =
@@ -61,8 +59,6 @@ in-float-spec =
     (λ c. search needs)
     (λ c. search needs)
     (λ c κs. subst (λ z. natAbs z < 2 ^ 24) (sym (read c)) (small c))
-    enum-told
-    (λ c. search needs)
     returns
     returns-2
     returns-3)

@@ -4,7 +4,7 @@ use Rattle.lattice.specs.Answer.{meaning}
 use Rattle.lattice.specs.Shape.{size, Shaped}
 use Rattle.lattice.proofs.ShapeLaws.{shaped}
 use Rattle.lattice.proofs.OutcomeLaws.{first-passed, refused-first}
-use Rattle.evaluate.specs.Wants.{wanted}
+use Rattle.evaluate.specs.Wants.{wantOf}
 use Rattle.query.specs.Queries.{askedOutcome, wantOutcome}
 use mathlib.Core.Path.{sym, ap, _∙_}
 use Prim.Native.Nat.{ℕ}
@@ -31,8 +31,8 @@ returns-2 c = λ rs e.
     let a = b .before .before .before .args in
     c .earlier .ensures ∙ ap (λ x. first x (meaning (c .before .check-slope .result))) (c .before .before .refuse-unless .ensures)
     ∙ ap (λ x. first (refuseUnless (eqb (a .given) (c .before .before .before .table-entries .result)) 4 0) x) (c .before .check-slope .ensures)
-    ∙ ap (λ (k : ℕ). first (refuseUnless (eqb (a .given) k) 4 0) (wantOutcome (a .s) (wanted (a .slope-axis)))) (c .before .before .before .table-entries .ensures)
-    ∙ ap (λ (k : ℕ). first (refuseUnless (eqb k (size (a .s))) 4 0) (wantOutcome (a .s) (wanted (a .slope-axis)))) (sym e)
+    ∙ ap (λ (k : ℕ). first (refuseUnless (eqb (a .given) k) 4 0) (wantOutcome (a .s) (wantOf (a .slope) (a .axis)))) (c .before .before .before .table-entries .ensures)
+    ∙ ap (λ (k : ℕ). first (refuseUnless (eqb k (size (a .s))) 4 0) (wantOutcome (a .s) (wantOf (a .slope) (a .axis)))) (sym e)
     ∙ sym (first-passed _ _ (sym (b .before .before .check-shape .ensures) ∙ ap meaning (b .enum-told2 .given .1)))
 
 pub check-asked-spec : {M : Type 1} → statement M

@@ -3,7 +3,7 @@ use Rattle.lattice.specs.Buffer.{tabulate}
 use Rattle.lattice.proofs.BufferLaws.{length-tabulate}
 use Rattle.lattice.proofs.ShapeLaws.{shaped}
 use Rattle.lattice.proofs.OutcomeLaws.{first-passed, refused-first}
-use Rattle.evaluate.specs.Wants.{wanted}
+use Rattle.evaluate.specs.Wants.{wantOf}
 use Rattle.query.proofs.QueryLaws.{asked-parts}
 use mathlib.Core.Path.{sym, ap, _∙_}
 use lib.IntN.{pos}
@@ -21,9 +21,9 @@ returns c = λ rs e.
 
 check-position-requires : tie.Need-check-position-requires
 check-position-requires c κs =
-    let a = c .before .before .before .before .args in
+    let a = c .before .before .before .args in
     let zeros = tabulate (a .given) (λ i. pos 0) in
-    shaped (a .s) (asked-parts (a .s) zeros (wanted (a .q .«slope_axis»)) (sym (c .before .before .check-asked .ensures zeros (length-tabulate (a .given) (λ i. pos 0))) ∙ ap meaning (c .enum-told2 .given .1)) .0)
+    shaped (a .s) (asked-parts (a .s) zeros (wantOf (a .slope) (a .axis)) (sym (c .before .before .check-asked .ensures zeros (length-tabulate (a .given) (λ i. pos 0))) ∙ ap meaning (c .enum-told2 .given .1)) .0)
 
 returns-2 : tie.Need-returns-2
 returns-2 c = λ rs e. c .check-position .ensures ∙ sym (first-passed _ _ (sym (c .before .before .before .check-asked .ensures rs e) ∙ ap meaning (c .before .enum-told2 .given .1)))

@@ -4,7 +4,7 @@ use Rattle.lattice.specs.Outcome.{done}
 use Rattle.lattice.specs.Axes.{Place}
 use Rattle.lattice.proofs.ShapeLaws.{shaped}
 use Rattle.cell.specs.Cell.{placeAt, cellOutcome}
-use Rattle.evaluate.specs.Wants.{wanted}
+use Rattle.evaluate.specs.Wants.{wantOf}
 use Rattle.query.specs.Queries.{reading, stepsOutcome, positionAt, positionCell}
 use Rattle.query.proofs.QueryLaws.{asked-parts, position-cells, position-steps}
 use borrow.Author.Needs.{needs}
@@ -16,7 +16,7 @@ read-cell-requires c κs =
     let b = c .before .before in
     let a = b .args in
     let f = b .pre in
-    let s = shaped (a .s) (asked-parts (a .s) (now (a .records)) (wanted (a .slope-axis)) (f .0) .0) in (
+    let s = shaped (a .s) (asked-parts (a .s) (now (a .records)) (wantOf (a .slope) (a .axis)) (f .0) .0) in (
       f .0,
       (
         subst (λ (p : Place). cellOutcome (a .s) p ≡ done tt) (sym (c .before .position-cell .ensures)) (position-cells (a .s) (positionAt (a .p)) s (f .1)),
@@ -28,8 +28,8 @@ returns : tie.Need-returns
 returns c =
     let a = c .before .before .before .args in
     c .read-cell .ensures
-    ∙ ap (λ (p : Place). reading (a .s) (now (a .records)) (wanted (a .slope-axis)) p (placeAt (c .before .position-step .result))) (c .before .before .position-cell .ensures)
-    ∙ ap (λ (p : Place). reading (a .s) (now (a .records)) (wanted (a .slope-axis)) (positionCell (a .s) (positionAt (a .p))) p) (c .before .position-step .ensures)
+    ∙ ap (λ (p : Place). reading (a .s) (now (a .records)) (wantOf (a .slope) (a .axis)) p (placeAt (c .before .position-step .result))) (c .before .before .position-cell .ensures)
+    ∙ ap (λ (p : Place). reading (a .s) (now (a .records)) (wantOf (a .slope) (a .axis)) (positionCell (a .s) (positionAt (a .p))) p) (c .before .position-step .ensures)
 
 pub read-position-spec : {M : Type 1} → statement M
 read-position-spec = tie.close (tie.spec (λ c κs. search needs) (λ c κs. search needs) read-cell-requires returns)
