@@ -57,7 +57,10 @@ pub fn check_asked(s: Shape, given: usize, slope: bool, axis: u32) -> Answer
         return shape;
     }
     let long = lattice::refuse_unless(given == lattice::table_entries(s), 4, 0);
-    lattice::earlier(long, check_slope(s, slope, axis))
+    if let Answer::Refused(_) = long {
+        return long;
+    }
+    check_slope(s, slope, axis)
 }
 
 fn check_step(n: u32, step: u32, axis: u32) -> Answer
