@@ -22,6 +22,7 @@ fn float_position([x, y, z]: [f32; 3]) -> ffi::FloatPosition {
 /// assert_eq!(refusal, Refusal { number: 10, place: 0 });
 /// # Ok::<(), Refusal>(())
 /// ```
+#[inline]
 pub fn dose_float(shape: Shape, records: &[i32], position: [f32; 3]) -> Result<f32, Refusal> {
     let position = float_position(position);
     // SAFETY: the slice is lent for the call, with its length.
@@ -42,6 +43,7 @@ pub fn dose_float(shape: Shape, records: &[i32], position: [f32; 3]) -> Result<f
 /// assert_eq!(slope_float(shape, &records, [0.5, 0.0, 0.0], 0)?, 125.0);
 /// # Ok::<(), Refusal>(())
 /// ```
+#[inline]
 pub fn slope_float(
     shape: Shape,
     records: &[i32],

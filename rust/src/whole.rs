@@ -18,6 +18,7 @@ use crate::{ffi, Refusal, Shape};
 /// assert_eq!(refusal, Refusal { number: 11, place: 0 });
 /// # Ok::<(), Refusal>(())
 /// ```
+#[inline]
 pub fn dose(shape: Shape, records: &[i32], position: [i32; 3]) -> Result<i32, Refusal> {
     let position = ffi::Position { at: position };
     // SAFETY: the slice is lent for the call, with its length.
@@ -40,6 +41,7 @@ pub fn dose(shape: Shape, records: &[i32], position: [i32; 3]) -> Result<i32, Re
 /// assert_eq!(refusal, Refusal { number: 12, place: 0 });
 /// # Ok::<(), Refusal>(())
 /// ```
+#[inline]
 pub fn slope(shape: Shape, records: &[i32], position: [i32; 3], axis: u32) -> Result<i32, Refusal> {
     let position = ffi::Position { at: position };
     // SAFETY: the slice is lent for the call, with its length.
@@ -60,6 +62,7 @@ pub fn slope(shape: Shape, records: &[i32], position: [i32; 3], axis: u32) -> Re
 /// assert_eq!(dose_in_cell(shape, &records, [0, 0, 0], [256, 0, 0])?, 100);
 /// # Ok::<(), Refusal>(())
 /// ```
+#[inline]
 pub fn dose_in_cell(
     shape: Shape,
     records: &[i32],
@@ -85,6 +88,7 @@ pub fn dose_in_cell(
 /// assert_eq!(slope_in_cell(shape, &records, [0, 0, 0], [0, 0, 0], 0)?, 50);
 /// # Ok::<(), Refusal>(())
 /// ```
+#[inline]
 pub fn slope_in_cell(
     shape: Shape,
     records: &[i32],
