@@ -3,19 +3,16 @@ use mathlib.Core.Path.{_≡_, refl, sym, ap, subst, _∙_}
 use mathlib.Core.Bool.{Bool, true, false}
 use mathlib.Core.List.{List, [], _∷_}
 use Prim.Native.Nat.{ℕ, zero, suc, _+_, _*_, _-_, _^_, _≤_, _<_}
-use native.Mathlib.Nat.{pow-zero, le-trans, le-of-eq}
+use native.Mathlib.Nat.{le-trans, le-of-eq}
 use native.Mathlib.Omega.{arith}
 use native.Mathlib.Decide.{ℕ-discrete, decLt}
-use lib.Dec.{ltb, eqb}
+use lib.Dec.{eqb}
 use lib.IntN.{ℤ, pos}
 use lib.ListN.{length, getD, set}
 use lib.Seq.{getD-set-same, getD-set-other}
-use borrow.Author.Tests.{lt-ltb, le-ltb}
 use Rattle.arith.specs.Choice.{pick}
-use Rattle.arith.proofs.Choices.{pick-true, pick-false}
 use Rattle.lattice.specs.Buffer.{at}
 use Rattle.lattice.specs.Axes.{axes, without}
-use Rattle.lattice.proofs.ShapeLaws.{pow-one, pow-two}
 use Rattle.hermite.specs.Stage.{steps}
 use Rattle.hermite.specs.declared.Basis.{Basis}
 use Rattle.evaluate.specs.declared.Axis.{Axis}

@@ -14,7 +14,7 @@ use Rattle.arith.specs.Sum.{total}
 use Rattle.arith.proofs.Round.{Nearly, half-up-nearly}
 use Rattle.arith.proofs.Abs.{abs-mul}
 use Rattle.arith.proofs.Sums.{total-ext}
-use Rattle.lattice.specs.Axes.{Place, Field, put, along, sweep, axes}
+use Rattle.lattice.specs.Axes.{Place, Field, put, sweep, axes}
 use Rattle.lattice.specs.Records.{totalOrder, entryLimit}
 use Rattle.lattice.proofs.Along.{put-at, put-off, put-swap, Each, each-axes, each-without, Fresh, Distinct, distinct-axes, distinct-without, fresh-out, last-first, length-order, length-axes}
 use Rattle.hermite.specs.Hermite.{value}

@@ -1,7 +1,7 @@
 -- Every accepted cell of a table has its line: its number is i + x·(j + y·k), where x, y are the cells along the first two axes.
 use mathlib.Core.Path.{_≡_, ap, fun-ext}
 use mathlib.Core.List.{[], _∷_}
-use Prim.Native.Nat.{ℕ, _+_, _≤_, _<_}
+use Prim.Native.Nat.{ℕ, _≤_, _<_}
 use native.Mathlib.Decide.{decLt}
 use native.Mathlib.Omega.{arith}
 use borrow.Author.Tests.{le-ltb}

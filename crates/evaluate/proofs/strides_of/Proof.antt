@@ -1,11 +1,10 @@
-use mathlib.Core.Path.{_≡_, refl, sym, ap, subst, _∙_}
+use mathlib.Core.Path.{_≡_, sym, ap, _∙_}
 use Prim.Native.Nat.{ℕ, _*_, _^_, _≤_}
 use native.Mathlib.Nat.{pow-zero, mul-le-mul}
 use native.Mathlib.Omega.{arith}
 use lib.ListN.{getD}
 use borrow.Author.Needs.{needs}
 use Rattle.lattice.proofs.ShapeLaws.{pow-one, pow-two}
-use Rattle.evaluate.specs.declared.Strides.{Strides}
 use Rattle.evaluate.specs.Stages.{stridesOf}
 use Rattle.evaluate.proofs.strides_of.Statement.{statement}
 use Rattle.evaluate.proofs.strides_of.Tie as tie
