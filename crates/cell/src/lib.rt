@@ -91,14 +91,29 @@ fn check_index(n: u32, count: u32, index: u32, axis: u32) -> Answer
     lattice::refuse_on_axis(n, axis, inside, index == 0, 14)
 }
 
-// Refusal 14.
+// Refusal 14, each index after the other.
+fn check_each_index(n: u32, s: Shape, cell: [u32; 3]) -> Answer
+    requires { ⌜ n ≡ s .axes ⌝ }
+    ensures { λ r. ⌜ meaning r ≡ cellOutcome s (placeAt cell) ⌝ }
+{
+    let x = check_index(n, s.counts[0], cell[0], 0);
+    let y = check_index(n, s.counts[1], cell[1], 1);
+    let z = check_index(n, s.counts[2], cell[2], 2);
+    lattice::earlier(lattice::earlier(x, y), z)
+}
+
+// Refusal 14; the number of axes is a constant where the tests are made.
 pub fn check_cell(s: Shape, cell: [u32; 3]) -> Answer
     ensures { λ r. ⌜ meaning r ≡ cellOutcome s (placeAt cell) ⌝ }
 {
-    let x = check_index(s.axes, s.counts[0], cell[0], 0);
-    let y = check_index(s.axes, s.counts[1], cell[1], 1);
-    let z = check_index(s.axes, s.counts[2], cell[2], 2);
-    lattice::earlier(lattice::earlier(x, y), z)
+    let n = s.axes;
+    if n == 1 {
+        return check_each_index(1, s, cell);
+    }
+    if n == 2 {
+        return check_each_index(2, s, cell);
+    }
+    check_each_index(n, s, cell)
 }
 
 pub fn lay_out(s: Shape, cell: [u32; 3]) -> Layout

@@ -91,8 +91,8 @@ fn check_count(n: u32, count: u32, axis: u32) -> Answer
     refuse_on_axis(n, axis, 2 <= count && count <= 64, count == 1, 3)
 }
 
-// Refusal 3.
-pub fn check_counts(n: u32, x: u32, y: u32, z: u32) -> Answer
+// Refusal 3, each count after the other.
+fn check_each_count(n: u32, x: u32, y: u32, z: u32) -> Answer
     ensures { λ r. ⌜ meaning r ≡ countsOutcome n (λ a. getD (x ∷ y ∷ z ∷ []) a 0) ⌝ }
 {
     let on_x = check_count(n, x, 0);
@@ -104,6 +104,19 @@ pub fn check_counts(n: u32, x: u32, y: u32, z: u32) -> Answer
         return on_y;
     }
     check_count(n, z, 2)
+}
+
+// Refusal 3; the number of axes is a constant where the tests are made.
+pub fn check_counts(n: u32, x: u32, y: u32, z: u32) -> Answer
+    ensures { λ r. ⌜ meaning r ≡ countsOutcome n (λ a. getD (x ∷ y ∷ z ∷ []) a 0) ⌝ }
+{
+    if n == 1 {
+        return check_each_count(1, x, y, z);
+    }
+    if n == 2 {
+        return check_each_count(2, x, y, z);
+    }
+    check_each_count(n, x, y, z)
 }
 
 pub fn check_shape(s: Shape) -> Answer

@@ -69,14 +69,29 @@ fn check_step(n: u32, step: u32, axis: u32) -> Answer
     lattice::refuse_on_axis(n, axis, step <= 256, step == 0, 11)
 }
 
-// Refusal 11 of an in-cell step.
+// Refusal 11 of an in-cell step, each axis after the other.
+fn check_each_step(n: u32, s: Shape, step: [u32; 3]) -> Answer
+    requires { ⌜ n ≡ s .axes ⌝ }
+    ensures { λ r. ⌜ meaning r ≡ stepsOutcome s (placeAt step) ⌝ }
+{
+    let x = check_step(n, step[0], 0);
+    let y = check_step(n, step[1], 1);
+    let z = check_step(n, step[2], 2);
+    lattice::earlier(lattice::earlier(x, y), z)
+}
+
+// Refusal 11 of an in-cell step; the number of axes is a constant where the tests are made.
 fn check_steps(s: Shape, step: [u32; 3]) -> Answer
     ensures { λ r. ⌜ meaning r ≡ stepsOutcome s (placeAt step) ⌝ }
 {
-    let x = check_step(s.axes, step[0], 0);
-    let y = check_step(s.axes, step[1], 1);
-    let z = check_step(s.axes, step[2], 2);
-    lattice::earlier(lattice::earlier(x, y), z)
+    let n = s.axes;
+    if n == 1 {
+        return check_each_step(1, s, step);
+    }
+    if n == 2 {
+        return check_each_step(2, s, step);
+    }
+    check_each_step(n, s, step)
 }
 
 // The distance of a position from 0.
