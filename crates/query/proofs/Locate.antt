@@ -8,8 +8,11 @@ use lib.Dec.{leb, ltb}
 use lib.ListN.{getD}
 use lib.IntN.{ℤ, pos, negsuc, natAbs}
 use lib.Signed.{nonNeg, ltZ, mag}
+use mir.Syntax.{w32}
+use mir.Val.{Fits, toZ, ofZ}
 use borrow.Author.Tests.{ltb-true, lt-ltb, le-ltb}
 use Rattle.arith.specs.Choice.{pick}
+use Rattle.arith.proofs.Machine.{element}
 use Rattle.arith.proofs.Choices.{pick-true, pick-false}
 use Rattle.lattice.specs.declared.Shape.{Shape}
 use Rattle.lattice.specs.Outcome.{refuseUnless}
@@ -69,6 +72,20 @@ three x y z f i j k none = fun-ext go
     go (suc (suc zero)) = k
     go (suc (suc (suc a))) = pick-false (ltb (suc (suc (suc a))) 3) 0 0 (le-ltb (suc (suc (suc a))) 3 (omega arith)) ∙ sym (none (suc (suc (suc a))) (omega arith))
 
+-- where the place is 0 from axis n on
+module _ (n : ℕ) (f : Place) (unused : (a : ℕ) → a < 3 → n ≤ a → f a ≡ 0) (none : (a : ℕ) → 3 ≤ a → f a ≡ 0) where
+  pub one : (x : ℕ) → n ≡ 1 → x ≡ f 0 → placeAt (x ∷ 0 ∷ 0 ∷ []) ≡ f
+  one x e i = three x 0 0 f i (sym (unused 1 (omega arith) (omega arith))) (sym (unused 2 (omega arith) (omega arith))) none
+
+  pub two : (x y : ℕ) → n ≡ 2 → x ≡ f 0 → y ≡ f 1 → placeAt (x ∷ y ∷ 0 ∷ []) ≡ f
+  two x y e i j = three x y 0 f i j (sym (unused 2 (omega arith) (omega arith))) none
+
+-- what position_step needs of the distance d on axis a
+pub record Stepped (s : Shape) (p : List ℤ) (cell : List ℕ) (a d : ℕ) : Type 0 where
+  pub fits : Fits w32 (256 * getD cell a 0)
+  pub below : 256 * getD cell a 0 ≤ d
+  pub is : d - 256 * getD cell a 0 ≡ positionStep s (positionAt p) a
+
 module _ (s : Shape) (p : List ℤ) where
   position-beyond : (a : ℕ) → 3 ≤ a → natAbs (positionAt p a) ≡ 0
   unfolding positionAt
@@ -82,12 +99,17 @@ module _ (s : Shape) (p : List ℤ) where
   unfolding positionStep
   no-step a l = let h = position-beyond a l in omega arith
 
+  -- the cell on axis a, from the distance that the code works out
+  pub celled : (a : ℕ) → a < 3 → (c d : ℕ) → c ≡ cellOf steps (count s a) d → d ≡ natAbs (toZ w32 (ofZ w32 (at p a))) → mag (at p a) < 2 ^ 31 → c ≡ positionCell s (positionAt p) a
+  unfolding positionCell positionAt
+  celled a l c d i e m = i ∙ ap (cellOf steps (count s a)) (e ∙ ap natAbs (element (at p a) m ∙ sym (pick-true (ltb a 3) (at p a) (pos 0) (lt-ltb a 3 l))))
+
   -- the test of one coordinate
   pub coordinate-is : (a : ℕ) → a < 3 → (z : ℤ) → z ≡ at p a → coordinateOutcome (count s a) z a ≡ positionOutcome s (positionAt p) a
   unfolding positionOutcome positionAt
   coordinate-is a l z e = ap (λ (q : ℤ). coordinateOutcome (count s a) q a) (e ∙ sym (pick-true (ltb a 3) (at p a) (pos 0) (lt-ltb a 3 l)))
 
-  -- the in-cell step of a position whose cell is known
+  -- the in-cell step of a position whose cell is known, from the distance d that the code works out
   module _ (cell : List ℕ) (is : placeAt cell ≡ positionCell s (positionAt p)) (a : ℕ) (l : a < 3) where
     cell-is : getD cell a 0 ≡ cellOf steps (count s a) (natAbs (at p a))
     unfolding positionCell positionAt placeAt
@@ -95,11 +117,17 @@ module _ (s : Shape) (p : List ℤ) where
         sym (pick-true (ltb a 3) (getD cell a 0) 0 (lt-ltb a 3 l)) ∙ ap (λ (f : Place). f a) is
         ∙ ap (λ (z : ℤ). cellOf steps (count s a) (natAbs z)) (pick-true (ltb a 3) (at p a) (pos 0) (lt-ltb a 3 l))
 
-    pub start-below : 256 * getD cell a 0 ≤ natAbs (at p a)
-    start-below = let e = cell-is in let h = cell-below (count s a) (natAbs (at p a)) in omega arith
-
-    pub step-is : (d : ℕ) → d ≡ natAbs (at p a) → d - 256 * getD cell a 0 ≡ positionStep s (positionAt p) a
+    pub stepped : (d : ℕ) → d ≡ natAbs (toZ w32 (ofZ w32 (at p a))) → mag (at p a) < 2 ^ 31 → Stepped s p cell a d
     unfolding positionStep positionCell positionAt
-    step-is d e =
-        ap (λ (n : ℕ). n - 256 * getD cell a 0) e ∙ ap (λ (n : ℕ). natAbs (at p a) - 256 * n) cell-is
-        ∙ ap (λ (z : ℤ). natAbs z - 256 * cellOf steps (count s a) (natAbs z)) (sym (pick-true (ltb a 3) (at p a) (pos 0) (lt-ltb a 3 l)))
+    stepped d e m =
+        let i = e ∙ ap natAbs (element (at p a) m) in
+        let b = cell-below (count s a) (natAbs (at p a)) in
+        let k = cell-is in
+        let h = size-low (at p a) m in
+        record {
+          fits = omega arith;
+          below = omega arith;
+          is =
+              ap (λ (n : ℕ). n - 256 * getD cell a 0) i ∙ ap (λ (n : ℕ). natAbs (at p a) - 256 * n) k
+              ∙ ap (λ (z : ℤ). natAbs z - 256 * cellOf steps (count s a) (natAbs z)) (sym (pick-true (ltb a 3) (at p a) (pos 0) (lt-ltb a 3 l)));
+        }

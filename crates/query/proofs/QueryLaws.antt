@@ -203,9 +203,14 @@ pub in-cell : (c P : ℕ) → 2 ≤ c → P ≤ steps * (c - 1) → (cellOf step
 unfolding cellOf
 in-cell c P h k = (omega arith, omega arith, omega arith)
 
-none-of : (c P : ℕ) → c ≡ 1 → P ≤ steps * (c - 1) → (cellOf steps c P ≡ 0) × (P - steps * cellOf steps c P ≡ 0)
-unfolding cellOf
-none-of c P h k = (omega arith, omega arith)
+-- on an unused axis
+pub unused-cell : (s : Shape) (p : Position) → Shaped s → (a : ℕ) → a < 3 → s .axes ≤ a → positionCell s p a ≡ 0
+unfolding positionCell cellOf
+unused-cell s p f a l k = let e = f .unused a l k in omega arith
+
+pub unused-step : (s : Shape) (p : Position) → Shaped s → firstOf 3 (positionOutcome s p) ≡ done tt → (a : ℕ) → a < 3 → s .axes ≤ a → positionStep s p a ≡ 0
+unfolding positionStep
+unused-step s p f h a l k = let e = f .unused a l k in let r = position-range s p h a l .1 in omega arith
 
 in-either : (s : Shape) (a : ℕ) (x y : Bool) → (a < s .axes → x ≡ true) → (s .axes ≤ a → y ≡ true) → pick (ltb a (s .axes)) x y ≡ true
 in-either s a x y f g = go (decLt a (s .axes))
@@ -221,7 +226,7 @@ position-cells s p f h = firstOf-passes 3 (λ a. indexOutcome s (positionCell s 
     passes (pick (ltb a (s .axes)) (leb (positionCell s p a + 2) (count s a)) (eqb (positionCell s p a) 0)) 14 a
     (in-either s a (leb (positionCell s p a + 2) (count s a)) (eqb (positionCell s p a) 0)
     (λ k. le-leb (positionCell s p a + 2) (count s a) (in-cell (count s a) (natAbs (p a)) (f .used a k) (r .1) .0))
-    (λ k. eq-eqb (positionCell s p a) 0 (none-of (count s a) (natAbs (p a)) (f .unused a l k) (r .1) .0))))
+    (λ k. eq-eqb (positionCell s p a) 0 (unused-cell s p f a l k))))
 
 pub position-steps : (s : Shape) (p : Position) → Shaped s → firstOf 3 (positionOutcome s p) ≡ done tt → stepsOutcome s (positionStep s p) ≡ done tt
 unfolding stepsOutcome positionStep positionCell
@@ -230,7 +235,7 @@ position-steps s p f h = firstOf-passes 3 (λ a. refuseUnless (pick (ltb a (s .a
     passes (pick (ltb a (s .axes)) (leb (positionStep s p a) steps) (eqb (positionStep s p a) 0)) 11 a
     (in-either s a (leb (positionStep s p a) steps) (eqb (positionStep s p a) 0)
     (λ k. le-leb (positionStep s p a) steps (in-cell (count s a) (natAbs (p a)) (f .used a k) (r .1) .2))
-    (λ k. eq-eqb (positionStep s p a) 0 (none-of (count s a) (natAbs (p a)) (f .unused a l k) (r .1) .1))))
+    (λ k. eq-eqb (positionStep s p a) 0 (unused-step s p f h a l k))))
 
 -- the cell and the in-cell step that the code works out
 pub at-place : (s : Shape) (rs : List ℤ) (want : Want) (p : Position) (cell step : Place) → askedOutcome s rs want ≡ done tt → firstOf 3 (positionOutcome s p) ≡ done tt → cell ≡ positionCell s p → step ≡ positionStep s p

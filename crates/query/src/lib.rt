@@ -140,21 +140,35 @@ fn cell_of(count: u32, p: u32) -> u32
 
 // The cell of a position.
 fn position_cell(s: Shape, p: [i32; 3]) -> [u32; 3]
+    requires { ⌜ Shaped s ⌝ }
     ensures { λ r. ⌜ placeAt r ≡ positionCell s (positionAt p) ⌝ }
 {
     let x = cell_of(s.counts[0], distance(p[0]));
+    if s.axes == 1 {
+        return [x, 0, 0];
+    }
     let y = cell_of(s.counts[1], distance(p[1]));
+    if s.axes == 2 {
+        return [x, y, 0];
+    }
     let z = cell_of(s.counts[2], distance(p[2]));
     [x, y, z]
 }
 
 // The in-cell step of a position.
 fn position_step(s: Shape, p: [i32; 3], cell: [u32; 3]) -> [u32; 3]
+    requires { ⌜ Shaped s × (firstOf 3 (positionOutcome s (positionAt p)) ≡ done tt) ⌝ }
     requires { ⌜ placeAt cell ≡ positionCell s (positionAt p) ⌝ }
     ensures { λ r. ⌜ placeAt r ≡ positionStep s (positionAt p) ⌝ }
 {
     let x = distance(p[0]) - 256 * cell[0];
+    if s.axes == 1 {
+        return [x, 0, 0];
+    }
     let y = distance(p[1]) - 256 * cell[1];
+    if s.axes == 2 {
+        return [x, y, 0];
+    }
     let z = distance(p[2]) - 256 * cell[2];
     [x, y, z]
 }

@@ -2,34 +2,43 @@ use mathlib.Core.Path.{_≡_, refl, sym, ap, _∙_}
 use denote.Ref.{now}
 use Rattle.lattice.specs.Answer.{meaning}
 use Rattle.lattice.specs.Outcome.{done, firstOf}
+use Rattle.lattice.specs.Shape.{Shaped}
+use Rattle.lattice.proofs.ShapeLaws.{shaped}
 use Rattle.lattice.proofs.OutcomeLaws.{first-done}
 use Rattle.cell.specs.Cell.{placeAt}
 use Rattle.evaluate.specs.Wants.{wanted}
 use Rattle.query.specs.Queries.{askedOutcome, positionAt, positionOutcome, byPosition}
-use Rattle.query.proofs.QueryLaws.{Read, by-position-stops, at-place, lent, lent-long, lend, Near, near, ready, answered, stopped}
+use Rattle.query.proofs.QueryLaws.{asked-parts, Read, by-position-stops, at-place, lent, lent-long, lend, Near, near, ready, answered, stopped}
 use borrow.Author.Needs.{needs}
 use Rattle.query.proofs.at_position.Statement.{statement}
 use Rattle.query.proofs.at_position.Tie as tie
 
 -- not refused before 5: the position's cell and in-cell step
+module _ (c : tie.After-enum-told) where
+  abbrev begin : tie.Start
+  begin = c .before .before .before .before
+
+  within : (askedOutcome (begin .args .s) (now (begin .args .records)) (wanted (begin .args .q .«slope_axis»)) ≡ done tt) × (firstOf 3 (positionOutcome (begin .args .s) (positionAt (begin .args .q .position))) ≡ done tt)
+  within =
+      let a = begin .args in
+      first-done (askedOutcome (a .s) (now (a .records)) (wanted (a .q .«slope_axis»))) (firstOf 3 (positionOutcome (a .s) (positionAt (a .q .position)))) tt
+      (sym (c .before .before .check-query .ensures (now (a .records)) refl) ∙ ap meaning (c .enum-told .given .1))
+
+  shape : Shaped (begin .args .s)
+  shape = let a = begin .args in shaped (a .s) (asked-parts (a .s) (now (a .records)) (wanted (a .q .«slope_axis»)) (within .0) .0)
+
 module _ (c : tie.After-position-step) where
   abbrev told : tie.After-enum-told
   told = c .before .before
 
   abbrev start : tie.Start
-  start = told .before .before .before .before
-
-  within : (askedOutcome (start .args .s) (now (start .args .records)) (wanted (start .args .q .«slope_axis»)) ≡ done tt) × (firstOf 3 (positionOutcome (start .args .s) (positionAt (start .args .q .position))) ≡ done tt)
-  within =
-      let a = start .args in
-      first-done (askedOutcome (a .s) (now (a .records)) (wanted (a .q .«slope_axis»))) (firstOf 3 (positionOutcome (a .s) (positionAt (a .q .position)))) tt
-      (sym (told .before .before .check-query .ensures (now (a .records)) refl) ∙ ap meaning (told .enum-told .given .1))
+  start = begin told
 
   place : Read (start .args .s) (lent (now (start .args .records))) (wanted (start .args .q .«slope_axis»)) (placeAt (c .before .position-cell .result)) (placeAt (c .position-step .result)) (byPosition (start .args .s) (now (start .args .records)) (wanted (start .args .q .«slope_axis»)) (positionAt (start .args .q .position)))
   place =
       let a = start .args in
       lend (a .s) (now (a .records)) (wanted (a .q .«slope_axis»)) (placeAt (c .before .position-cell .result)) (placeAt (c .position-step .result)) _
-      (at-place (a .s) (now (a .records)) (wanted (a .q .«slope_axis»)) (positionAt (a .q .position)) (placeAt (c .before .position-cell .result)) (placeAt (c .position-step .result)) (within .0) (within .1) (c .before .position-cell .ensures) (c .position-step .ensures))
+      (at-place (a .s) (now (a .records)) (wanted (a .q .«slope_axis»)) (positionAt (a .q .position)) (placeAt (c .before .position-cell .result)) (placeAt (c .position-step .result)) (within told .0) (within told .1) (c .before .position-cell .ensures) (c .position-step .ensures))
 
   facts : Near (start .args .s) (lent (now (start .args .records))) (c .before .position-cell .result)
   facts = let a = start .args in near (a .s) (lent (now (a .records))) (wanted (a .q .«slope_axis»)) (c .before .position-cell .result) (placeAt (c .position-step .result)) (place .0)
@@ -83,8 +92,8 @@ at-position-spec =
     (λ c κs. search needs)
     (λ c. search needs)
     enum-told
-    (λ c κs. search needs)
-    (λ c κs. search needs)
+    (λ c κs. shape c)
+    (λ c κs. ((shape (c .before), within (c .before) .1), c .position-cell .ensures))
     (λ c κs. (facts c .shape, facts c .here))
     (λ c. lent-long (start (c .before .before) .args .records .now))
     corners-within-requires

@@ -1,42 +1,49 @@
+use mathlib.Core.Path.{_≡_}
+use Prim.Native.Nat.{ℕ, _≤_, _<_}
 use lib.Dec.{lit<}
-use Rattle.arith.proofs.Machine.{element}
-use Rattle.lattice.specs.Buffer.{at}
+use Rattle.lattice.specs.Axes.{Place}
 use Rattle.query.specs.Queries.{positionAt, positionStep}
-use Rattle.query.proofs.Locate.{three, no-step, start-below, step-is, size-low}
-use mathlib.Core.Path.{ap, _∙_}
-use native.Mathlib.Omega.{arith}
-use lib.IntN.{natAbs}
+use Rattle.query.proofs.Locate.{Stepped, stepped, one, two, three, no-step}
+use Rattle.query.proofs.QueryLaws.{unused-step}
 use borrow.Author.Needs.{needs}
 use Rattle.query.proofs.position_step.Statement.{statement}
 use Rattle.query.proofs.position_step.Tie as tie
 
-mul-x : tie.Need-mul-x
-mul-x c = let h = start-below (c .before .before .args .s) (c .before .before .args .t2) (c .before .before .args .t3) (c .before .before .pre) 0 (lit< tt) in let k = size-low (at (c .before .before .args .t2) 0) (c .before .distance-arg .given) in omega arith
+abbrev step : tie.Start → Place
+step b = positionStep (b .args .s) (positionAt (b .args .t2))
 
-sub-x : tie.Need-sub-x
-sub-x c = let h = start-below (c .before .before .args .s) (c .before .before .args .t2) (c .before .before .args .t3) (c .before .before .pre) 0 (lit< tt) in let e = c .distance .ensures ∙ ap natAbs (element (at (c .before .before .args .t2) 0) (c .before .distance-arg .given)) in omega arith
+unused : (b : tie.Start) (a : ℕ) → a < 3 → b .args .s .axes ≤ a → step b a ≡ 0
+unused b = unused-step (b .args .s) (positionAt (b .args .t2)) (b .pre .0 .0) (b .pre .0 .1)
 
-mul-y : tie.Need-mul-y
-mul-y c = let h = start-below (c .before .before .before .before .args .s) (c .before .before .before .before .args .t2) (c .before .before .before .before .args .t3) (c .before .before .before .before .pre) 1 (lit< tt) in let k = size-low (at (c .before .before .before .before .args .t2) 1) (c .before .distance-arg2 .given) in omega arith
+abbrev On : tie.Start → ℕ → ℕ → Type 0
+On b = Stepped (b .args .s) (b .args .t2) (b .args .t3)
 
-sub-y : tie.Need-sub-y
-sub-y c = let h = start-below (c .before .before .before .before .args .s) (c .before .before .before .before .args .t2) (c .before .before .before .before .args .t3) (c .before .before .before .before .pre) 1 (lit< tt) in let e = c .distance2 .ensures ∙ ap natAbs (element (at (c .before .before .before .before .args .t2) 1) (c .before .distance-arg2 .given)) in omega arith
+abbrev x-start : tie.After-distance → tie.Start
+x-start c = c .before .before
 
-mul-z : tie.Need-mul-z
-mul-z c = let h = start-below (c .before .before .before .before .before .before .args .s) (c .before .before .before .before .before .before .args .t2) (c .before .before .before .before .before .before .args .t3) (c .before .before .before .before .before .before .pre) 2 (lit< tt) in let k = size-low (at (c .before .before .before .before .before .before .args .t2) 2) (c .before .distance-arg3 .given) in omega arith
+x : (c : tie.After-distance) → On (x-start c) 0 (c .distance .result)
+x c = let b = x-start c in stepped (b .args .s) (b .args .t2) (b .args .t3) (b .pre .1) 0 (lit< tt) _ (c .distance .ensures) (c .before .distance-arg .given)
 
-sub-z : tie.Need-sub-z
-sub-z c = let h = start-below (c .before .before .before .before .before .before .args .s) (c .before .before .before .before .before .before .args .t2) (c .before .before .before .before .before .before .args .t3) (c .before .before .before .before .before .before .pre) 2 (lit< tt) in let e = c .distance3 .ensures ∙ ap natAbs (element (at (c .before .before .before .before .before .before .args .t2) 2) (c .before .distance-arg3 .given)) in omega arith
+abbrev y-start : tie.After-distance2 → tie.Start
+y-start c = x-start (c .before .before .before .before)
+
+y : (c : tie.After-distance2) → On (y-start c) 1 (c .distance2 .result)
+y c = let b = y-start c in stepped (b .args .s) (b .args .t2) (b .args .t3) (b .pre .1) 1 (lit< tt) _ (c .distance2 .ensures) (c .before .distance-arg2 .given)
+
+abbrev z-start : tie.After-distance3 → tie.Start
+z-start c = y-start (c .before .before .before .before)
+
+z : (c : tie.After-distance3) → On (z-start c) 2 (c .distance3 .result)
+z c = let b = z-start c in stepped (b .args .s) (b .args .t2) (b .args .t3) (b .pre .1) 2 (lit< tt) _ (c .distance3 .ensures) (c .before .distance-arg3 .given)
 
 returns : tie.Need-returns
-returns c =
-    let b = c .before .before .before .before .before .before in
-    let a = b .args in
-    three _ _ _ (positionStep (a .s) (positionAt (a .t2)))
-    (step-is (a .s) (a .t2) (a .t3) (b .pre) 0 (lit< tt) (c .before .before .before .before .distance .result) (c .before .before .before .before .distance .ensures ∙ ap natAbs (element (at (a .t2) 0) (c .before .before .before .before .before .distance-arg .given))))
-    (step-is (a .s) (a .t2) (a .t3) (b .pre) 1 (lit< tt) (c .before .before .distance2 .result) (c .before .before .distance2 .ensures ∙ ap natAbs (element (at (a .t2) 1) (c .before .before .before .distance-arg2 .given))))
-    (step-is (a .s) (a .t2) (a .t3) (b .pre) 2 (lit< tt) (c .distance3 .result) (c .distance3 .ensures ∙ ap natAbs (element (at (a .t2) 2) (c .before .distance-arg3 .given))))
-    (no-step (a .s) (a .t2))
+returns c = let d = c .before .before in let b = x-start d in one (b .args .s .axes) (step b) (unused b) (no-step (b .args .s) (b .args .t2)) _ (c .if1 .taken) (x d .is)
+
+returns-2 : tie.Need-returns-2
+returns-2 c = let d = c .before .before in let b = y-start d in two (b .args .s .axes) (step b) (unused b) (no-step (b .args .s) (b .args .t2)) _ _ (c .if2 .taken) (x (d .before .before .before .before) .is) (y d .is)
+
+returns-3 : tie.Need-returns-3
+returns-3 c = let d = c .before .before .before .before in let b = z-start c in three _ _ _ (step b) (x (d .before .before .before .before) .is) (y d .is) (z c .is) (no-step (b .args .s) (b .args .t2))
 
 pub position-step-spec : {M : Type 1} → statement M
 position-step-spec =
@@ -45,16 +52,18 @@ position-step-spec =
     (λ c. search needs)
     (λ c κs. search needs)
     (λ c. search needs)
-    mul-x
-    sub-x
+    (λ c. x c .fits)
+    (λ c. x c .below)
+    returns
     (λ c. search needs)
     (λ c κs. search needs)
     (λ c. search needs)
-    mul-y
-    sub-y
+    (λ c. y c .fits)
+    (λ c. y c .below)
+    returns-2
     (λ c. search needs)
     (λ c κs. search needs)
     (λ c. search needs)
-    mul-z
-    sub-z
-    returns)
+    (λ c. z c .fits)
+    (λ c. z c .below)
+    returns-3)
