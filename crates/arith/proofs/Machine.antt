@@ -2,7 +2,6 @@
 -- `Size u` finds the plain number v that u stands for, a bound on its size, and what is left to show: one order of natural numbers for each step, for `omega`.
 --     fits? (search (sizes, sized ..)) (omega arith)       that a sum, a difference or a product fits
 --     value? (search (sizes, sized ..)) (omega arith)      that u is v
---     bounded? u (search (sizes, sized ..)) (omega arith)  that u is within a bound
 use mathlib.Core.Path.{_≡_, refl, sym, _∙_, ap, ap₂, subst}
 use Prim.Native.Nat.{ℕ, suc, _+_, _*_, _/_, _%_, _^_, _≤_, _<_}
 use native.Mathlib.Nat.{le-refl, le-trans, lt-of-le-of-lt, add-le-add, div-lt-iff-lt-mul, div-add-mod, mod-lt, mod-eq-of-lt, one-mul}
@@ -159,6 +158,3 @@ fits? {w} {u} x t = sfits-abs {w = w} u (lt-of-le-of-lt (subst (λ z. natAbs z �
 
 pub value? : {u : ℤ} (x : Size u) → x .Ob → u ≡ x .v
 value? x t = x .is t
-
-pub bounded? : (u : ℤ) {K : ℕ} (x : Size u) → x .Ob × (x .B ≤ K) → natAbs u ≤ K
-bounded? u {K} x t = subst (λ z. natAbs z ≤ K) (sym (x .is (t .0))) (le-trans (x .ok (t .0)) (t .1))

@@ -14,7 +14,7 @@ use Rattle.lattice.proofs.ShapeLaws.{orders-range}
 use Rattle.cell.specs.Cell.{placeAt}
 use Rattle.coefficients.specs.Corners.{coefficientCount, coefficientList, coefficientsOutcome, Permitted, HasCoefficients, cornerRecords, doubledEntry, allowed, possibleOutcome, entryList, backOutcome, oneCell}
 use Rattle.lattice.proofs.OutcomeLaws.{done-refused}
-use Rattle.coefficients.proofs.Possible.{within, back-of-forward, possible-of, back-permitted, forward-of-back, firstOf-either, only-13}
+use Rattle.coefficients.proofs.Possible.{within, possible-of, back-permitted, forward-of-back, firstOf-either, only-13}
 use Rattle.coefficients.proofs.Calls.{written-within, back-of-written, forward-of-written}
 use Rattle.coefficients.proofs.OneCell.{onlyCell}
 
@@ -24,10 +24,6 @@ module _ (m n : ℕ) (m2 : 2 ≤ m) (m3 : m ≤ 3) (few : n ≤ 3) (r cs : List 
   -- the coefficients of permitted corner records lie within ±2^30
   pub coefficients-within : Permitted m n r → HasCoefficients m n r cs → (K : ℕ) → K < coefficientCount m n → natAbs (at cs K) ≤ 2 ^ 30
   coefficients-within ok has = within m n m2 m3 cs r has few ok
-
-  -- back of forward is the corner records, and not refused
-  pub back-is-records : Permitted m n r → HasCoefficients m n r cs → (possibleOutcome m n cs ≡ done tt) × (entryList m n cs ≡ r)
-  back-is-records ok has = (possible-of m n m2 m3 cs r has ok, back-of-forward m n m2 m3 cs r has (ok .many))
 
   -- forward of what back gives is the coefficients, and what back gives is permitted
   pub forward-is-coefficients : length cs ≡ coefficientCount m n → possibleOutcome m n cs ≡ done tt → Permitted m n (entryList m n cs) × HasCoefficients m n (entryList m n cs) cs

@@ -18,7 +18,7 @@ use Rattle.hermite.specs.declared.Basis.{Basis}
 use Rattle.evaluate.specs.declared.Axis.{Axis}
 use Rattle.evaluate.specs.declared.Strides.{Strides}
 use Rattle.hermite.specs.Stage.{load}
-use Rattle.evaluate.specs.Stages.{offsetBy, offsetOf, after, numbersAt, endsOf, also, firstAxis, middleAxis, AllPrepared, Safe, Made, AllSteps, Workable, WorkedOff}
+use Rattle.evaluate.specs.Stages.{offsetBy, offsetOf, after, numbersAt, endsOf, also, beside, AllPrepared, Safe, Made, AllSteps, Workable, WorkedOff}
 use Rattle.evaluate.proofs.EndLaws.{offset-low, offset-high, number-at, number-none, safe-low, safe-high, load-same}
 
 pub apart : {A : Type 0} (b : Bool) → b ≡ true → b ≡ false → A
@@ -221,8 +221,8 @@ module _ (m n : ℕ) (three : Bool) (z : Axis) (xs : List Axis) (g : ℕ → ℤ
 -- ---- the axes in their working order
 
 -- the axes before the last, the last of them first
-pub axes-before : (n a : ℕ) → 2 ≤ n → n ≤ 3 → a < n → without a (axes n) ≡ also (eqb n 3) (middleAxis a) (firstAxis a ∷ [])
-unfolding axes without pick firstAxis middleAxis
+pub axes-before : (n a : ℕ) → 2 ≤ n → n ≤ 3 → a < n → without a (axes n) ≡ also (eqb n 3) (beside 2 a) (beside 0 a ∷ [])
+unfolding axes without pick beside
 axes-before zero a h k l = absurd (omega arith)
 axes-before (suc zero) a h k l = absurd (omega arith)
 axes-before (suc (suc zero)) zero h k l = refl
@@ -243,13 +243,13 @@ axes-before (suc (suc (suc (suc n)))) a h k l = absurd (none n k)
     none : (n : ℕ) → suc (suc (suc (suc n))) ≤ 3 → ⊥
     none n k = omega arith
 
-pub axes-low : (a : ℕ) → (firstAxis a < 3) × (middleAxis a < 3)
-unfolding firstAxis middleAxis pick
-axes-low a = (pick-low (eqb a 0) 1 0 (omega arith) (omega arith), pick-low (eqb a 2) 1 2 (omega arith) (omega arith))
+pub beside-low : (outer a : ℕ) → outer < 3 → beside outer a < 3
+unfolding beside pick
+beside-low outer a h = low (eqb a outer)
   where
-    pick-low : (b : Bool) (x y : ℕ) → x < 3 → y < 3 → pick b x y < 3
-    pick-low true x y h k = h
-    pick-low false x y h k = k
+    low : (b : Bool) → pick b 1 outer < 3
+    low true = omega arith
+    low false = h
 
 -- ---- the stages of two or three axes
 

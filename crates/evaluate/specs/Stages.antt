@@ -65,12 +65,9 @@ abbrev pub also : {A : Type 0} → Bool → A → List A → List A
 also true x xs = x ∷ xs
 also false x xs = xs
 
--- the axis that is worked off first of two or three, and the second of three
-unfoldable pub firstAxis : ℕ → ℕ
-firstAxis last = pick (eqb last 0) 1 0
-
-unfoldable pub middleAxis : ℕ → ℕ
-middleAxis last = pick (eqb last 2) 1 2
+-- the axis x or z, or y where that one is worked off last: beside the last, x comes first, then z
+unfoldable pub beside : ℕ → ℕ → ℕ
+beside outer last = pick (eqb last outer) 1 outer
 
 -- the step and the strides of an axis
 abbrev pub stridesOf : ℕ → ℕ → ℕ → Strides

@@ -12,7 +12,7 @@ ghost use Rattle.hermite.specs.Stage.{steps, load};
 ghost use Rattle.cell.specs.Cell.{placeAt};
 ghost use Rattle.evaluate.specs.Evaluate.{answer, askAt, lastAxis};
 ghost use Rattle.evaluate.specs.Wants.{wantOf};
-ghost use Rattle.evaluate.specs.Stages.{worked, after, numbersAt, offsetBy, endsOf, also, stridesOf, firstAxis, middleAxis, Made, Prepared, AllPrepared, Safe, Workable, WorkedOff, Ready};
+ghost use Rattle.evaluate.specs.Stages.{worked, after, numbersAt, offsetBy, endsOf, also, stridesOf, beside, Made, Prepared, AllPrepared, Safe, Workable, WorkedOff, Ready};
 use cell::Layout;
 use hermite::Basis;
 use lattice::Shape;
@@ -269,18 +269,11 @@ fn last_axis(n: u32, slope: bool, axis: u32) -> u32
     if slope { axis } else { n - 1 }
 }
 
-// The axis that is worked off first of two or three.
-fn first_axis(last: u32) -> u32
-    ensures { λ r. ⌜ r ≡ firstAxis last ⌝ }
+// The axis x or z, or y where that one is worked off last.
+fn beside(outer: u32, last: u32) -> u32
+    ensures { λ r. ⌜ r ≡ beside outer last ⌝ }
 {
-    if last == 0 { 1 } else { 0 }
-}
-
-// The axis that is worked off second of three.
-fn middle_axis(last: u32) -> u32
-    ensures { λ r. ⌜ r ≡ middleAxis last ⌝ }
-{
-    if last == 2 { 1 } else { 2 }
+    if last == outer { 1 } else { outer }
 }
 
 // The step and the strides of an axis.
@@ -330,8 +323,8 @@ pub fn answer(
         let x = strides_of(m, step, l, 0);
         return one_axis_by_kind(m, slope, x, records, p) as i32;
     }
-    let a = strides_of(m, step, l, first_axis(last));
-    let b = strides_of(m, step, l, middle_axis(last));
+    let a = strides_of(m, step, l, beside(0, last));
+    let b = strides_of(m, step, l, beside(2, last));
     let c = strides_of(m, step, l, last);
     more_axes(m, n == 3, slope, a, b, c, records, p) as i32
 }

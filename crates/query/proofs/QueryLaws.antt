@@ -173,13 +173,6 @@ module _ (s : Shape) (rs : List ℤ) (want : Want) (cell : List ℕ) (step : Pla
 
 -- ---- positions
 
-pub record AskedAt (s : Shape) (rs : List ℤ) (want : Want) (p : Position) (v : ℤ) : Type 0 where
-  pub shape : shapeOutcome s ≡ done tt
-  pub wanted : wantOutcome s want ≡ done tt
-  pub within : firstOf 3 (positionOutcome s p) ≡ done tt
-  pub corners : cornersOutcome s rs (positionCell s p) ≡ done tt
-  pub is : answer (askAt s want (positionCell s p) (positionStep s p)) (recordsField s rs) ≡ v
-
 module _ (s : Shape) (rs : List ℤ) (want : Want) (p : Position) where
   abbrev read : Outcome ℤ
   read = reading s rs want (positionCell s p) (positionStep s p)

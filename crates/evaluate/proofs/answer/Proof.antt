@@ -4,7 +4,7 @@ use mathlib.Core.List.{List, [], _∷_}
 use Prim.Native.Nat.{ℕ, _≤_, _<_, _^_}
 use native.Mathlib.Nat.{lt-of-lt-of-le}
 use native.Mathlib.Omega.{arith}
-use lib.Dec.{eqb, lit≤}
+use lib.Dec.{eqb, lit<, lit≤}
 use lib.ListN.{length, getD}
 use lib.IntN.{ℤ, natAbs}
 use lib.Signed.{mag}
@@ -23,11 +23,11 @@ use Rattle.lattice.proofs.ShapeLaws.{orders-range}
 use Rattle.cell.specs.Cell.{placeAt}
 use Rattle.evaluate.specs.declared.Strides.{Strides}
 use Rattle.evaluate.specs.Evaluate.{lastAxis, askAt, answer}
-use Rattle.evaluate.specs.Stages.{stridesOf, also, firstAxis, middleAxis, Workable, WorkedOff}
+use Rattle.evaluate.specs.Stages.{stridesOf, also, beside, Workable, WorkedOff}
 use Rattle.evaluate.specs.Wants.{wantOf}
 use Rattle.evaluate.proofs.AnswerLaws.{kind-last}
 use Rattle.evaluate.proofs.Answering.{IsAxis, AreAxes, is-axis, are-axes, workable-in, answer-in, answer-fits}
-use Rattle.evaluate.proofs.Order.{axes-before, axes-low}
+use Rattle.evaluate.proofs.Order.{axes-before, beside-low}
 use Rattle.evaluate.proofs.answer.Statement.{statement}
 use Rattle.evaluate.proofs.answer.Tie as tie
 
@@ -109,15 +109,15 @@ module _ (c : tie.After-strides-of4) where
   is-last : Is more (last more) (c .strides-of4 .result)
   is-last = found (more .last-axis .result) (last more) (more .last-axis .ensures) (three-low .2) (c .strides-of4 .result) (c .strides-of4 .ensures)
 
-  is-middle : Is more (middleAxis (last more)) (c .before .strides-of3 .result)
+  is-middle : Is more (beside 2 (last more)) (c .before .strides-of3 .result)
   is-middle =
       let s = c .before in
-      found (s .before .middle-axis .result) (middleAxis (last more)) (s .before .middle-axis .ensures ∙ ap middleAxis (more .last-axis .ensures)) (axes-low (last more) .1) (s .strides-of3 .result) (s .strides-of3 .ensures)
+      found (s .before .beside2 .result) (beside 2 (last more)) (s .before .beside2 .ensures ∙ ap (beside 2) (more .last-axis .ensures)) (beside-low 2 (last more) (lit< tt)) (s .strides-of3 .result) (s .strides-of3 .ensures)
 
-  is-first : Is more (firstAxis (last more)) (c .before .before .before .strides-of2 .result)
+  is-first : Is more (beside 0 (last more)) (c .before .before .before .strides-of2 .result)
   is-first =
       let s = c .before .before .before in
-      found (s .before .first-axis .result) (firstAxis (last more)) (s .before .first-axis .ensures ∙ ap firstAxis (more .last-axis .ensures)) (axes-low (last more) .0) (s .strides-of2 .result) (s .strides-of2 .ensures)
+      found (s .before .beside .result) (beside 0 (last more)) (s .before .beside .ensures ∙ ap (beside 0) (more .last-axis .ensures)) (beside-low 0 (last more) (lit< tt)) (s .strides-of2 .result) (s .strides-of2 .ensures)
 
   abbrev others : List Strides
   others = also (eqb (n more) 3) (c .before .strides-of3 .result) (c .before .before .before .strides-of2 .result ∷ [])
@@ -125,7 +125,7 @@ module _ (c : tie.After-strides-of4) where
   are : AreAxes (begun .args .s) (placeAt (begun .args .step)) (without (last more) (axes (n more))) others
   are =
       subst (λ (ls : List ℕ). AreAxes (begun .args .s) (placeAt (begun .args .step)) ls others) (sym (axes-before (n more) (last more) two-axes (three-low .0) (three-low .1)))
-      (are-axes (begun .args .s) (placeAt (begun .args .step)) (eqb (n more) 3) (firstAxis (last more)) (middleAxis (last more)) (c .before .before .before .strides-of2 .result) (c .before .strides-of3 .result) is-first is-middle)
+      (are-axes (begun .args .s) (placeAt (begun .args .step)) (eqb (n more) 3) (beside 0 (last more)) (beside 2 (last more)) (c .before .before .before .strides-of2 .result) (c .before .strides-of3 .result) is-first is-middle)
 
 one-axis-by-kind-requires : tie.Need-one-axis-by-kind-requires
 unfolding axes without pick
@@ -146,12 +146,12 @@ returns c =
 strides-of-requires-2 : tie.Need-strides-of-requires-2
 strides-of-requires-2 c κs =
     let t = c .before .before in
-    (m3 t, subst (λ (i : ℕ). i < 3) (sym (c .first-axis .ensures)) (axes-low (t .last-axis .result) .0))
+    (m3 t, subst (λ (i : ℕ). i < 3) (sym (c .beside .ensures)) (beside-low 0 (t .last-axis .result) (lit< tt)))
 
 strides-of-requires-3 : tie.Need-strides-of-requires-3
 strides-of-requires-3 c κs =
     let t = c .before .before .before .before in
-    (m3 t, subst (λ (i : ℕ). i < 3) (sym (c .middle-axis .ensures)) (axes-low (t .last-axis .result) .1))
+    (m3 t, subst (λ (i : ℕ). i < 3) (sym (c .beside2 .ensures)) (beside-low 2 (t .last-axis .result) (lit< tt)))
 
 strides-of-requires-4 : tie.Need-strides-of-requires-4
 strides-of-requires-4 c κs =
