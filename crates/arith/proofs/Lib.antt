@@ -9,3 +9,4 @@ pub mod Round
 pub mod Machine
 pub mod Sums
 pub mod Choices
+pub mod Twos

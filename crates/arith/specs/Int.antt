@@ -1,6 +1,6 @@
--- Powers of integers, the quotient rounded down, and the nearest quotient with halves up.
-use Prim.Native.Nat.{ℕ, zero, suc, _*_}
-use lib.IntN.{ℤ, pos, _+ℤ_, _*ℤ_}
+-- Powers of integers, the quotient rounded down, the nearest quotient with halves up, and two's complement.
+use Prim.Native.Nat.{ℕ, zero, suc, _*_, _-_}
+use lib.IntN.{ℤ, pos, negsuc, _+ℤ_, _*ℤ_}
 use lib.Signed.{shrZ}
 
 -- x to the power n; 0 to the power 0 is 1
@@ -20,3 +20,8 @@ Rounding = ℤ → ℕ → ℤ
 -- to the nearest, halves towards plus infinity
 unfoldable pub roundHalfUp : Rounding
 roundHalfUp x y = floorDiv (pos 2 *ℤ x +ℤ pos y) (2 * y)
+
+-- the number below 2^32 that stands for z in two's complement; `negsuc n` is -(n + 1)
+unfoldable pub unsignedOf : ℤ → ℕ
+unsignedOf (pos n) = n
+unsignedOf (negsuc n) = 4294967296 - suc n

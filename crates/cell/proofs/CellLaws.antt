@@ -1,8 +1,8 @@
 -- Where the numbers of a cell stand in the records, by its layout; what the tests of a cell and its corners say.
 use mathlib.Core.Path.{_≡_, refl, sym, ap, _∙_, fun-ext}
 use mathlib.Core.Bool.{Bool, true}
-use mathlib.Core.List.{List}
-use Prim.Native.Nat.{ℕ, _+_, _*_, _/_, _%_, _^_, _≤_, _<_}
+use mathlib.Core.List.{List, [], _∷_}
+use Prim.Native.Nat.{ℕ, zero, suc, _+_, _*_, _/_, _%_, _^_, _≤_, _<_}
 use native.Mathlib.Nat.{le-of-lt, mul-le-mul, mul-add-div, mul-add-mod-self-left, mul-zero, zero-div, zero-mod, pow-zero, le-trans, div-lt-iff-lt-mul}
 use native.Mathlib.Decide.{decLt}
 use native.Mathlib.Omega.{arith}
@@ -25,9 +25,25 @@ use Rattle.cell.specs.declared.Layout.{Layout}
 
 -- ---- refusal 14
 
-place-beyond : (xs : List ℕ) (a : ℕ) → 3 ≤ a → placeAt xs a ≡ 0
+pub place-beyond : (xs : List ℕ) (a : ℕ) → 3 ≤ a → placeAt xs a ≡ 0
 unfolding placeAt
 place-beyond xs a l = pick-false (ltb a 3) (getD xs a 0) 0 (le-ltb a 3 l)
+
+-- the place of three numbers
+pub three : (x y z : ℕ) (f : Place) → x ≡ f 0 → y ≡ f 1 → z ≡ f 2 → ((a : ℕ) → 3 ≤ a → f a ≡ 0) → placeAt (x ∷ y ∷ z ∷ []) ≡ f
+unfolding placeAt pick
+three x y z f i j k none = fun-ext go
+  where
+    go : (a : ℕ) → placeAt (x ∷ y ∷ z ∷ []) a ≡ f a
+    go zero = i
+    go (suc zero) = j
+    go (suc (suc zero)) = k
+    go (suc (suc (suc a))) = place-beyond (x ∷ y ∷ z ∷ []) (suc (suc (suc a))) (omega arith) ∙ sym (none (suc (suc (suc a))) (omega arith))
+
+-- and of three numbers one by one
+pub indices : (xs : List ℕ) → placeAt (getD xs 0 0 ∷ getD xs 1 0 ∷ getD xs 2 0 ∷ []) ≡ placeAt xs
+unfolding placeAt pick
+indices xs = three (getD xs 0 0) (getD xs 1 0) (getD xs 2 0) (placeAt xs) refl refl refl (place-beyond xs)
 
 pub accepted : (s : Shape) (xs : List ℕ) → s .axes ≤ 3 → cellOutcome s (placeAt xs) ≡ done tt → Accepted s (placeAt xs)
 unfolding cellOutcome indexOutcome

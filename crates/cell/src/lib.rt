@@ -1,6 +1,7 @@
 // A cell of a table: its index test, where its corner records stand, and the limit test of its corners.
 ghost use mathlib.Core.Path.{_≡_};
 ghost use mathlib.Core.Bool.{true};
+ghost use mathlib.Core.List.{[], _∷_};
 ghost use Prim.Native.Nat.{ℕ, _+_, _*_, _/_, _%_, _^_, _<_, _≤_};
 ghost use lib.Dec.{leb, ltb, eqb};
 ghost use lib.IntN.{pos, natAbs};
@@ -91,29 +92,20 @@ fn check_index(n: u32, count: u32, index: u32, axis: u32) -> Answer
     lattice::refuse_on_axis(n, axis, inside, index == 0, 14)
 }
 
-// Refusal 14, each index after the other.
-fn check_each_index(n: u32, s: Shape, cell: [u32; 3]) -> Answer
+// Refusal 14.
+pub fn check_cell(n: u32, s: Shape, i: u32, j: u32, k: u32) -> Answer
     requires { ⌜ n ≡ s .axes ⌝ }
-    ensures { λ r. ⌜ meaning r ≡ cellOutcome s (placeAt cell) ⌝ }
+    ensures { λ r. ⌜ meaning r ≡ cellOutcome s (placeAt (i ∷ j ∷ k ∷ [])) ⌝ }
 {
-    let x = check_index(n, s.counts[0], cell[0], 0);
-    let y = check_index(n, s.counts[1], cell[1], 1);
-    let z = check_index(n, s.counts[2], cell[2], 2);
-    lattice::earlier(lattice::earlier(x, y), z)
-}
-
-// Refusal 14; the number of axes is a constant where the tests are made.
-pub fn check_cell(s: Shape, cell: [u32; 3]) -> Answer
-    ensures { λ r. ⌜ meaning r ≡ cellOutcome s (placeAt cell) ⌝ }
-{
-    let n = s.axes;
-    if n == 1 {
-        return check_each_index(1, s, cell);
+    let on_x = check_index(n, s.counts[0], i, 0);
+    if let Answer::Refused(_) = on_x {
+        return on_x;
     }
-    if n == 2 {
-        return check_each_index(2, s, cell);
+    let on_y = check_index(n, s.counts[1], j, 1);
+    if let Answer::Refused(_) = on_y {
+        return on_y;
     }
-    check_each_index(n, s, cell)
+    check_index(n, s.counts[2], k, 2)
 }
 
 pub fn lay_out(s: Shape, cell: [u32; 3]) -> Layout
@@ -233,12 +225,11 @@ pub fn check_corners(s: Shape, records: &[i32], cell: [u32; 3], l: Layout) -> An
 }
 
 // Whether refusal 5 does not arise: no entry of the corners is beyond its limit.
-pub fn corners_within(s: Shape, records: &[i32], cell: [u32; 3], l: Layout) -> bool
-    requires { ⌜ Shaped s × (length (now records) ≡ size s) ⌝ }
+pub fn corners_within(n: u32, s: Shape, records: &[i32], cell: [u32; 3], l: Layout) -> bool
+    requires { ⌜ Shaped s × (length (now records) ≡ size s) × (n ≡ s .axes) ⌝ }
     requires { ⌜ Accepted s (placeAt cell) × Laid s (placeAt cell) l ⌝ }
     ensures { λ r. ⌜ r ≡ passed (cornersOutcome s (now (records .entry)) (placeAt cell)) ⌝ }
 {
-    let n = s.axes;
     if l.orders == 2 {
         let limits = entry_limits(2);
         if n == 1 {

@@ -26,10 +26,9 @@ use Rattle.cell.specs.Cell.{placeAt, indexOutcome, cellOutcome, Accepted}
 use Rattle.cell.proofs.CellLaws.{accepted}
 use Rattle.floats.specs.Step.{step}
 use Rattle.evaluate.specs.Evaluate.{Want}
-use Rattle.query.specs.Queries.{Position, positionAt, askedOutcome, reading, stepsOutcome, positionOutcome, cellOf, positionCell, positionStep, byCell, byPosition}
+use Rattle.query.specs.Queries.{Position, positionAt, askedOutcome, testedOutcome, reading, stepsOutcome, positionOutcome, cellOf, positionCell, positionStep, byCell, byPosition}
 use Rattle.query.proofs.QueryLaws.{in-cell}
 use Rattle.float_query.specs.Floats.{stepsOf, floatOutcome, byFloat}
-use Rattle.float_query.proofs.FloatLaws.{float-positions}
 use Rattle.claims.specs.Third.{Query, atPosition, inCell, atFloats, queried, pointOf, cellRead, stepRead, Point, Contains, Inside, Reads}
 use Rattle.claims.proofs.General.{less, le-pos}
 
@@ -41,9 +40,9 @@ gate s (inCell cell u) = first (cellOutcome s (placeAt cell)) (stepsOutcome s (p
 gate s (atFloats x) = firstOf 3 (floatOutcome s x)
 
 pub by-gate : (s : Shape) (rs : List ℤ) (want : Want) (q : Query) → queried s rs want q ≡ first (askedOutcome s rs want) (first (gate s q) (reading s rs want (cellRead s q) (stepRead s q)))
-unfolding queried gate cellRead stepRead byCell byPosition byFloat
+unfolding queried gate cellRead stepRead byCell testedOutcome byPosition byFloat
 by-gate s rs want (atPosition p) = refl
-by-gate s rs want (inCell cell u) = ap (first (askedOutcome s rs want)) (sym (first-assoc (cellOutcome s (placeAt cell)) (stepsOutcome s (placeAt u)) (reading s rs want (placeAt cell) (placeAt u))))
+by-gate s rs want (inCell cell u) = first-assoc (askedOutcome s rs want) (first (cellOutcome s (placeAt cell)) (stepsOutcome s (placeAt u))) (reading s rs want (placeAt cell) (placeAt u))
 by-gate s rs want (atFloats x) = refl
 
 -- ---- tests that differ on used and unused axes
@@ -178,6 +177,12 @@ module _ (s : Shape) (ok : Shaped s) (p : Position) where
 floats-pass : (s : Shape) (x : ℕ → Float) → ((a : ℕ) → a < 3 → finite (x a) ≡ true) → firstOf 3 (positionOutcome s (stepsOf x)) ≡ done tt → firstOf 3 (floatOutcome s x) ≡ done tt
 unfolding floatOutcome
 floats-pass s x f h = firstOf-passes 3 (floatOutcome s x) (λ a l. first-passed (refuseUnless (finite (x a)) 10 a) (positionOutcome s (stepsOf x) a) (passes (finite (x a)) 10 a (f a l)) ∙ firstOf-each 3 (positionOutcome s (stepsOf x)) h a l)
+
+float-positions : (s : Shape) (x : ℕ → Float) → firstOf 3 (floatOutcome s x) ≡ done tt → firstOf 3 (positionOutcome s (stepsOf x)) ≡ done tt
+unfolding floatOutcome
+float-positions s x h =
+    firstOf-passes 3 (positionOutcome s (stepsOf x))
+    (λ a l. first-done (refuseUnless (finite (x a)) 10 a) (positionOutcome s (stepsOf x) a) tt (firstOf-each 3 (floatOutcome s x) h a l) .1)
 
 -- ---- all queries
 

@@ -295,7 +295,10 @@ fn check_asked(s: Shape, given: usize, cell: [u32; 3], room: usize) -> Answer
         return shape;
     }
     let sizes = check_sizes(s, given, room);
-    lattice::earlier(sizes, cell::check_cell(s, cell))
+    lattice::earlier(
+        sizes,
+        cell::check_cell(s.axes, s, cell[0], cell[1], cell[2]),
+    )
 }
 
 // The coefficients of a cell to the front of `out`.

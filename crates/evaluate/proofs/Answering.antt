@@ -3,15 +3,20 @@
 use mathlib.Core.Path.{_≡_, refl, sym, ap, ap₂, subst, _∙_, fun-ext}
 use mathlib.Core.List.{List, [], _∷_}
 use Prim.Native.Nat.{ℕ, zero, suc, _+_, _*_, _-_, _%_, _^_, _≤_, _<_}
-use native.Mathlib.Nat.{le-trans, le-of-eq, mul-le-mul-left, mod-eq-of-lt, add-mod-left, le-of-mul-le-mul-left}
+use native.Mathlib.Nat.{lt-of-lt-of-le, le-trans, le-of-eq, mul-le-mul-left, mod-eq-of-lt, add-mod-left, le-of-mul-le-mul-left}
 use native.Mathlib.Omega.{arith}
 use native.Mathlib.Decide.{decLt}
 use lib.Dec.{ltb, lit≤}
 use lib.ListN.{length, getD}
 use lib.Pow.{pow-mono}
 use lib.IntN.{ℤ, pos, _*ℤ_, natAbs}
+use lib.Signed.{mag}
+use mir.Syntax.{w32, w64}
+use mir.Val.{SFits, toZ, ofZ}
+use mir.Facts.{toZ-ofZ}
 use Rattle.arith.specs.Int.{roundHalfUp}
-use Rattle.arith.proofs.Abs.{abs-mul}
+use Rattle.arith.proofs.Abs.{abs-mul, sfits-abs}
+use Rattle.arith.proofs.Machine.{read}
 use Rattle.arith.proofs.Choices.{pick-true, by-m}
 use borrow.Author.Tests.{lt-ltb}
 use Rattle.arith.proofs.Round.{half-up-nearly}
@@ -24,12 +29,13 @@ use Rattle.lattice.proofs.Along.{Each, Fresh, Distinct}
 use Rattle.lattice.proofs.ShapeLaws.{orders-range}
 use Rattle.hermite.specs.Hermite.{kindOf, Kind, value, divisor}
 use Rattle.hermite.specs.Stage.{steps, worth}
-use Rattle.hermite.proofs.StageLaws.{stage-fits}
+use Rattle.hermite.proofs.StageLaws.{worth-some, shifted, stage-fits}
 use Rattle.cell.specs.Cell.{Accepted, InCorners, offset, placeAt, Laid, base, far, near}
 use Rattle.cell.proofs.CellLaws.{Numbers, placed, entry-at, entry-below}
 use Rattle.cell.proofs.CornerLaws.{corners-within}
 use Rattle.evaluate.specs.declared.Axis.{Axis}
 use Rattle.evaluate.specs.Evaluate.{Want, Ask, askAt, kindOn, lastAxis, before, answer}
+use Rattle.evaluate.specs.Wants.{wantOf}
 use Rattle.evaluate.specs.Stages.{after, numbersAt, also, stridesOf, Prepared, AllPrepared, Safe, Made, later, AllMade, AllSteps, Workable, WorkedOff, Ready}
 use Rattle.evaluate.proofs.EndLaws.{offset-low, offset-high, number-at}
 use Rattle.evaluate.proofs.Sizes.{noughts, orders-left, cap, Plain, reads-size, plain-before, answer-small}
@@ -114,21 +120,17 @@ later-counts s step [] (v ∷ vs) h = absurd h
 later-counts s step (a ∷ ls) [] h = absurd h
 later-counts s step (a ∷ ls) (v ∷ vs) h = refl
 
-worth-some : (b : Bool) → 0 < worth b
-unfolding worth
-worth-some true = lit≤ tt
-worth-some false = lit≤ tt
-
 held : {s : Shape} {want : Want} {step : Place} {a : ℕ} (slope from to : Bool) {v : Strides} {x : Axis} → kindOf slope ≡ kindOn want a → IsAxis s step a v
     → Made (orders s) slope from to v x → Holds s want step (worth from) (worth to) a x
-held {s} slope from to k i h =
+held {s} slope from to {v} {x} k i h =
+    let f = shifted slope from to (orders s) (h .prepared .folds .m-low) (h .prepared .folds .m-high) in
     record {
       kind-is = ap kindOf (h .slope-is) ∙ k;
       step-is = h .step-is ∙ i .step-is;
       far-is = h .far-is ∙ i .far-is;
       near-is = h .near-is ∙ i .near-is;
       some = worth-some from;
-      shift-is = h .shift-is ∙ ap (λ (k : Kind). divisor k (orders s) steps * worth to) k;
+      shift-is = ap (λ (n : ℕ). 2 ^ (n + 1) * worth from) (h .shift-is) ∙ f .is ∙ ap (λ (k : Kind). divisor k (orders s) steps * worth to) k;
     }
 
 all-held : (s : Shape) (want : Want) (step : Place) (ls : List ℕ) (vs : List Strides) (xs : List Axis) → AreAxes s step ls vs → Each (λ a. kindOn want a ≡ value) ls
@@ -211,7 +213,7 @@ module _ (s : Shape) (rs : List ℤ) (cell step : Place) (want : Want) (l : Layo
     low-size o l =
         subst (λ (i : ℕ). natAbs (numbersAt m (after m xs (at rs)) (place t) (x .near) o) ≤ capOf ls * 2 ^ order * 2 ^ i) (mod-eq-of-lt l)
         (le-trans (le-of-eq (ap natAbs (number-at m (after m xs (at rs)) (place t) (x .near) o l
-        ∙ ap (λ (i : ℕ). after m xs (at rs) (place t + i)) (sym (offset-low m x o l) ∙ offset-is hx o))))
+        ∙ ap (λ (i : ℕ). after m xs (at rs) (place t + i)) (sym (offset-low m (x .near) (x .far) o l) ∙ offset-is hx o))))
         (number-size o (omega arith)))
 
     high-size : (o : ℕ) → o < m → natAbs (numbersAt m (after m xs (at rs)) (place t + x .far) (x .near) o) ≤ capOf ls * 2 ^ order * 2 ^ o
@@ -219,7 +221,7 @@ module _ (s : Shape) (rs : List ℤ) (cell step : Place) (want : Want) (l : Layo
         subst (λ (i : ℕ). natAbs (numbersAt m (after m xs (at rs)) (place t + x .far) (x .near) o) ≤ capOf ls * 2 ^ order * 2 ^ i) (add-mod-left m o ∙ mod-eq-of-lt l)
         (le-trans (le-of-eq (ap natAbs (number-at m (after m xs (at rs)) (place t + x .far) (x .near) o l
         ∙ ap (after m xs (at rs)) (assoc (place t) (x .far) (o * x .near))
-        ∙ ap (λ (i : ℕ). after m xs (at rs) (place t + i)) (sym (offset-high m x o l) ∙ offset-is hx (m + o)))))
+        ∙ ap (λ (i : ℕ). after m xs (at rs) (place t + i)) (sym (offset-high m (x .near) (x .far) o l) ∙ offset-is hx (m + o)))))
         (number-size (m + o) (omega arith)))
       where
         assoc : (i f n : ℕ) → i + f + n ≡ i + (f + n)
@@ -336,3 +338,23 @@ module _ (s : Shape) (cell : Place) (xs : List ℕ) (l : Layout) (laid : Laid s 
 pub are-axes : (s : Shape) (step : Place) (three : Bool) (i j : ℕ) (a b : Strides) → IsAxis s step i a → IsAxis s step j b → AreAxes s step (also three j (i ∷ [])) (also three b (a ∷ []))
 are-axes s step true i j a b h k = (k, (h, tt))
 are-axes s step false i j a b h k = (h, tt)
+
+-- ---- what the calls return
+
+module _ (s : Shape) (rs : List ℤ) (cell : Place) (xs : List ℕ) (slope : Bool) (axis : ℕ) (l : Layout) (ready : Ready s rs cell (placeAt xs) (wantOf slope axis) l) where
+  pub orders-low : l .orders ≤ 3
+  orders-low = subst (λ (i : ℕ). i ≤ 3) (sym (ready .laid .orders-are)) (orders-range (s .degree) .1)
+
+  -- the strides that the code finds
+  pub found : (a : ℕ) → a < 3 → (v : Strides) → v ≡ stridesOf (getD xs a 0) (getD (l .far) a 0) (l .orders ^ a) → IsAxis s (placeAt xs) a v
+  found a h v e = subst (IsAxis s (placeAt xs) a) (sym e) (is-axis s cell xs l (ready .laid) a h)
+
+  -- the stages' result r is the answer, and fits 32 bits
+  module _ (r : ℤ) (ok : mag r < 2 ^ 63) (e : r ≡ answer (askAt s (wantOf slope axis) cell (placeAt xs)) (recordsField s rs)) where
+    pub fits : SFits w32 (toZ w64 (ofZ w64 r))
+    fits =
+        sfits-abs (toZ w64 (ofZ w64 r)) (lt-of-lt-of-le
+        (subst (λ z. natAbs z < 2 ^ 24) (sym (read r ok ∙ e)) (answer-fits s rs cell (placeAt xs) (wantOf slope axis) l ready)) (lit≤ tt))
+
+    pub cast : toZ w32 (ofZ w32 (toZ w64 (ofZ w64 r))) ≡ answer (askAt s (wantOf slope axis) cell (placeAt xs)) (recordsField s rs)
+    cast = toZ-ofZ {w = w32} fits ∙ read r ok ∙ e

@@ -32,14 +32,14 @@ stage-of k m N c u x y j h =
 
 -- ---- numbers by end and order
 
-module _ (m : ℕ) (x : Axis) (o : ℕ) (l : o < m) where
-  pub offset-low : offsetOf m x o ≡ o * x .near
+module _ (m near far o : ℕ) (l : o < m) where
+  pub offset-low : offsetBy m near far o ≡ o * near
   unfolding offsetBy
   offset-low = rw (div-eq-of-lt l, mod-eq-of-lt l) (omega arith)
 
-  pub offset-high : offsetOf m x (m + o) ≡ x .far + o * x .near
+  pub offset-high : offsetBy m near far (m + o) ≡ far + o * near
   unfolding offsetBy
-  offset-high = ap₂ (λ (d r : ℕ). d * x .far + r * x .near) (above m o l) (add-mod-left m o ∙ mod-eq-of-lt l) ∙ omega arith
+  offset-high = ap₂ (λ (d r : ℕ). d * far + r * near) (above m o l) (add-mod-left m o ∙ mod-eq-of-lt l) ∙ omega arith
     where
       above : (m o : ℕ) → o < m → (m + o) / m ≡ 1
       above m o l = add-div-left o {k = m} (omega arith) ∙ ap (λ (i : ℕ). i + 1) (div-eq-of-lt l)
@@ -81,11 +81,11 @@ module _ (m : ℕ) (x : Axis) (g : ℕ → ℤ) (p : ℕ) (low high : ℕ → �
       assoc p f n = omega arith
 
       go : Dec (t < m) → bothEnds m low high t ≡ g (p + offsetOf m x t)
-      go (yes k) = ends-low m low high t k ∙ lows t k ∙ ap (λ (i : ℕ). g (p + i)) (sym (offset-low m x t k))
+      go (yes k) = ends-low m low high t k ∙ lows t k ∙ ap (λ (i : ℕ). g (p + i)) (sym (offset-low m (x .near) (x .far) t k))
       go (no n) =
           subst (λ (i : ℕ). bothEnds m low high i ≡ g (p + offsetOf m x i)) (again m t n)
           (ends-high m low high (t - m) ∙ highs (t - m) (upper m t l n)
-          ∙ ap g (assoc p (x .far) ((t - m) * x .near) ∙ ap (λ (i : ℕ). p + i) (sym (offset-high m x (t - m) (upper m t l n)))))
+          ∙ ap g (assoc p (x .far) ((t - m) * x .near) ∙ ap (λ (i : ℕ). p + i) (sym (offset-high m (x .near) (x .far) (t - m) (upper m t l n)))))
 
   -- the stage of the document
   pub worked-by : roundHalfUp (stageSum (kindOf (x .slope)) m steps 0 (x .step) (bothEnds m low high) 0) (2 ^ (x .shift + 1)) ≡ worked m x g p
@@ -105,10 +105,10 @@ load-same b low high low′ high′ e f =
 
 module _ (m n : ℕ) (x : Axis) (xs : List Axis) (g : ℕ → ℤ) (p : ℕ) (safe : Safe m n (x ∷ xs) g p) where
   pub safe-low : (o : ℕ) → o < m → Safe m n xs g (p + o * x .near)
-  safe-low o l = subst (λ (i : ℕ). Safe m n xs g (p + i)) (offset-low m x o l) (safe .0 o (omega arith))
+  safe-low o l = subst (λ (i : ℕ). Safe m n xs g (p + i)) (offset-low m (x .near) (x .far) o l) (safe .0 o (omega arith))
 
   pub safe-high : (o : ℕ) → o < m → Safe m n xs g (p + x .far + o * x .near)
-  safe-high o l = subst (Safe m n xs g) (ap (λ (i : ℕ). p + i) (offset-high m x o l) ∙ assoc p (x .far) (o * x .near)) (safe .0 (m + o) (omega arith))
+  safe-high o l = subst (Safe m n xs g) (ap (λ (i : ℕ). p + i) (offset-high m (x .near) (x .far) o l) ∙ assoc p (x .far) (o * x .near)) (safe .0 (m + o) (omega arith))
     where
       assoc : (p f k : ℕ) → p + (f + k) ≡ p + f + k
       assoc p f k = omega arith

@@ -2,5 +2,5 @@ pub mod AnswerLaws
 pub mod EndLaws
 pub mod Sizes
 pub mod ByIndex
-pub mod Order
+pub mod StageOrder
 pub mod Answering

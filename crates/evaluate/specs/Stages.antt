@@ -1,7 +1,7 @@
 -- What the functions of the stages state. Numbers are known by their index in the records; g is what stands at each index.
 use mathlib.Core.Path.{_≡_}
 use mathlib.Core.Bool.{Bool, true, false}
-use Prim.Native.Nat.{ℕ, _+_, _*_, _/_, _%_, _-_, _^_, _≤_, _<_}
+use Prim.Native.Nat.{ℕ, zero, suc, _+_, _*_, _/_, _%_, _-_, _^_, _≤_, _<_}
 use mathlib.Core.List.{List, [], _∷_}
 use lib.Dec.{ltb, eqb}
 use lib.IntN.{ℤ, pos}
@@ -12,8 +12,8 @@ use Rattle.lattice.specs.declared.Shape.{Shape}
 use Rattle.lattice.specs.Outcome.{done}
 use Rattle.lattice.specs.Shape.{size, Shaped}
 use Rattle.lattice.specs.Axes.{Place}
-use Rattle.hermite.specs.Hermite.{kindOf, divisor, stageSum}
-use Rattle.hermite.specs.Stage.{steps, Folds, load, worth}
+use Rattle.hermite.specs.Hermite.{kindOf, stageSum}
+use Rattle.hermite.specs.Stage.{steps, Folds, load, shiftOf}
 use Rattle.cell.specs.declared.Layout.{Layout}
 use Rattle.cell.specs.Cell.{Accepted, Laid, cornersOutcome}
 use Rattle.evaluate.specs.declared.Axis.{Axis}
@@ -56,10 +56,6 @@ Safe m n (x ∷ xs) g p =
     ((t : ℕ) → t < 2 * m → Safe m n xs g (p + offsetOf m x t))
     × (load (x .basis) (numbersAt m (after m xs g) p (x .near)) (numbersAt m (after m xs g) (p + x .far) (x .near)) ≤ 2 ^ 63 - 2 ^ 45)
 
--- the last of three stages takes the numbers of both its ends, the last of two is done with one
-unfoldable pub endsOf : ℕ → Bool → ℕ
-endsOf m three = pick three (2 * m) 1
-
 -- a list with one more in front where there is one
 abbrev pub also : {A : Type 0} → Bool → A → List A → List A
 also true x xs = x ∷ xs
@@ -68,6 +64,12 @@ also false x xs = xs
 -- the axis x or z, or y where that one is worked off last: beside the last, x comes first, then z
 unfoldable pub beside : ℕ → ℕ → ℕ
 beside outer last = pick (eqb last outer) 1 outer
+
+-- the axis with number a
+unfoldable pub ofAxis : Strides → Strides → Strides → ℕ → Strides
+ofAxis x y z zero = x
+ofAxis x y z (suc zero) = y
+ofAxis x y z (suc (suc a)) = z
 
 -- the step and the strides of an axis
 abbrev pub stridesOf : ℕ → ℕ → ℕ → Strides
@@ -80,7 +82,7 @@ pub record Made (m : ℕ) (slope from to : Bool) (a : Strides) (x : Axis) : Type
   pub far-is : x .far ≡ a .far
   pub near-is : x .near ≡ a .near
   pub prepared : Prepared m x
-  pub shift-is : 2 ^ (x .shift + 1) * worth from ≡ divisor (kindOf slope) m steps * worth to
+  pub shift-is : x .shift ≡ shiftOf slope m from to
 
 -- numbers come in units to the first stage and in eighths to each later one
 abbrev pub later : List Strides → Bool

@@ -8,11 +8,11 @@ ghost use lib.ListN.{length, getD};
 ghost use Rattle.arith.specs.Choice.{pick};
 ghost use Rattle.lattice.specs.Buffer.{at};
 ghost use Rattle.lattice.specs.Records.{recordsField};
-ghost use Rattle.hermite.specs.Stage.{steps, load};
+ghost use Rattle.hermite.specs.Stage.{steps, load, shiftOf};
 ghost use Rattle.cell.specs.Cell.{placeAt};
 ghost use Rattle.evaluate.specs.Evaluate.{answer, askAt, lastAxis};
 ghost use Rattle.evaluate.specs.Wants.{wantOf};
-ghost use Rattle.evaluate.specs.Stages.{worked, after, numbersAt, offsetBy, endsOf, also, stridesOf, beside, Made, Prepared, AllPrepared, Safe, Workable, WorkedOff, Ready};
+ghost use Rattle.evaluate.specs.Stages.{worked, after, numbersAt, offsetBy, also, stridesOf, ofAxis, beside, Made, Prepared, AllPrepared, Safe, Workable, WorkedOff, Ready};
 use cell::Layout;
 use hermite::Basis;
 use lattice::Shape;
@@ -40,10 +40,17 @@ pub struct Axis {
     pub near: usize,
 }
 
-// Places of numbers, counted from the first.
-struct Places {
-    count: usize,
-    place: [usize; 6],
+// The axes in the order in which they are worked off; of two there is no middle one.
+pub struct Order {
+    pub first: Strides,
+    pub middle: Strides,
+    pub last: Strides,
+}
+
+// The numbers of both ends of an axis.
+pub struct Ends {
+    pub low: [i64; 3],
+    pub high: [i64; 3],
 }
 
 // The stage of an axis whose numbers come and go in units, or in eighths where `from` or `to` is set.
@@ -83,114 +90,131 @@ fn end_in(m: usize, records: &[i32], p: usize, near: usize) -> [i64; 3]
     [a, b, entry(records, p + 2 * near)]
 }
 
-// The number after the first stage, from p on.
-fn first(m: usize, x: Axis, records: &[i32], p: usize) -> i64
-    requires { ⌜ AllPrepared m (x ∷ []) ⌝ }
+// The number after the first stage, from p on; k is the stage's shift, here and below.
+fn first(m: usize, k: u32, x: Axis, records: &[i32], p: usize) -> i64
+    requires { ⌜ AllPrepared m (x ∷ []) × (k ≡ x .shift) ⌝ }
     requires { ⌜ Safe m (length (now records)) (x ∷ []) (at (now records)) p ⌝ }
     ensures { λ r. ⌜ r ≡ after m (x ∷ []) (at (now (records .entry))) p ⌝ }
 {
     let low = end_in(m, records, p, x.near);
     let high = end_in(m, records, p + x.far, x.near);
     let basis = x.basis;
-    hermite::stage(m, basis, x.shift, low, high)
+    hermite::stage(m, basis, k, low, high)
 }
 
-// Where the numbers of both ends stand, from the first on; where there is no third stage, one number.
-fn places_of(m: usize, three: bool, near: usize, far: usize) -> Places
-    requires { ⌜ (2 ≤ m) × (m ≤ 3) × (three ≡ true → far + 2 * near < 2 ^ 64) ⌝ }
-    ensures { λ r. ⌜ (r .count ≡ endsOf m three) × ((t : ℕ) → t < endsOf m three → getD (r .place) t 0 ≡ pick three (offsetBy m near far t) 0) ⌝ }
+// Where number t of both ends stands, from the first on.
+fn place_at(m: usize, near: usize, far: usize, t: usize) -> usize
+    requires { ⌜ (t < 2 * m) × (offsetBy m near far t < 2 ^ 64) ⌝ }
+    ensures { λ r. ⌜ r ≡ offsetBy m near far t ⌝ }
 {
-    if !three {
-        return Places {
-            count: 1,
-            place: [0, 0, 0, 0, 0, 0],
+    if t < m {
+        return t * near;
+    }
+    far + (t - m) * near
+}
+
+// Where all of them stand.
+fn places_of(m: usize, near: usize, far: usize) -> [usize; 6]
+    requires { ⌜ (2 ≤ m) × (m ≤ 3) × ((t : ℕ) → t < 2 * m → offsetBy m near far t < 2 ^ 64) ⌝ }
+    ensures { λ r. ⌜ ((t : ℕ) → t < 2 * m → getD r t 0 ≡ offsetBy m near far t) ⌝ }
+{
+    let a = place_at(m, near, far, 0);
+    let b = place_at(m, near, far, 1);
+    let c = place_at(m, near, far, 2);
+    let d = place_at(m, near, far, 3);
+    if m == 2 {
+        return [a, b, c, d, 0, 0];
+    }
+    let e = place_at(m, near, far, 4);
+    let f = place_at(m, near, far, 5);
+    [a, b, c, d, e, f]
+}
+
+// The numbers of both ends, which stand one after the other.
+fn ends_of(m: usize, n: [i64; 6]) -> Ends
+    requires { ⌜ (2 ≤ m) × (m ≤ 3) ⌝ }
+    ensures { λ r. ⌜ ((o : ℕ) → o < 3 → (at (r .low) o ≡ numbersAt m (at n) 0 1 o) × (at (r .high) o ≡ numbersAt m (at n) m 1 o)) ⌝ }
+{
+    if m == 2 {
+        return Ends {
+            low: [n[0], n[1], 0],
+            high: [n[2], n[3], 0],
         };
     }
-    if m == 2 {
-        return Places {
-            count: 4,
-            place: [0, near, far, far + near, 0, 0],
-        };
-    }
-    Places {
-        count: 6,
-        place: [0, near, 2 * near, far, far + near, far + 2 * near],
+    Ends {
+        low: [n[0], n[1], n[2]],
+        high: [n[3], n[4], n[5]],
     }
 }
 
-// The m numbers from k on, as those of an end.
-fn end_of(m: usize, numbers: [i64; 6], k: usize) -> [i64; 3]
-    requires { ⌜ (2 ≤ m) × (m ≤ 3) × (k + m ≤ 6) ⌝ }
-    ensures { λ r. ⌜ ((o : ℕ) → o < 3 → at r o ≡ numbersAt m (at numbers) k 1 o) ⌝ }
-{
-    let a = numbers[k];
-    let b = numbers[k + 1];
-    if m == 2 {
-        return [a, b, 0];
-    }
-    [a, b, numbers[k + 2]]
-}
-
-// One stage: the numbers of both ends stand one after the other.
-fn work_off(m: usize, a: Axis, numbers: [i64; 6]) -> i64
-    requires { ⌜ Prepared m a × (load (a .basis) (numbersAt m (at numbers) 0 1) (numbersAt m (at numbers) m 1) ≤ 2 ^ 63 - 2 ^ 45) ⌝ }
+// One stage of the numbers of both ends, which stand one after the other.
+fn work_off(m: usize, k: u32, a: Axis, numbers: [i64; 6]) -> i64
+    requires { ⌜ Prepared m a × (k ≡ a .shift) × (load (a .basis) (numbersAt m (at numbers) 0 1) (numbersAt m (at numbers) m 1) ≤ 2 ^ 63 - 2 ^ 45) ⌝ }
     ensures { λ r. ⌜ ((g : ℕ → ℤ) (p : ℕ) → ((t : ℕ) → t < 2 * m → at numbers t ≡ g (p + offsetBy m (a .near) (a .far) t)) → r ≡ worked m a g p) ⌝ }
 {
-    let low = end_of(m, numbers, 0);
-    let high = end_of(m, numbers, m);
+    let ends = ends_of(m, numbers);
+    let low = ends.low;
+    let high = ends.high;
     let basis = a.basis;
-    hermite::stage(m, basis, a.shift, low, high)
+    hermite::stage(m, basis, k, low, high)
 }
 
 // The number after the second stage: the first gives the numbers of both ends.
-fn second(m: usize, y: Axis, x: Axis, records: &[i32], p: usize) -> i64
-    requires { ⌜ AllPrepared m (y ∷ x ∷ []) ⌝ }
+fn second(m: usize, k: u32, y: Axis, x: Axis, records: &[i32], p: usize) -> i64
+    requires { ⌜ AllPrepared m (y ∷ x ∷ []) × (k ≡ y .shift) × (x .shift ≡ shiftOf false m false true) ⌝ }
     requires { ⌜ Safe m (length (now records)) (y ∷ x ∷ []) (at (now records)) p ⌝ }
     ensures { λ r. ⌜ r ≡ after m (y ∷ x ∷ []) (at (now (records .entry))) p ⌝ }
 {
-    let ends = places_of(m, true, y.near, y.far);
-    let count = ends.count;
-    let place = ends.place;
+    let before = hermite::shift(false, m, false, true);
     let mut numbers = [0i64; 6];
     let mut t: usize = 0;
-    while t < count {
-        numbers[t] = first(m, x, records, p + place[t]);
+    while t < 2 * m {
+        let place = place_at(m, y.near, y.far, t);
+        numbers[t] = first(m, before, x, records, p + place);
         t += 1;
     }
-    work_off(m, y, numbers)
+    work_off(m, k, y, numbers)
 }
 
-// The same, with m a constant of the call.
-fn second_by_degree(m: usize, y: Axis, x: Axis, records: &[i32], p: usize) -> i64
-    requires { ⌜ AllPrepared m (y ∷ x ∷ []) ⌝ }
+// The stages of two axes, m a constant of the call.
+fn both_stages(m: usize, z: Axis, x: Axis, records: &[i32], p: usize) -> i64
+    requires { ⌜ AllPrepared m (z ∷ x ∷ []) × (x .shift ≡ shiftOf false m false true) ⌝ }
+    requires { ⌜ Safe m (length (now records)) (z ∷ x ∷ []) (at (now records)) p ⌝ }
+    ensures { λ r. ⌜ r ≡ after m (z ∷ x ∷ []) (at (now (records .entry))) p ⌝ }
+{
+    let k = z.shift;
+    if m == 2 {
+        return second(2, k, z, x, records, p);
+    }
+    second(3, k, z, x, records, p)
+}
+
+// The stages of three axes but the last, m a constant of the call.
+fn first_stages(m: usize, y: Axis, x: Axis, records: &[i32], p: usize) -> i64
+    requires { ⌜ AllPrepared m (y ∷ x ∷ []) × (y .shift ≡ shiftOf false m true true) × (x .shift ≡ shiftOf false m false true) ⌝ }
     requires { ⌜ Safe m (length (now records)) (y ∷ x ∷ []) (at (now records)) p ⌝ }
     ensures { λ r. ⌜ r ≡ after m (y ∷ x ∷ []) (at (now (records .entry))) p ⌝ }
 {
     if m == 2 {
-        return second(2, y, x, records, p);
+        return second(2, hermite::shift(false, 2, true, true), y, x, records, p);
     }
-    second(3, y, x, records, p)
+    second(3, hermite::shift(false, 3, true, true), y, x, records, p)
 }
 
-// The number after the third stage; where there are two axes, after the second.
-fn third(m: usize, three: bool, z: Axis, y: Axis, x: Axis, records: &[i32], p: usize) -> i64
-    requires { ⌜ AllPrepared m (also three z (y ∷ x ∷ [])) ⌝ }
-    requires { ⌜ Safe m (length (now records)) (also three z (y ∷ x ∷ [])) (at (now records)) p ⌝ }
-    ensures { λ r. ⌜ r ≡ after m (also three z (y ∷ x ∷ [])) (at (now (records .entry))) p ⌝ }
+// The number after the third stage: the second gives the numbers of both ends.
+fn third(m: usize, z: Axis, y: Axis, x: Axis, records: &[i32], p: usize) -> i64
+    requires { ⌜ AllPrepared m (z ∷ y ∷ x ∷ []) × (y .shift ≡ shiftOf false m true true) × (x .shift ≡ shiftOf false m false true) ⌝ }
+    requires { ⌜ Safe m (length (now records)) (z ∷ y ∷ x ∷ []) (at (now records)) p ⌝ }
+    ensures { λ r. ⌜ r ≡ after m (z ∷ y ∷ x ∷ []) (at (now (records .entry))) p ⌝ }
 {
-    let ends = places_of(m, three, z.near, z.far);
-    let count = ends.count;
-    let place = ends.place;
+    let place = places_of(m, z.near, z.far);
     let mut numbers = [0i64; 6];
     let mut t: usize = 0;
-    while t < count {
-        numbers[t] = second_by_degree(m, y, x, records, p + place[t]);
+    while t < 2 * m {
+        numbers[t] = first_stages(m, y, x, records, p + place[t]);
         t += 1;
     }
-    if !three {
-        return numbers[0];
-    }
-    work_off(m, z, numbers)
+    work_off(m, z.shift, z, numbers)
 }
 
 // The stage of one axis, to units.
@@ -199,7 +223,7 @@ fn one_axis(m: usize, slope: bool, a: Strides, records: &[i32], p: usize) -> i64
     ensures { λ r. ⌜ WorkedOff m slope a [] (at (now (records .entry))) p r ⌝ }
 {
     let x = axis_of(m, slope, false, false, a.step, a.far, a.near);
-    first(m, x, records, p)
+    first(m, x.shift, x, records, p)
 }
 
 // The same, with m and the kind constants of the call.
@@ -230,17 +254,6 @@ fn last_stage(m: usize, slope: bool, c: Strides) -> Axis
     axis_of(m, false, true, false, c.step, c.far, c.near)
 }
 
-// The stage between the first and the last; where there are two axes, the last.
-fn middle(m: usize, three: bool, b: Strides, last: Axis) -> Axis
-    requires { ⌜ (2 ≤ m) × (m ≤ 3) × (three ≡ true → b .step ≤ steps) ⌝ }
-    ensures { λ r. ⌜ (three ≡ true → Made m false true true b r) × (three ≡ false → r ≡ last) ⌝ }
-{
-    if !three {
-        return last;
-    }
-    axis_of(m, false, true, true, b.step, b.far, b.near)
-}
-
 // The stages of two or three axes: a, b where there are three, and c.
 fn more_axes(
     m: usize,
@@ -257,8 +270,11 @@ fn more_axes(
 {
     let x = axis_of(m, false, false, true, a.step, a.far, a.near);
     let z = last_stage(m, slope, c);
-    let y = middle(m, three, b, z);
-    third(m, three, z, y, x, records, p)
+    if !three {
+        return both_stages(m, z, x, records, p);
+    }
+    let y = axis_of(m, false, true, true, b.step, b.far, b.near);
+    third(m, z, y, x, records, p)
 }
 
 // The axis that is worked off last.
@@ -269,11 +285,30 @@ fn last_axis(n: u32, slope: bool, axis: u32) -> u32
     if slope { axis } else { n - 1 }
 }
 
-// The axis x or z, or y where that one is worked off last.
-fn beside(outer: u32, last: u32) -> u32
-    ensures { λ r. ⌜ r ≡ beside outer last ⌝ }
+// Three axes in working order: x, y, z, but for the last.
+fn in_order(last: u32, x: Strides, y: Strides, z: Strides) -> Order
+    requires { ⌜ last < 3 ⌝ }
+    ensures { λ r. ⌜ (r .first ≡ ofAxis x y z (beside 0 last)) × (r .middle ≡ ofAxis x y z (beside 2 last)) × (r .last ≡ ofAxis x y z last) ⌝ }
 {
-    if last == outer { 1 } else { outer }
+    if last == 0 {
+        return Order {
+            first: y,
+            middle: z,
+            last: x,
+        };
+    }
+    if last == 1 {
+        return Order {
+            first: x,
+            middle: z,
+            last: y,
+        };
+    }
+    Order {
+        first: x,
+        middle: y,
+        last: z,
+    }
 }
 
 // The step and the strides of an axis.
@@ -302,8 +337,8 @@ fn strides_of(m: usize, step: [u32; 3], l: Layout, axis: u32) -> Strides
     }
 }
 
-// The dose or slope at a step of a cell: the stages of all axes, x, y, z, a slope's axis last.
-pub fn answer(
+// The dose or slope at a step of a cell of one axis.
+pub fn on_line(
     s: Shape,
     records: &[i32],
     cell: [u32; 3],
@@ -313,18 +348,37 @@ pub fn answer(
     l: Layout,
 ) -> i32
     requires { ⌜ Ready s (now records) (placeAt cell) (placeAt step) (wantOf slope axis) l ⌝ }
+    requires { ⌜ s .axes ≡ 1 ⌝ }
+    ensures { λ r. ⌜ r ≡ answer (askAt s (wantOf slope axis) (placeAt cell) (placeAt step)) (recordsField s (now (records .entry))) ⌝ }
+{
+    let m = l.orders;
+    let x = strides_of(m, step, l, 0);
+    one_axis_by_kind(m, slope, x, records, l.base) as i32
+}
+
+// The dose or slope at a step of a cell of two or three axes: the stages x, y, z, a slope's axis last.
+pub fn on_lattice(
+    s: Shape,
+    records: &[i32],
+    cell: [u32; 3],
+    step: [u32; 3],
+    slope: bool,
+    axis: u32,
+    l: Layout,
+) -> i32
+    requires { ⌜ Ready s (now records) (placeAt cell) (placeAt step) (wantOf slope axis) l ⌝ }
+    requires { ⌜ 2 ≤ s .axes ⌝ }
     ensures { λ r. ⌜ r ≡ answer (askAt s (wantOf slope axis) (placeAt cell) (placeAt step)) (recordsField s (now (records .entry))) ⌝ }
 {
     let m = l.orders;
     let n = s.axes;
-    let p = l.base;
     let last = last_axis(n, slope, axis);
-    if n == 1 {
-        let x = strides_of(m, step, l, 0);
-        return one_axis_by_kind(m, slope, x, records, p) as i32;
-    }
-    let a = strides_of(m, step, l, beside(0, last));
-    let b = strides_of(m, step, l, beside(2, last));
-    let c = strides_of(m, step, l, last);
-    more_axes(m, n == 3, slope, a, b, c, records, p) as i32
+    let x = strides_of(m, step, l, 0);
+    let y = strides_of(m, step, l, 1);
+    let z = strides_of(m, step, l, 2);
+    let order = in_order(last, x, y, z);
+    let a = order.first;
+    let b = order.middle;
+    let c = order.last;
+    more_axes(m, n == 3, slope, a, b, c, records, l.base) as i32
 }

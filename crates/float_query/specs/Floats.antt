@@ -1,18 +1,19 @@
 -- Queries by float: each of three floats, in cells, becomes the step nearest to 256 times its exact value, halves up.
+use mathlib.Core.Bool.{Bool}
 use mathlib.Core.List.{List}
 use Prim.Native.Nat.{ℕ, zero, suc}
-use lib.Dec.{ltb}
+use lib.Dec.{ltb, eqb}
 use lib.Ieee.{Float}
 use lib.Ieee.Scale.{finite}
-use lib.IntN.{ℤ, pos}
+use lib.IntN.{ℤ, pos, negsuc}
 use Rattle.arith.specs.Choice.{pick}
 use Rattle.lattice.specs.declared.Shape.{Shape}
-use Rattle.lattice.specs.Outcome.{Outcome, Check, refuseUnless, first, firstOf}
+use Rattle.lattice.specs.Outcome.{Outcome, Check, done, refused, refuseUnless, first, firstOf}
 use Rattle.hermite.specs.Stage.{steps}
 use Rattle.floats.specs.declared.FloatStep.{FloatStep}
 use Rattle.floats.specs.Step.{step}
 use Rattle.evaluate.specs.Evaluate.{Want}
-use Rattle.query.specs.Queries.{Position, askedOutcome, coordinateOutcome, positionOutcome, positionCell, positionStep, reading}
+use Rattle.query.specs.Queries.{Position, askedOutcome, positionOutcome, positionCell, positionStep, reading}
 use Rattle.float_query.specs.declared.FloatPosition.{FloatPosition}
 
 -- the float on each axis
@@ -35,6 +36,19 @@ byFloat s rs want x =
     first (askedOutcome s rs want)
     (first (firstOf 3 (floatOutcome s x)) (reading s rs want (positionCell s (stepsOf x)) (positionStep s (stepsOf x))))
 
--- 10 and 11 of a float whose step is held in 32 bits
-unfoldable pub heldOutcome : ℕ → FloatStep → ℕ → Check
-heldOutcome count f a = first (refuseUnless (f .finite) 10 a) (coordinateOutcome count (f .step) a)
+-- ---- the query by position that answers it
+
+-- the step held in 32 bits of a float, below 0 where it is not finite
+unfoldable pub heldStep : FloatStep → ℤ
+heldStep f = pick (f .finite) (f .step) (negsuc 0)
+
+-- whether the float on an axis is finite
+unfoldable pub finiteOn : FloatStep → FloatStep → FloatStep → ℕ → Bool
+finiteOn x y z zero = x .finite
+finiteOn x y z (suc zero) = y .finite
+finiteOn x y z (suc (suc a)) = z .finite
+
+-- 10 for 11 on an axis whose float is not finite
+unfoldable pub withTen : {A : Type 0} → (ℕ → Bool) → Outcome A → Outcome A
+withTen finite (done v) = done v
+withTen finite (refused number place) = refused (pick (eqb number 11) (pick (finite place) 11 10) number) place

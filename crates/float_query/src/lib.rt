@@ -1,19 +1,17 @@
 // Doses and slopes by three float positions, as floats.
 ghost use mathlib.Core.Path.{_≡_};
-ghost use Prim.Native.Nat.{ℕ, _<_, _≤_, _^_};
+ghost use Prim.Native.Nat.{ℕ, _<_, _^_};
 ghost use lib.IntN.{ℤ, natAbs};
-ghost use Rattle.lattice.specs.Outcome.{done, first};
-ghost use Rattle.lattice.specs.Answer.{meaning};
-ghost use Rattle.lattice.specs.Shape.{count, Shaped};
+ghost use Rattle.lattice.specs.Outcome.{done};
 ghost use Rattle.evaluate.specs.Wants.{wanted, wantOf};
 ghost use Rattle.query.specs.Answers.{told};
-ghost use Rattle.float_query.specs.Floats.{floatsAt, byFloat, heldOutcome};
+ghost use Rattle.float_query.specs.Floats.{floatsAt, byFloat, heldStep, finiteOn, withTen};
 ghost use Rattle.float_query.specs.Answers.{toldFloat, inFloat};
 use evaluate::SlopeAxis;
 use floats::FloatStep;
-use lattice::Answer;
 use lattice::Refusal;
 use lattice::Shape;
+use query::Query;
 use query::Reading;
 
 // Three positions in cells.
@@ -28,27 +26,6 @@ pub enum FloatReading {
     Dose(f32),
     Slope(f32),
     Refused(Refusal),
-}
-
-// Refusals 10 and 11 of a float on one axis.
-fn check_float(count: u32, f: FloatStep, axis: u32) -> Answer
-    requires { ⌜ (1 ≤ count) × (count ≤ 64) ⌝ }
-    ensures { λ r. ⌜ meaning r ≡ heldOutcome count f axis ⌝ }
-{
-    let a = axis as usize;
-    let finite = lattice::refuse_unless(f.finite, 10, a);
-    lattice::earlier(finite, query::check_coordinate(count, f.step, axis))
-}
-
-// Refusals 10 and 11 of three floats, axis by axis.
-fn check_floats(s: Shape, x: FloatStep, y: FloatStep, z: FloatStep) -> Answer
-    requires { ⌜ Shaped s ⌝ }
-    ensures { λ r. ⌜ meaning r ≡ first (first (heldOutcome (count s 0) x 0) (heldOutcome (count s 1) y 1)) (heldOutcome (count s 2) z 2) ⌝ }
-{
-    let on_x = check_float(s.counts[0], x, 0);
-    let on_y = check_float(s.counts[1], y, 1);
-    let on_z = check_float(s.counts[2], z, 2);
-    lattice::earlier(lattice::earlier(on_x, on_y), on_z)
 }
 
 // A whole-number answer as a float.
@@ -69,23 +46,55 @@ fn in_float(a: Reading, slope: bool) -> FloatReading
     }
 }
 
+// The step of a float, below 0 where the float is not finite.
+fn held_step(f: FloatStep) -> i32
+    ensures { λ r. ⌜ r ≡ heldStep f ⌝ }
+{
+    if f.finite { f.step } else { -1 }
+}
+
+// Whether the float on an axis is finite.
+fn finite_on(x: FloatStep, y: FloatStep, z: FloatStep, axis: usize) -> bool
+    ensures { λ r. ⌜ r ≡ finiteOn x y z axis ⌝ }
+{
+    if axis == 0 {
+        return x.finite;
+    }
+    if axis == 1 {
+        return y.finite;
+    }
+    z.finite
+}
+
+// The answer at the steps of three floats: 10 for 11 where the float is not finite.
+fn with_ten(a: Reading, x: FloatStep, y: FloatStep, z: FloatStep) -> Reading
+    ensures { λ r. ⌜ told r ≡ withTen (finiteOn x y z) (told a) ⌝ }
+{
+    match a {
+        Reading::Value(_) => a,
+        Reading::Refused(r) => {
+            if r.number == 11 && !finite_on(x, y, z, r.place) {
+                return Reading::Refused(Refusal {
+                    number: 10,
+                    place: r.place,
+                });
+            }
+            a
+        }
+    }
+}
+
 // The dose or slope at three floats.
 pub fn at_float(s: Shape, records: &[i32], p: FloatPosition, slope_axis: SlopeAxis) -> FloatReading
     ensures { λ r. ⌜ toldFloat r ≡ inFloat (wanted «slope_axis») (byFloat s (now (records .entry)) (wanted «slope_axis») (floatsAt p)) ⌝ }
 {
-    let slope = slope_axis.given;
-    let axis = slope_axis.axis;
-    let asked = query::check_asked(s, records.len(), slope, axis);
-    if let Answer::Refused(r) = asked {
-        return FloatReading::Refused(r);
-    }
     let x = floats::step_of(p.x);
     let y = floats::step_of(p.y);
     let z = floats::step_of(p.z);
-    let tested = check_floats(s, x, y, z);
-    if let Answer::Refused(r) = tested {
-        return FloatReading::Refused(r);
-    }
-    let answer = query::read_position(s, records, [x.step, y.step, z.step], slope, axis);
-    in_float(answer, slope)
+    let q = Query {
+        position: [held_step(x), held_step(y), held_step(z)],
+        slope_axis: slope_axis,
+    };
+    let a = query::at_position(s, records, q);
+    in_float(with_ten(a, x, y, z), slope_axis.given)
 }

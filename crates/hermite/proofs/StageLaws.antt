@@ -1,6 +1,6 @@
 -- The code's stage: the sum by the folded basis is the document's, and no sum on the way leaves 64 bits where the numbers are within 2^21, doubled with each order.
 use mathlib.Core.Bool.{Bool, true, false}
-use mathlib.Core.Path.{_≡_, sym, ap, ap₂, _∙_}
+use mathlib.Core.Path.{_≡_, refl, sym, ap, ap₂, _∙_}
 use Prim.Native.Nat.{ℕ, _+_, _*_, _-_, _%_, _^_, _≤_, _<_}
 use native.Mathlib.Nat.{le-refl, le-trans, le-of-eq, lt-of-le-of-lt, add-le-add, mul-le-mul, mod-eq-of-lt, add-mod-left, zero-mul}
 use native.Mathlib.Omega.{arith}
@@ -20,8 +20,8 @@ use Rattle.arith.specs.Int.{roundHalfUp}
 use Rattle.arith.specs.Sum.{sum, total}
 use Rattle.lattice.specs.Buffer.{at}
 use Rattle.hermite.specs.declared.Basis.{Basis}
-use Rattle.hermite.specs.Hermite.{Kind, value, slope, divisor, basis, stageSum}
-use Rattle.hermite.specs.Stage.{steps, Folds, bothEnds, load, worth}
+use Rattle.hermite.specs.Hermite.{Kind, value, slope, kindOf, divisor, basis, stageSum}
+use Rattle.hermite.specs.Stage.{steps, Folds, bothEnds, load, worth, shiftOf}
 use Rattle.hermite.proofs.DotLaws.{held}
 use Rattle.arith.proofs.Machine.{read}
 use Rattle.hermite.proofs.Ends.{by-ends}
@@ -110,10 +110,26 @@ module _ (k : Kind) (m u : ℕ) (b : Basis) (f : Folds k m u b) (low high : ℕ 
 
 -- ---- in units or in eighths
 
-worth-some : (b : Bool) → 0 < worth b
+pub worth-some : (b : Bool) → 0 < worth b
 unfolding worth
 worth-some true = lit< tt
 worth-some false = lit< tt
+
+-- the shift of a stage stands for its divisor
+pub record Shifted (slope : Bool) (m : ℕ) (from to : Bool) : Type 0 where
+  pub low : shiftOf slope m from to ≤ 44
+  pub is : 2 ^ (shiftOf slope m from to + 1) * worth from ≡ divisor (kindOf slope) m steps * worth to
+
+pub shifted : (slope from to : Bool) (m : ℕ) → 2 ≤ m → m ≤ 3 → Shifted slope m from to
+unfolding shiftOf worth divisor kindOf pick
+shifted true true true = by-m (λ m. Shifted true m true true) (record { low = lit≤ tt; is = refl }) (record { low = lit≤ tt; is = refl })
+shifted true true false = by-m (λ m. Shifted true m true false) (record { low = lit≤ tt; is = refl }) (record { low = lit≤ tt; is = refl })
+shifted true false true = by-m (λ m. Shifted true m false true) (record { low = lit≤ tt; is = refl }) (record { low = lit≤ tt; is = refl })
+shifted true false false = by-m (λ m. Shifted true m false false) (record { low = lit≤ tt; is = refl }) (record { low = lit≤ tt; is = refl })
+shifted false true true = by-m (λ m. Shifted false m true true) (record { low = lit≤ tt; is = refl }) (record { low = lit≤ tt; is = refl })
+shifted false true false = by-m (λ m. Shifted false m true false) (record { low = lit≤ tt; is = refl }) (record { low = lit≤ tt; is = refl })
+shifted false false true = by-m (λ m. Shifted false m false true) (record { low = lit≤ tt; is = refl }) (record { low = lit≤ tt; is = refl })
+shifted false false false = by-m (λ m. Shifted false m false false) (record { low = lit≤ tt; is = refl }) (record { low = lit≤ tt; is = refl })
 
 -- ---- as the machine works it out
 

@@ -34,3 +34,7 @@ load b low high = total 3 (λ o. natAbs (at (b .low) o) * natAbs (low o)) + tota
 unfoldable pub worth : Bool → ℕ
 worth true = 1
 worth false = 8
+
+-- the k for which a stage divides by 2^(k+1), where its numbers come and go in units, or in eighths where `from` or `to` is set
+unfoldable pub shiftOf : Bool → ℕ → Bool → Bool → ℕ
+shiftOf slope m from to = 8 * (2 * m - pick slope 2 1) + pick from 3 0 - pick to 3 0

@@ -6,8 +6,8 @@ ghost use Rattle.arith.specs.Choice.{pick};
 ghost use Rattle.arith.specs.Int.{roundHalfUp};
 ghost use Rattle.arith.specs.Sum.{sum, total};
 ghost use Rattle.lattice.specs.Buffer.{at};
-ghost use Rattle.hermite.specs.Hermite.{multiplier, turned, Kind, kindOf, weight, divisor, stageSum};
-ghost use Rattle.hermite.specs.Stage.{steps, Folds, bothEnds, load, worth};
+ghost use Rattle.hermite.specs.Hermite.{multiplier, turned, Kind, kindOf, weight, stageSum};
+ghost use Rattle.hermite.specs.Stage.{steps, Folds, bothEnds, load, shiftOf};
 
 // A cell has 256 steps an axis.
 pub const STEPS: u32 = 256;
@@ -140,7 +140,7 @@ pub fn stage(m: usize, b: Basis, k: u32, low: [i64; 3], high: [i64; 3]) -> i64
 // The k for which a stage's divisor, 2 times a power of 256, is 2^(k+1).
 fn exponent(slope: bool, m: usize) -> u32
     requires { ⌜ (2 ≤ m) × (m ≤ 3) ⌝ }
-    ensures { λ r. ⌜ (16 ≤ r) × (r ≤ 40) × (2 ^ (r + 1) ≡ divisor (kindOf slope) m steps) ⌝ }
+    ensures { λ r. ⌜ r ≡ 8 * (2 * m - pick slope 2 1) ⌝ }
 {
     if m == 2 {
         if slope {
@@ -157,7 +157,7 @@ fn exponent(slope: bool, m: usize) -> u32
 // The k of a stage whose numbers come and go in units, or in eighths where `from` or `to` is set.
 pub fn shift(slope: bool, m: usize, from: bool, to: bool) -> u32
     requires { ⌜ (2 ≤ m) × (m ≤ 3) ⌝ }
-    ensures { λ r. ⌜ (r ≤ 44) × (2 ^ (r + 1) * worth from ≡ divisor (kindOf slope) m steps * worth to) ⌝ }
+    ensures { λ r. ⌜ r ≡ shiftOf slope m from to ⌝ }
 {
     let k = exponent(slope, m);
     if from {

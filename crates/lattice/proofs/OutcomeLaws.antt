@@ -93,6 +93,20 @@ firstOf-stops (suc n) i test k p l h e =
     (λ (j : i ≡ n). first-passed (firstOf n test) (test n) (subst (λ (m : ℕ). firstOf m test ≡ done tt) j h) ∙ subst (λ (m : ℕ). test m ≡ refused k p) j e)
     (λ (j : i < n). refused-first (test n) (firstOf-stops n i test k p j h e)) (eq-or-lt-of-le (le-of-suc-le-suc l))
 
+-- a test of each axis, one after the other
+module _ (test : ℕ → Check) where
+  pub refused-x : {k p : ℕ} → test 0 ≡ refused k p → refused k p ≡ firstOf 3 test
+  unfolding firstOf
+  refused-x e = sym (refused-first (test 2) (refused-first (test 1) e))
+
+  pub refused-y : {k p : ℕ} → test 0 ≡ done tt → test 1 ≡ refused k p → refused k p ≡ firstOf 3 test
+  unfolding firstOf
+  refused-y x e = sym (refused-first (test 2) (first-passed (test 0) (test 1) x ∙ e))
+
+  pub then-z : test 0 ≡ done tt → test 1 ≡ done tt → test 2 ≡ firstOf 3 test
+  unfolding firstOf
+  then-z x y = sym (first-passed (first (test 0) (test 1)) (test 2) (first-passed (test 0) (test 1) x ∙ y))
+
 -- one test more
 pub firstOf-more : (i : ℕ) (test : ℕ → Check) → firstOf i test ≡ done tt → test i ≡ done tt → firstOf (i + 1) test ≡ done tt
 unfolding firstOf

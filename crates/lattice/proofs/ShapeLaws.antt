@@ -6,13 +6,13 @@ use Prim.Native.Nat.{ℕ, _*_, _^_, _≤_, _<_}
 use native.Mathlib.Nat.{pow-zero, pow-suc, one-mul, mul-one, mul-le-mul, pow-le-pow-left, pow-le-pow-right, le-trans, one-le-pow}
 use native.Mathlib.Omega.{arith}
 use lib.Dec.{leb, ltb, eqb, lit<}
-use borrow.Author.Tests.{ltb-true, ltb-false, leb-true, eqb-true, eq-eqb, lt-ltb, le-ltb}
-use Rattle.arith.proofs.Choices.{pick-true, pick-false, on-pick, and-true, or-true}
+use borrow.Author.Tests.{ltb-true, ltb-false, leb-true, eqb-true, eq-eqb, lt-ltb, le-ltb, le-leb}
+use Rattle.arith.proofs.Choices.{pick-true, pick-false, on-pick, and-true, true-and, or-true}
 use Rattle.lattice.specs.declared.Shape.{Shape}
-use Rattle.lattice.specs.Outcome.{Check, done, refuseUnless, first}
+use Rattle.lattice.specs.Outcome.{Check, done, refused, refuseUnless, first}
 use Rattle.lattice.specs.Digits.{span}
 use Rattle.lattice.specs.Shape.{count, ordersOf, orders, nodes, entries, size, axesOutcome, degreeOutcome, countAllowed, countsOutcome, shapeOutcome, Shaped}
-use Rattle.lattice.proofs.OutcomeLaws.{first-done, refuse-done, firstOf-each}
+use Rattle.lattice.proofs.OutcomeLaws.{first-done, first-passed, refuse-done, passes, firstOf-each}
 
 -- ---- the counts
 
@@ -55,6 +55,22 @@ unfolding axesOutcome
 axes-range n h =
     let e = and-true (leb 1 n) (leb n 3) (refuse-done (leb 1 n && leb n 3) 1 0 h) in
     (leb-true 1 n (e .0), leb-true n 3 (e .1))
+
+pub no-axes : (n : ℕ) → (1 ≤ n → n ≤ 3 → ⊥) → axesOutcome n ≡ refused 1 0
+unfolding axesOutcome
+no-axes n none = go (leb 1 n) (leb n 3) (leb-true 1 n) (leb-true n 3)
+  where
+    go : (a b : Bool) → (a ≡ true → 1 ≤ n) → (b ≡ true → n ≤ 3) → refuseUnless (a && b) 1 0 ≡ refused 1 0
+    go true true f g = absurd (none (f refl) (g refl))
+    go true false f g = refl
+    go false b f g = refl
+
+-- where the number of axes is not refused, 2 and 3 are all that is tested of a shape
+pub table-shape : (s : Shape) → 1 ≤ s .axes → s .axes ≤ 3 → first (degreeOutcome (s .degree)) (countsOutcome (s .axes) (count s)) ≡ shapeOutcome s
+unfolding shapeOutcome axesOutcome
+table-shape s l h =
+    sym (first-passed (refuseUnless (leb 1 (s .axes) && leb (s .axes) 3) 1 0) (first (degreeOutcome (s .degree)) (countsOutcome (s .axes) (count s)))
+    (passes (leb 1 (s .axes) && leb (s .axes) 3) 1 0 (true-and (leb 1 (s .axes)) (leb (s .axes) 3) (le-leb 1 (s .axes) l) (le-leb (s .axes) 3 h))))
 
 pub degree-either : (d : ℕ) → degreeOutcome d ≡ done tt → (d ≡ 3) ⊎ (d ≡ 5)
 unfolding degreeOutcome

@@ -7,7 +7,7 @@ ghost use lib.ListN.{getD};
 ghost use Rattle.arith.specs.Choice.{pick};
 ghost use Rattle.lattice.specs.Outcome.{refuseUnless, first};
 ghost use Rattle.lattice.specs.Answer.{meaning};
-ghost use Rattle.lattice.specs.Shape.{axesOutcome, degreeOutcome, countAllowed, countsOutcome, shapeOutcome, ordersOf, entries, nodes, size, Shaped};
+ghost use Rattle.lattice.specs.Shape.{count, axesOutcome, degreeOutcome, countAllowed, countsOutcome, shapeOutcome, ordersOf, entries, nodes, size, Shaped};
 ghost use Rattle.lattice.specs.Records.{limitOutcome};
 
 // A refusal by its number in document 01's list, with the first offending index.
@@ -91,8 +91,8 @@ fn check_count(n: u32, count: u32, axis: u32) -> Answer
     refuse_on_axis(n, axis, 2 <= count && count <= 64, count == 1, 3)
 }
 
-// Refusal 3, each count after the other.
-fn check_each_count(n: u32, x: u32, y: u32, z: u32) -> Answer
+// Refusal 3.
+pub fn check_counts(n: u32, x: u32, y: u32, z: u32) -> Answer
     ensures { λ r. ⌜ meaning r ≡ countsOutcome n (λ a. getD (x ∷ y ∷ z ∷ []) a 0) ⌝ }
 {
     let on_x = check_count(n, x, 0);
@@ -106,29 +106,26 @@ fn check_each_count(n: u32, x: u32, y: u32, z: u32) -> Answer
     check_count(n, z, 2)
 }
 
-// Refusal 3; the number of axes is a constant where the tests are made.
-pub fn check_counts(n: u32, x: u32, y: u32, z: u32) -> Answer
-    ensures { λ r. ⌜ meaning r ≡ countsOutcome n (λ a. getD (x ∷ y ∷ z ∷ []) a 0) ⌝ }
+// Refusals 2 and 3 of a shape of n axes.
+pub fn check_table(n: u32, s: Shape) -> Answer
+    requires { ⌜ n ≡ s .axes ⌝ }
+    ensures { λ r. ⌜ meaning r ≡ first (degreeOutcome (s .degree)) (countsOutcome (s .axes) (count s)) ⌝ }
 {
-    if n == 1 {
-        return check_each_count(1, x, y, z);
+    let degree = check_degree(s.degree);
+    if let Answer::Refused(_) = degree {
+        return degree;
     }
-    if n == 2 {
-        return check_each_count(2, x, y, z);
-    }
-    check_each_count(n, x, y, z)
+    check_counts(n, s.counts[0], s.counts[1], s.counts[2])
 }
 
 pub fn check_shape(s: Shape) -> Answer
     ensures { λ r. ⌜ meaning r ≡ shapeOutcome s ⌝ }
 {
     let axes = check_axes(s.axes);
-    let degree = check_degree(s.degree);
-    let kind = earlier(axes, degree);
-    if let Answer::Refused(_) = kind {
-        return kind;
+    if let Answer::Refused(_) = axes {
+        return axes;
     }
-    check_counts(s.axes, s.counts[0], s.counts[1], s.counts[2])
+    check_table(s.axes, s)
 }
 
 // m, the numbers that a record holds along one axis.

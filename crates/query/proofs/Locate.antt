@@ -1,29 +1,35 @@
--- Where a position stands: its cell and in-cell step on each axis, over plain numbers, and three of them as a place.
-use mathlib.Core.Path.{_≡_, refl, sym, ap, _∙_, fun-ext}
+-- Where a position stands: the query by position is the query by the cell and the in-cell step of the number that stands for it in two's complement.
+use mathlib.Core.Path.{_≡_, refl, sym, ap, ap₂, subst, _∙_, fun-ext}
 use mathlib.Core.Bool.{Bool, true, false, _&&_}
 use mathlib.Core.List.{List, [], _∷_}
-use Prim.Native.Nat.{ℕ, zero, suc, _*_, _-_, _/_, _^_, _≤_, _<_}
+use Prim.Native.Nat.{ℕ, suc, _+_, _*_, _-_, _/_, _^_, _≤_, _<_}
 use native.Mathlib.Omega.{arith}
-use lib.Dec.{leb, ltb}
-use lib.ListN.{getD}
+use native.Mathlib.Decide.{decLt}
+use lib.Dec.{leb, ltb, eqb}
 use lib.IntN.{ℤ, pos, negsuc, natAbs}
-use lib.Signed.{nonNeg, ltZ, mag}
+use lib.Signed.{nonNeg, mag}
 use mir.Syntax.{w32}
 use mir.Val.{Fits, toZ, ofZ}
-use borrow.Author.Tests.{ltb-true, lt-ltb, le-ltb}
+use borrow.Author.Tests.{ltb-true, leb-true, eqb-true, lt-leb, le-leb, eq-eqb, ne-eqb, lt-ltb, le-ltb}
 use Rattle.arith.specs.Choice.{pick}
+use Rattle.arith.specs.Int.{unsignedOf}
 use Rattle.arith.proofs.Machine.{element}
-use Rattle.arith.proofs.Choices.{pick-true, pick-false}
+use Rattle.arith.proofs.Choices.{pick-true, pick-false, by-3}
 use Rattle.lattice.specs.declared.Shape.{Shape}
-use Rattle.lattice.specs.Outcome.{refuseUnless}
+use Rattle.lattice.specs.Outcome.{Outcome, Check, done, refuseUnless, first, firstOf}
 use Rattle.lattice.specs.Buffer.{at}
-use Rattle.lattice.specs.Shape.{count}
+use Rattle.lattice.specs.Shape.{count, Shaped}
 use Rattle.lattice.specs.Axes.{Place}
+use Rattle.lattice.proofs.ShapeLaws.{shaped}
+use Rattle.lattice.proofs.OutcomeLaws.{first-passed, first-after, first-assoc, passes, firstOf-passes, firstOf-same}
 use Rattle.hermite.specs.Stage.{steps}
-use Rattle.cell.specs.Cell.{placeAt}
-use Rattle.query.specs.Queries.{positionAt, coordinateOutcome, positionOutcome, cellOf, positionCell, positionStep}
+use Rattle.cell.specs.Cell.{placeAt, indexOutcome, cellOutcome}
+use Rattle.cell.proofs.CellLaws.{place-beyond}
+use Rattle.evaluate.specs.Evaluate.{Want}
+use Rattle.query.specs.Queries.{askedOutcome, testedOutcome, reading, stepsOutcome, byCell, Position, positionAt, positionOutcome, cellOf, positionCell, positionStep, byPosition}
+use Rattle.query.proofs.QueryLaws.{asked-parts, position-range, in-either}
 
--- ---- one axis
+-- ---- the cell that the code finds
 
 module _ (count p last : ℕ) (is : last ≡ count - 2) where
   pub low-cell : p / 256 < last → p / 256 ≡ cellOf steps count p
@@ -35,99 +41,144 @@ module _ (count p last : ℕ) (is : last ≡ count - 2) where
   last-cell h = omega arith
 
 -- a cell starts at or below its positions
-pub cell-below : (count p : ℕ) → 256 * cellOf steps count p ≤ p
+module _ (count p i : ℕ) (e : i ≡ cellOf steps count p) where
+  pub cell-below : 256 * i ≤ p
+  unfolding cellOf
+  cell-below = omega arith
+
+  pub cell-held : p < 2 ^ 32 → Fits w32 (256 * i)
+  cell-held f = let l = cell-below in record { fits = omega arith }
+
+-- ---- one axis
+
+-- b stands for the position p: p itself, or a number beyond every table where p is below 0
+pub record Stands (p : ℤ) (b : ℕ) : Type 0 where
+  pub low : nonNeg p ≡ true → b ≡ natAbs p
+  pub high : nonNeg p ≡ false → 2 ^ 31 ≤ b
+
+stands : (p : ℤ) → mag p < 2 ^ 31 → Stands p (unsignedOf p)
+unfolding unsignedOf
+stands (pos n) h = record { low = λ e. refl; high = λ e. let z : _≡_ {A = ℕ} 0 1 = cc in absurd (omega arith) }
+stands (negsuc n) h = record { low = λ e. let z : _≡_ {A = ℕ} 0 1 = cc in absurd (omega arith); high = λ e. omega arith }
+
+-- as the code has it
+pub stands-for : (p : ℤ) {b : ℕ} → mag p < 2 ^ 31 → b ≡ unsignedOf (toZ w32 (ofZ w32 p)) → Stands p b
+stands-for p h e = subst (Stands p) (sym (e ∙ ap unsignedOf (element p h))) (stands p h)
+
+same-test : (a b : Bool) → (a ≡ true → b ≡ true) → (b ≡ true → a ≡ true) → a ≡ b
+same-test true b f g = sym (f refl)
+same-test false true f g = g refl
+same-test false false f g = refl
+
+-- 11 of the in-cell step is 11 of the position, on a used axis
+used-test : (c : ℕ) (p : ℤ) (b : ℕ) → 2 ≤ c → c ≤ 64 → Stands p b → leb (b - steps * cellOf steps c b) steps ≡ (nonNeg p && leb (natAbs p) (steps * (c - 1)))
 unfolding cellOf
-cell-below count p = omega arith
+used-test c (pos n) b h k s =
+    let e = s .low refl in
+    same-test (leb (b - steps * cellOf steps c b) steps) (leb n (steps * (c - 1)))
+    (λ t. le-leb n (steps * (c - 1)) (let l = leb-true (b - steps * cellOf steps c b) steps t in omega arith))
+    (λ t. le-leb (b - steps * cellOf steps c b) steps (let l = leb-true n (steps * (c - 1)) t in omega arith))
+used-test c (negsuc n) b h k s = let e = s .high refl in lt-leb (b - steps * cellOf steps c b) steps (omega arith)
 
--- ---- a signed coordinate
-
-pub size-low : (z : ℤ) → mag z < 2 ^ 31 → natAbs z ≤ 2 ^ 31
-size-low (pos n) h = omega arith
-size-low (negsuc n) h = omega arith
-
-neg-sign : (z : ℤ) → ltZ z (pos 0) ≡ true → nonNeg z ≡ false
-neg-sign (pos n) h = absurd (omega (arith, ltb-true n 0 h))
-neg-sign (negsuc n) h = refl
-
-pos-sign : (z : ℤ) → ltZ z (pos 0) ≡ false → nonNeg z ≡ true
-pos-sign (pos n) h = refl
-pos-sign (negsuc n) h = let z : _≡_ {A = ℕ} 0 1 = cc in absurd (omega arith)
-
-module _ (z : ℤ) (l axis : ℕ) where
-  pub below-zero : ltZ z (pos 0) ≡ true → refuseUnless false 11 axis ≡ refuseUnless (nonNeg z && leb (natAbs z) l) 11 axis
-  below-zero h = sym (ap (λ (t : Bool). refuseUnless (t && leb (natAbs z) l) 11 axis) (neg-sign z h))
-
-  pub from-zero : (r : ℕ) → ltZ z (pos 0) ≡ false → r ≡ natAbs z → refuseUnless (leb r l) 11 axis ≡ refuseUnless (nonNeg z && leb (natAbs z) l) 11 axis
-  from-zero r h e = ap (λ (n : ℕ). refuseUnless (leb n l) 11 axis) e ∙ sym (ap (λ (t : Bool). refuseUnless (t && leb (natAbs z) l) 11 axis) (pos-sign z h))
+-- and on an unused one
+unused-test : (c : ℕ) (p : ℤ) (b : ℕ) → c ≡ 1 → Stands p b → eqb (b - steps * cellOf steps c b) 0 ≡ (nonNeg p && leb (natAbs p) (steps * (c - 1)))
+unfolding cellOf
+unused-test c (pos n) b h s =
+    let e = s .low refl in
+    same-test (eqb (b - steps * cellOf steps c b) 0) (leb n (steps * (c - 1)))
+    (λ t. le-leb n (steps * (c - 1)) (let l = eqb-true (b - steps * cellOf steps c b) 0 t in omega arith))
+    (λ t. eq-eqb (b - steps * cellOf steps c b) 0 (let l = leb-true n (steps * (c - 1)) t in omega arith))
+unused-test c (negsuc n) b h s = let e = s .high refl in ne-eqb (b - steps * cellOf steps c b) 0 (λ z. absurd (omega arith))
 
 -- ---- three axes
 
-pub three : (x y z : ℕ) (f : Place) → x ≡ f 0 → y ≡ f 1 → z ≡ f 2 → ((a : ℕ) → 3 ≤ a → f a ≡ 0) → placeAt (x ∷ y ∷ z ∷ []) ≡ f
-unfolding placeAt pick
-three x y z f i j k none = fun-ext go
+-- the cell and the in-cell step of the numbers b that stand for a position
+pub record Located (s : Shape) (p : Position) (b : ℕ → ℕ) (cell step : Place) : Type 0 where
+  pub stand : (a : ℕ) → a < 3 → Stands (p a) (b a)
+  pub cell-is : (a : ℕ) → a < 3 → cell a ≡ cellOf steps (count s a) (b a)
+  pub step-is : (a : ℕ) → a < 3 → step a ≡ b a - steps * cell a
+  pub none : (a : ℕ) → 3 ≤ a → (cell a ≡ 0) × (step a ≡ 0) × (natAbs (p a) ≡ 0)
+
+module _ (s : Shape) (p : Position) (b : ℕ → ℕ) (cell step : Place) (l : Located s p b cell step) (f : Shaped s) where
+  -- no cell of a position is refused
+  cells : cellOutcome s cell ≡ done tt
+  unfolding cellOutcome indexOutcome cellOf
+  cells = firstOf-passes 3 (λ a. indexOutcome s (cell a) a) (λ a h.
+      let e = l .cell-is a h in
+      passes (pick (ltb a (s .axes)) (leb (cell a + 2) (count s a)) (eqb (cell a) 0)) 14 a
+      (in-either s a (leb (cell a + 2) (count s a)) (eqb (cell a) 0)
+      (λ k. le-leb (cell a + 2) (count s a) (let i = f .used a k in omega arith))
+      (λ k. eq-eqb (cell a) 0 (let i = f .unused a h k in omega arith))))
+
+  one : (a : ℕ) → a < 3 → pick (ltb a (s .axes)) (leb (step a) steps) (eqb (step a) 0) ≡ (nonNeg (p a) && leb (natAbs (p a)) (steps * (count s a - 1)))
+  one a h = go (decLt a (s .axes))
+    where
+      at-step : step a ≡ b a - steps * cellOf steps (count s a) (b a)
+      at-step = l .step-is a h ∙ ap (λ (i : ℕ). b a - steps * i) (l .cell-is a h)
+
+      go : Dec (a < s .axes) → pick (ltb a (s .axes)) (leb (step a) steps) (eqb (step a) 0) ≡ (nonNeg (p a) && leb (natAbs (p a)) (steps * (count s a - 1)))
+      go (yes k) =
+          pick-true (ltb a (s .axes)) (leb (step a) steps) (eqb (step a) 0) (lt-ltb a (s .axes) k) ∙ ap (λ (i : ℕ). leb i steps) at-step
+          ∙ used-test (count s a) (p a) (b a) (f .used a k) (f .high a h) (l .stand a h)
+      go (no k) =
+          pick-false (ltb a (s .axes)) (leb (step a) steps) (eqb (step a) 0) (le-ltb a (s .axes) (omega arith)) ∙ ap (λ (i : ℕ). eqb i 0) at-step
+          ∙ unused-test (count s a) (p a) (b a) (f .unused a h (omega arith)) (l .stand a h)
+
+  tests : stepsOutcome s step ≡ firstOf 3 (positionOutcome s p)
+  unfolding stepsOutcome positionOutcome
+  tests = firstOf-same 3 (λ a. refuseUnless (pick (ltb a (s .axes)) (leb (step a) steps) (eqb (step a) 0)) 11 a) (positionOutcome s p) (λ a h. ap (λ (t : Bool). refuseUnless t 11 a) (one a h))
+
+  -- the cell and the in-cell step of a position that is not refused
+  module _ (h : firstOf 3 (positionOutcome s p) ≡ done tt) where
+    is-here : (a : ℕ) → a < 3 → b a ≡ natAbs (p a)
+    is-here a k = l .stand a k .low (position-range s p h a k .0)
+
+    cell-at : cell ≡ positionCell s p
+    unfolding positionCell cellOf
+    cell-at = fun-ext (λ a. go a (decLt a 3))
+      where
+        go : (a : ℕ) → Dec (a < 3) → cell a ≡ positionCell s p a
+        go a (yes k) = l .cell-is a k ∙ ap (cellOf steps (count s a)) (is-here a k)
+        go a (no k) = let e = l .none a (omega arith) in omega arith
+
+    step-at : step ≡ positionStep s p
+    unfolding positionStep
+    step-at = fun-ext (λ a. go a (decLt a 3))
+      where
+        go : (a : ℕ) → Dec (a < 3) → step a ≡ positionStep s p a
+        go a (yes k) = l .step-is a k ∙ ap₂ (λ (i j : ℕ). i - steps * j) (is-here a k) (ap (λ (g : Place). g a) cell-at)
+        go a (no k) = let e = l .none a (omega arith) in omega arith
+
+-- the query by position, for every position
+pub located : (s : Shape) (rs : List ℤ) (want : Want) (p : Position) (b : ℕ → ℕ) (cell step : Place) → Located s p b cell step → byCell s rs want cell step ≡ byPosition s rs want p
+unfolding byCell byPosition testedOutcome
+located s rs want p b cell step l =
+    first-assoc (askedOutcome s rs want) (first (cellOutcome s cell) (stepsOutcome s step)) (reading s rs want cell step)
+    ∙ first-after (askedOutcome s rs want) (first (first (cellOutcome s cell) (stepsOutcome s step)) (reading s rs want cell step)) (first (firstOf 3 (positionOutcome s p)) (reading s rs want (positionCell s p) (positionStep s p)))
+    (λ a. let f = shaped s (asked-parts s rs want a .0) in
+    ap (λ (t : Check). first t (reading s rs want cell step)) (first-passed (cellOutcome s cell) (stepsOutcome s step) (cells s p b cell step l f) ∙ tests s p b cell step l f)
+    ∙ first-after (firstOf 3 (positionOutcome s p)) (reading s rs want cell step) (reading s rs want (positionCell s p) (positionStep s p))
+    (λ h. ap₂ (reading s rs want) (cell-at s p b cell step l f h) (step-at s p b cell step l f h)))
+
+-- and by what the code has of three axes
+pub on-axes : (s : Shape) (rs : List ℤ) (want : Want) (xs : List ℤ) (x y z i j k : ℕ) → Stands (at xs 0) x → Stands (at xs 1) y → Stands (at xs 2) z
+    → i ≡ cellOf steps (count s 0) x → j ≡ cellOf steps (count s 1) y → k ≡ cellOf steps (count s 2) z
+    → byCell s rs want (placeAt (i ∷ j ∷ k ∷ [])) (placeAt ((x - 256 * i) ∷ (y - 256 * j) ∷ (z - 256 * k) ∷ [])) ≡ byPosition s rs want (positionAt xs)
+unfolding placeAt positionAt pick
+on-axes s rs want xs x y z i j k p q r e f g =
+    located s rs want (positionAt xs) (placeAt numbers) (placeAt cell) (placeAt step)
+    (record {
+      stand = by-3 (λ (a : ℕ). Stands (positionAt xs a) (placeAt numbers a)) p q r;
+      cell-is = by-3 (λ (a : ℕ). placeAt cell a ≡ cellOf steps (count s a) (placeAt numbers a)) e f g;
+      step-is = by-3 (λ (a : ℕ). placeAt step a ≡ placeAt numbers a - steps * placeAt cell a) refl refl refl;
+      none = λ a h. (place-beyond cell a h, place-beyond step a h, ap natAbs (pick-false (ltb a 3) (at xs a) (pos 0) (le-ltb a 3 h)));
+    })
   where
-    go : (a : ℕ) → placeAt (x ∷ y ∷ z ∷ []) a ≡ f a
-    go zero = i
-    go (suc zero) = j
-    go (suc (suc zero)) = k
-    go (suc (suc (suc a))) = pick-false (ltb (suc (suc (suc a))) 3) 0 0 (le-ltb (suc (suc (suc a))) 3 (omega arith)) ∙ sym (none (suc (suc (suc a))) (omega arith))
+    numbers : List ℕ
+    numbers = x ∷ y ∷ z ∷ []
 
--- where the place is 0 from axis n on
-module _ (n : ℕ) (f : Place) (unused : (a : ℕ) → a < 3 → n ≤ a → f a ≡ 0) (none : (a : ℕ) → 3 ≤ a → f a ≡ 0) where
-  pub one : (x : ℕ) → n ≡ 1 → x ≡ f 0 → placeAt (x ∷ 0 ∷ 0 ∷ []) ≡ f
-  one x e i = three x 0 0 f i (sym (unused 1 (omega arith) (omega arith))) (sym (unused 2 (omega arith) (omega arith))) none
+    cell : List ℕ
+    cell = i ∷ j ∷ k ∷ []
 
-  pub two : (x y : ℕ) → n ≡ 2 → x ≡ f 0 → y ≡ f 1 → placeAt (x ∷ y ∷ 0 ∷ []) ≡ f
-  two x y e i j = three x y 0 f i j (sym (unused 2 (omega arith) (omega arith))) none
-
--- what position_step needs of the distance d on axis a
-pub record Stepped (s : Shape) (p : List ℤ) (cell : List ℕ) (a d : ℕ) : Type 0 where
-  pub fits : Fits w32 (256 * getD cell a 0)
-  pub below : 256 * getD cell a 0 ≤ d
-  pub is : d - 256 * getD cell a 0 ≡ positionStep s (positionAt p) a
-
-module _ (s : Shape) (p : List ℤ) where
-  position-beyond : (a : ℕ) → 3 ≤ a → natAbs (positionAt p a) ≡ 0
-  unfolding positionAt
-  position-beyond a l = ap natAbs (pick-false (ltb a 3) (at p a) (pos 0) (le-ltb a 3 l))
-
-  pub no-cell : (a : ℕ) → 3 ≤ a → positionCell s (positionAt p) a ≡ 0
-  unfolding positionCell cellOf
-  no-cell a l = let h = position-beyond a l in omega arith
-
-  pub no-step : (a : ℕ) → 3 ≤ a → positionStep s (positionAt p) a ≡ 0
-  unfolding positionStep
-  no-step a l = let h = position-beyond a l in omega arith
-
-  -- the cell on axis a, from the distance that the code works out
-  pub celled : (a : ℕ) → a < 3 → (c d : ℕ) → c ≡ cellOf steps (count s a) d → d ≡ natAbs (toZ w32 (ofZ w32 (at p a))) → mag (at p a) < 2 ^ 31 → c ≡ positionCell s (positionAt p) a
-  unfolding positionCell positionAt
-  celled a l c d i e m = i ∙ ap (cellOf steps (count s a)) (e ∙ ap natAbs (element (at p a) m ∙ sym (pick-true (ltb a 3) (at p a) (pos 0) (lt-ltb a 3 l))))
-
-  -- the test of one coordinate
-  pub coordinate-is : (a : ℕ) → a < 3 → (z : ℤ) → z ≡ at p a → coordinateOutcome (count s a) z a ≡ positionOutcome s (positionAt p) a
-  unfolding positionOutcome positionAt
-  coordinate-is a l z e = ap (λ (q : ℤ). coordinateOutcome (count s a) q a) (e ∙ sym (pick-true (ltb a 3) (at p a) (pos 0) (lt-ltb a 3 l)))
-
-  -- the in-cell step of a position whose cell is known, from the distance d that the code works out
-  module _ (cell : List ℕ) (is : placeAt cell ≡ positionCell s (positionAt p)) (a : ℕ) (l : a < 3) where
-    cell-is : getD cell a 0 ≡ cellOf steps (count s a) (natAbs (at p a))
-    unfolding positionCell positionAt placeAt
-    cell-is =
-        sym (pick-true (ltb a 3) (getD cell a 0) 0 (lt-ltb a 3 l)) ∙ ap (λ (f : Place). f a) is
-        ∙ ap (λ (z : ℤ). cellOf steps (count s a) (natAbs z)) (pick-true (ltb a 3) (at p a) (pos 0) (lt-ltb a 3 l))
-
-    pub stepped : (d : ℕ) → d ≡ natAbs (toZ w32 (ofZ w32 (at p a))) → mag (at p a) < 2 ^ 31 → Stepped s p cell a d
-    unfolding positionStep positionCell positionAt
-    stepped d e m =
-        let i = e ∙ ap natAbs (element (at p a) m) in
-        let b = cell-below (count s a) (natAbs (at p a)) in
-        let k = cell-is in
-        let h = size-low (at p a) m in
-        record {
-          fits = omega arith;
-          below = omega arith;
-          is =
-              ap (λ (n : ℕ). n - 256 * getD cell a 0) i ∙ ap (λ (n : ℕ). natAbs (at p a) - 256 * n) k
-              ∙ ap (λ (z : ℤ). natAbs z - 256 * cellOf steps (count s a) (natAbs z)) (sym (pick-true (ltb a 3) (at p a) (pos 0) (lt-ltb a 3 l)));
-        }
+    step : List ℕ
+    step = (x - 256 * i) ∷ (y - 256 * j) ∷ (z - 256 * k) ∷ []

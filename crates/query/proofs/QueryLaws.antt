@@ -29,7 +29,7 @@ use Rattle.cell.specs.Cell.{placeAt, indexOutcome, cellOutcome, cornersOutcome,
 use Rattle.cell.proofs.CellLaws.{accepted}
 use Rattle.evaluate.specs.Stages.{Ready}
 use Rattle.evaluate.specs.Evaluate.{Want, dose, slopeAlong, lastAxis, askAt, answer}
-use Rattle.query.specs.Queries.{wantOutcome, askedOutcome, reading, stepsOutcome, byCell, Position, positionOutcome, cellOf, positionCell, positionStep, byPosition}
+use Rattle.query.specs.Queries.{wantOutcome, askedOutcome, testedOutcome, reading, stepsOutcome, byCell, Position, positionOutcome, cellOf, positionCell, positionStep, byPosition}
 
 pub last-used : (s : Shape) (want : Want) → 1 ≤ s .axes → wantOutcome s want ≡ done tt → lastAxis (s .axes) want < s .axes
 unfolding wantOutcome lastAxis
@@ -89,52 +89,45 @@ pub reading-passes : (s : Shape) (rs : List ℤ) (want : Want) (cell step : Plac
 unfolding reading
 reading-passes s rs want cell step h = first-passed (cornersOutcome s rs cell) (done (answer (askAt s want cell step) (recordsField s rs))) h
 
-pub by-cell-passes : (s : Shape) (rs : List ℤ) (want : Want) (cell step : Place) → length rs ≡ size s → shapeOutcome s ≡ done tt → wantOutcome s want ≡ done tt
-    → cellOutcome s cell ≡ done tt → stepsOutcome s step ≡ done tt → cornersOutcome s rs cell ≡ done tt → byCell s rs want cell step ≡ done (answer (askAt s want cell step) (recordsField s rs))
-unfolding byCell
-by-cell-passes s rs want cell step l h w c u k =
-    first-passed (askedOutcome s rs want) (first (cellOutcome s cell) (first (stepsOutcome s step) (reading s rs want cell step))) (asked-passes s rs want l h w)
-    ∙ first-passed (cellOutcome s cell) (first (stepsOutcome s step) (reading s rs want cell step)) c
-    ∙ first-passed (stepsOutcome s step) (reading s rs want cell step) u ∙ reading-passes s rs want cell step k
-
 -- a query by cell that is not refused before 5
 pub record Passed (s : Shape) (rs : List ℤ) (want : Want) (cell step : Place) : Type 0 where
   pub asked : askedOutcome s rs want ≡ done tt
   pub cells : cellOutcome s cell ≡ done tt
   pub inside : stepsOutcome s step ≡ done tt
 
--- a query that is not refused before 5 and gives this outcome
-abbrev pub Read : Shape → List ℤ → Want → Place → Place → Outcome ℤ → Type 0
-Read s rs want cell step o = Passed s rs want cell step × (reading s rs want cell step ≡ o)
+module _ (s : Shape) (rs : List ℤ) (want : Want) (cell step : Place) where
+  pub tested-parts : testedOutcome s rs want cell step ≡ done tt → Passed s rs want cell step
+  unfolding testedOutcome
+  tested-parts h =
+      let f = first-done (askedOutcome s rs want) (first (cellOutcome s cell) (stepsOutcome s step)) tt h in
+      let g = first-done (cellOutcome s cell) (stepsOutcome s step) tt (f .1) in
+      record { asked = f .0; cells = g .0; inside = g .1 }
+
+  pub tested-passes : Passed s rs want cell step → testedOutcome s rs want cell step ≡ done tt
+  unfolding testedOutcome
+  tested-passes f =
+      first-passed (askedOutcome s rs want) (first (cellOutcome s cell) (stepsOutcome s step)) (f .asked)
+      ∙ first-passed (cellOutcome s cell) (stepsOutcome s step) (f .cells) ∙ f .inside
+
+  pub by-cell-reads : testedOutcome s rs want cell step ≡ done tt → byCell s rs want cell step ≡ reading s rs want cell step
+  unfolding byCell
+  by-cell-reads h = first-passed (testedOutcome s rs want cell step) (reading s rs want cell step) h
+
+  pub by-cell-stops : {n p : ℕ} → testedOutcome s rs want cell step ≡ refused n p → byCell s rs want cell step ≡ refused n p
+  unfolding byCell
+  by-cell-stops e = refused-first (reading s rs want cell step) e
+
+  pub by-cell-passes : length rs ≡ size s → shapeOutcome s ≡ done tt → wantOutcome s want ≡ done tt → cellOutcome s cell ≡ done tt → stepsOutcome s step ≡ done tt → cornersOutcome s rs cell ≡ done tt
+      → byCell s rs want cell step ≡ done (answer (askAt s want cell step) (recordsField s rs))
+  by-cell-passes l h w c u k =
+      by-cell-reads (tested-passes (record { asked = asked-passes s rs want l h w; cells = c; inside = u })) ∙ reading-passes s rs want cell step k
 
 -- the slice made anew of all the records
 abbrev pub lent : List ℤ → List ℤ
 lent rs = take (length rs) rs
 
-pub lent-long : (rs : List ℤ) → length rs ≡ length (lent rs)
-lent-long rs = ap length (sym (take-length rs))
-
-pub lend : (s : Shape) (rs : List ℤ) (want : Want) (cell step : Place) (o : Outcome ℤ) → Read s rs want cell step o → Read s (lent rs) want cell step o
-lend s rs want cell step o = subst (λ (xs : List ℤ). Read s xs want cell step o) (sym (take-length rs))
-
-module _ (s : Shape) (rs : List ℤ) (want : Want) (cell step : Place) where
-  pub by-cell-passed : first (askedOutcome s rs want) (first (cellOutcome s cell) (stepsOutcome s step)) ≡ done tt → Passed s rs want cell step
-  by-cell-passed h =
-      let f = first-done (askedOutcome s rs want) (first (cellOutcome s cell) (stepsOutcome s step)) tt h in
-      let g = first-done (cellOutcome s cell) (stepsOutcome s step) tt (f .1) in
-      record { asked = f .0; cells = g .0; inside = g .1 }
-
-  pub by-cell-reads : Passed s rs want cell step → byCell s rs want cell step ≡ reading s rs want cell step
-  unfolding byCell
-  by-cell-reads f =
-      first-passed (askedOutcome s rs want) _ (f .asked) ∙ first-passed (cellOutcome s cell) _ (f .cells) ∙ first-passed (stepsOutcome s step) _ (f .inside)
-
-  pub by-cell-stops : (n p : ℕ) → first (askedOutcome s rs want) (first (cellOutcome s cell) (stepsOutcome s step)) ≡ refused n p → byCell s rs want cell step ≡ refused n p
-  unfolding byCell
-  by-cell-stops n p e =
-      ap (λ (o : Outcome ℤ). first (askedOutcome s rs want) o) (sym (first-assoc (cellOutcome s cell) (stepsOutcome s step) (reading s rs want cell step)))
-      ∙ sym (first-assoc (askedOutcome s rs want) (first (cellOutcome s cell) (stepsOutcome s step)) (reading s rs want cell step))
-      ∙ refused-first (reading s rs want cell step) e
+pub lent-long : (rs : List ℤ) → length (lent rs) ≡ length rs
+lent-long rs = ap length (take-length rs)
 
 -- where the cell is given by three numbers: what its layout, its corners' test and its stages need
 pub record Near (s : Shape) (rs : List ℤ) (cell : List ℕ) : Type 0 where
@@ -143,15 +136,17 @@ pub record Near (s : Shape) (rs : List ℤ) (cell : List ℕ) : Type 0 where
   pub here : Accepted s (placeAt cell)
 
 module _ (s : Shape) (rs : List ℤ) (want : Want) (cell : List ℕ) (step : Place) where
-  pub near : Passed s rs want (placeAt cell) step → Near s rs cell
-  near f =
+  pub near : testedOutcome s rs want (placeAt cell) step ≡ done tt → Near s rs cell
+  near t =
+      let f = tested-parts s rs want (placeAt cell) step t in
       let a = asked-facts s rs want (f .asked) in
       let h = shaped s (a .shape) in
       record { shape = h; long = a .long; here = accepted s cell (h .axes-high) (f .cells) }
 
-  pub ready : Passed s rs want (placeAt cell) step → (l : Layout) → Laid s (placeAt cell) l → passed (cornersOutcome s rs (placeAt cell)) ≡ true → Ready s rs (placeAt cell) step want l
-  ready f l laid k =
-      let n = near f in
+  pub ready : testedOutcome s rs want (placeAt cell) step ≡ done tt → (l : Layout) → Laid s (placeAt cell) l → passed (cornersOutcome s rs (placeAt cell)) ≡ true → Ready s rs (placeAt cell) step want l
+  ready t l laid k =
+      let f = tested-parts s rs want (placeAt cell) step t in
+      let n = near t in
       let a = asked-facts s rs want (f .asked) in
       record {
         shape = n .shape;
@@ -173,20 +168,8 @@ module _ (s : Shape) (rs : List ℤ) (want : Want) (cell : List ℕ) (step : Pla
 
 -- ---- positions
 
-module _ (s : Shape) (rs : List ℤ) (want : Want) (p : Position) where
-  abbrev read : Outcome ℤ
-  read = reading s rs want (positionCell s p) (positionStep s p)
-
-  pub by-position-reads : askedOutcome s rs want ≡ done tt → firstOf 3 (positionOutcome s p) ≡ done tt → byPosition s rs want p ≡ read
-  unfolding byPosition
-  by-position-reads a w = first-passed (askedOutcome s rs want) _ a ∙ first-passed (firstOf 3 (positionOutcome s p)) read w
-
-  pub by-position-stops : (k l : ℕ) → first (askedOutcome s rs want) (firstOf 3 (positionOutcome s p)) ≡ refused k l → byPosition s rs want p ≡ refused k l
-  unfolding byPosition
-  by-position-stops k l e = sym (first-assoc (askedOutcome s rs want) (firstOf 3 (positionOutcome s p)) read) ∙ refused-first read e
-
 -- a position of the table: on a used axis a step of an accepted cell, on an unused one 0
-position-range : (s : Shape) (p : Position) → firstOf 3 (positionOutcome s p) ≡ done tt → (a : ℕ) → a < 3 → (nonNeg (p a) ≡ true) × (natAbs (p a) ≤ steps * (count s a - 1))
+pub position-range : (s : Shape) (p : Position) → firstOf 3 (positionOutcome s p) ≡ done tt → (a : ℕ) → a < 3 → (nonNeg (p a) ≡ true) × (natAbs (p a) ≤ steps * (count s a - 1))
 unfolding positionOutcome
 position-range s p h a l =
     let f = and-true (nonNeg (p a)) (leb (natAbs (p a)) (steps * (count s a - 1))) (refuse-done (nonNeg (p a) && leb (natAbs (p a)) (steps * (count s a - 1))) 11 a (firstOf-each 3 (positionOutcome s p) h a l)) in
@@ -205,7 +188,7 @@ pub unused-step : (s : Shape) (p : Position) → Shaped s → firstOf 3 (positio
 unfolding positionStep
 unused-step s p f h a l k = let e = f .unused a l k in let r = position-range s p h a l .1 in omega arith
 
-in-either : (s : Shape) (a : ℕ) (x y : Bool) → (a < s .axes → x ≡ true) → (s .axes ≤ a → y ≡ true) → pick (ltb a (s .axes)) x y ≡ true
+pub in-either : (s : Shape) (a : ℕ) (x y : Bool) → (a < s .axes → x ≡ true) → (s .axes ≤ a → y ≡ true) → pick (ltb a (s .axes)) x y ≡ true
 in-either s a x y f g = go (decLt a (s .axes))
   where
     go : Dec (a < s .axes) → pick (ltb a (s .axes)) x y ≡ true
@@ -230,23 +213,17 @@ position-steps s p f h = firstOf-passes 3 (λ a. refuseUnless (pick (ltb a (s .a
     (λ k. le-leb (positionStep s p a) steps (in-cell (count s a) (natAbs (p a)) (f .used a k) (r .1) .2))
     (λ k. eq-eqb (positionStep s p a) 0 (unused-step s p f h a l k))))
 
--- the cell and the in-cell step that the code works out
-pub at-place : (s : Shape) (rs : List ℤ) (want : Want) (p : Position) (cell step : Place) → askedOutcome s rs want ≡ done tt → firstOf 3 (positionOutcome s p) ≡ done tt → cell ≡ positionCell s p → step ≡ positionStep s p
-    → Read s rs want cell step (byPosition s rs want p)
-at-place s rs want p cell step a w c u =
-    let f = shaped s (asked-parts s rs want a .0) in (
-      record { asked = a; cells = rw c (position-cells s p f w); inside = rw u (position-steps s p f w) },
-      rw (c, u) (sym (by-position-reads s rs want p a w)),
-    )
-
 -- a query by position is the query by its cell and in-cell step, where the position is one of the table
 pub by-position-is : (s : Shape) (rs : List ℤ) (want : Want) (p : Position) → firstOf 3 (positionOutcome s p) ≡ done tt → byPosition s rs want p ≡ byCell s rs want (positionCell s p) (positionStep s p)
-unfolding byPosition byCell
+unfolding byPosition byCell testedOutcome
 by-position-is s rs want p h =
-    first-after (askedOutcome s rs want) (first (firstOf 3 (positionOutcome s p)) read) (first (cellOutcome s (positionCell s p)) (first (stepsOutcome s (positionStep s p)) read))
+    first-after (askedOutcome s rs want) (first (firstOf 3 (positionOutcome s p)) read) (first tests read)
     (λ a. let f = shaped s (asked-parts s rs want a .0) in
-    first-passed (firstOf 3 (positionOutcome s p)) read h
-    ∙ sym (first-passed (cellOutcome s (positionCell s p)) (first (stepsOutcome s (positionStep s p)) read) (position-cells s p f h) ∙ first-passed (stepsOutcome s (positionStep s p)) read (position-steps s p f h)))
+    first-passed (firstOf 3 (positionOutcome s p)) read h ∙ sym (first-passed tests read (first-passed (cellOutcome s (positionCell s p)) (stepsOutcome s (positionStep s p)) (position-cells s p f h) ∙ position-steps s p f h)))
+    ∙ sym (first-assoc (askedOutcome s rs want) tests read)
   where
+    tests : Check
+    tests = first (cellOutcome s (positionCell s p)) (stepsOutcome s (positionStep s p))
+
     read : Outcome ℤ
     read = reading s rs want (positionCell s p) (positionStep s p)

@@ -37,10 +37,13 @@ reading s rs want cell step = first (cornersOutcome s rs cell) (done (answer (as
 unfoldable pub stepsOutcome : Shape → Place → Check
 stepsOutcome s step = firstOf 3 (λ a. refuseUnless (pick (ltb a (s .axes)) (leb (step a) steps) (eqb (step a) 0)) 11 a)
 
--- then 14, 11, 5
+-- then 14, 11
+unfoldable pub testedOutcome : Shape → List ℤ → Want → Place → Place → Check
+testedOutcome s rs want cell step = first (askedOutcome s rs want) (first (cellOutcome s cell) (stepsOutcome s step))
+
+-- then 5
 unfoldable pub byCell : Shape → List ℤ → Want → Place → Place → Outcome ℤ
-byCell s rs want cell step =
-    first (askedOutcome s rs want) (first (cellOutcome s cell) (first (stepsOutcome s step) (reading s rs want cell step)))
+byCell s rs want cell step = first (testedOutcome s rs want cell step) (reading s rs want cell step)
 
 -- ---- by table position
 
@@ -52,13 +55,9 @@ Position = ℕ → ℤ
 unfoldable pub positionAt : List ℤ → Position
 positionAt xs a = pick (ltb a 3) (at xs a) (pos 0)
 
--- 11: below 0 or beyond the last of `count` nodes; place is the axis
-abbrev pub coordinateOutcome : ℕ → ℤ → ℕ → Check
-coordinateOutcome count p a = refuseUnless (nonNeg p && leb (natAbs p) (steps * (count - 1))) 11 a
-
--- on an unused axis the count is 1, and every position but 0 is refused
+-- 11: below 0 or beyond the last node, and any but 0 on an unused axis, whose count is 1; place is the axis
 unfoldable pub positionOutcome : Shape → Position → ℕ → Check
-positionOutcome s p a = coordinateOutcome (count s a) (p a) a
+positionOutcome s p a = refuseUnless (nonNeg (p a) && leb (natAbs (p a)) (steps * (count s a - 1))) 11 a
 
 -- the smaller of p/256 rounded down and count − 2; the last node belongs to the last cell
 unfoldable pub cellOf : ℕ → ℕ → ℕ → ℕ

@@ -24,8 +24,8 @@ use Rattle.estimate.proofs.CallLaws.{estimated, records-length}
 use Rattle.evaluate.specs.Evaluate.{dose, lastAxis, answer, askAt}
 use Rattle.evaluate.proofs.AnswerLaws.{answer-local}
 use Rattle.query.specs.Queries.{wantOutcome, stepsOutcome, byCell}
+use Rattle.cell.proofs.CellLaws.{three}
 use Rattle.query.proofs.QueryLaws.{by-cell-passes}
-use Rattle.query.proofs.Locate.{three}
 use Rattle.claims.proofs.Lent.{field-same, corners-done, lent}
 use Rattle.claims.proofs.Gates.{cell-passes}
 use Rattle.report.specs.Report.{middle, doseIn}

@@ -10,7 +10,8 @@ use Rattle.lattice.specs.Buffer.{tabulate}
 use Rattle.lattice.specs.Digits.{number, span, digit}
 use Rattle.lattice.specs.Shape.{axesOutcome, countAllowed}
 use Rattle.lattice.specs.Records.{limitOutcome}
-use Rattle.table_file.specs.Numbers.{numberAt, bytesOf, bytesOfAll, signedOf, unsignedOf}
+use Rattle.arith.specs.Int.{unsignedOf}
+use Rattle.table_file.specs.Numbers.{numberAt, bytesOf, bytesOfAll, signedOf}
 use Rattle.table_file.specs.File.{header, sectionOne, sectionTwo, fileOf, complete, countIn, headerIn, nodesIn, samplesIn, countOutcome, oneOutcome, nothingAfter, twoOutcome, readCheck, readOutcome}
 
 unfoldable pub file : List ℕ

@@ -21,10 +21,12 @@ use Rattle.lattice.specs.Buffer.{at, tabulate}
 use Rattle.lattice.specs.Shape.{axesOutcome, countAllowed, countsOutcome}
 use Rattle.lattice.specs.Records.{sampleLimit, limitOutcome}
 use Rattle.lattice.proofs.BufferLaws.{length-tabulate, getD-tabulate, tabulate-getD}
-use Rattle.table_file.specs.Numbers.{numberAt, bytesOfAll, signedOf, unsignedOf}
+use Rattle.arith.specs.Int.{unsignedOf}
+use Rattle.table_file.specs.Numbers.{numberAt, bytesOfAll, signedOf}
 use Rattle.table_file.specs.File.{Header, header, sectionOne, sectionTwo, fileOf, axesIn, countIn, headerIn, nodesIn, samplesIn, countOf, nodesOf, writeOutcome, AreBytes, Permitted}
 use Rattle.arith.proofs.Choices.{split}
-use Rattle.table_file.proofs.Twos.{unsigned-signed, signed-unsigned, unsigned-below}
+use Rattle.arith.proofs.Twos.{unsigned-below}
+use Rattle.table_file.proofs.Twos.{unsigned-signed, signed-unsigned}
 use Rattle.table_file.proofs.NumberLaws.{number-of-all, number-below, all-numbers}
 use Rattle.table_file.proofs.ReadLaws.{count-read, count-absent}
 use Rattle.table_file.proofs.TakenLaws.{Taken}

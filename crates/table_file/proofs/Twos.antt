@@ -13,7 +13,9 @@ use mir.Facts.{toZ-ofZ, ofZ-toZ, toZ-pos, fits-ofZ, sfits-toZ, sfits-widen}
 use Rattle.arith.specs.Choice.{pick}
 use Rattle.arith.proofs.Choices.{pick-false}
 use Rattle.arith.proofs.Machine.{element, widened}
-use Rattle.table_file.specs.Numbers.{signedOf, unsignedOf}
+use Rattle.arith.specs.Int.{unsignedOf}
+use Rattle.arith.proofs.Twos.{unsigned-is, unsigned-below}
+use Rattle.table_file.specs.Numbers.{signedOf}
 
 pub signed-is : (v : ℕ) → v < 4294967296 → toZ w32 v ≡ signedOf v
 unfolding signedOf pick
@@ -22,14 +24,6 @@ signed-is v h = either (ltb v 2147483648)
     either : (b : Bool) → sel b (pos v) (negsuc (4294967296 - suc v)) ≡ pick b (pos v) (pos v -ℤ pos 4294967296)
     either true = refl
     either false = rw (lt-ltb v 4294967296 h) refl
-
-pub unsigned-is : (x : ℤ) → ofZ w32 x ≡ unsignedOf x
-unfolding unsignedOf
-unsigned-is (pos n) = refl
-unsigned-is (negsuc n) = refl
-
-pub unsigned-below : (x : ℤ) → SFits w32 x → unsignedOf x < 4294967296
-unsigned-below x f = rw (← unsigned-is x) (fits-ofZ f .fits)
 
 pub signed-unsigned : (x : ℤ) → SFits w32 x → signedOf (unsignedOf x) ≡ x
 signed-unsigned x f = sym (signed-is (unsignedOf x) (unsigned-below x f)) ∙ ap (λ (v : ℕ). toZ w32 v) (sym (unsigned-is x)) ∙ toZ-ofZ f
@@ -53,31 +47,3 @@ module _ (v : ℕ) (big : 2147483648 ≤ v) (small : v < 4294967296) where
 
   pub high-held : toZ w64 (ofZ w64 (toZ w64 v -ℤ pos 4294967296)) ≡ signedOf v
   high-held = toZ-ofZ {w = w64} high-fits ∙ high-is
-
--- a number below 0: x + 2^32
-module _ (x : ℤ) (f : SFits w32 x) (below : ltZ (toZ w32 (ofZ w32 x)) (pos 0) ≡ true) where
-  raised : (x : ℤ) → SFits w32 x → ltZ x (pos 0) ≡ true → x +ℤ pos 4294967296 ≡ pos (unsignedOf x)
-  unfolding unsignedOf
-  raised (pos n) g e = absurd (none (ltb-true n 0 e))
-    where
-      none : {n : ℕ} → n < 0 → ⊥
-      none h = omega arith
-  raised (negsuc n) g e = let h = g .sfits in rw (le-ltb 4294967296 (suc n) (omega arith)) refl
-
-  raised-is : toZ w64 (ofZ w64 (toZ w32 (ofZ w32 x))) +ℤ pos 4294967296 ≡ pos (unsignedOf x)
-  raised-is = rw (widened x (f .sfits)) (raised x f (rw (element x (f .sfits)) at below))
-
-  pub raised-fits : SFits w64 (toZ w64 (ofZ w64 (toZ w32 (ofZ w32 x))) +ℤ pos 4294967296)
-  raised-fits = rw raised-is (record { sfits = omega (arith, unsigned-below x f) })
-
-  pub raised-held : toZ w64 (ofZ w64 (toZ w64 (ofZ w64 (toZ w32 (ofZ w32 x))) +ℤ pos 4294967296)) ≡ pos (unsignedOf x)
-  raised-held = toZ-ofZ {w = w64} raised-fits ∙ raised-is
-
--- a number from 0 on
-pub not-below : (x : ℤ) → SFits w32 x → ltZ (toZ w32 (ofZ w32 x)) (pos 0) ≡ false → toZ w32 (ofZ w32 x) ≡ pos (unsignedOf x)
-unfolding unsignedOf
-not-below x f e = element x (f .sfits) ∙ itself x (rw (element x (f .sfits)) at e)
-  where
-    itself : (x : ℤ) → ltZ x (pos 0) ≡ false → x ≡ pos (unsignedOf x)
-    itself (pos n) e = refl
-    itself (negsuc n) e = cc

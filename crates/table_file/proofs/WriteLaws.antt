@@ -14,7 +14,8 @@ use Rattle.lattice.specs.Buffer.{at, overwrite}
 use Rattle.lattice.specs.Shape.{count, nodes, axesOutcome, countsOutcome}
 use Rattle.lattice.specs.Records.{sampleLimit, limitOutcome}
 use Rattle.lattice.proofs.OutcomeLaws.{first-done, first-passed, refuse-done, passes}
-use Rattle.table_file.specs.Numbers.{bytesOf, bytesOfAll, unsignedOf}
+use Rattle.arith.specs.Int.{unsignedOf}
+use Rattle.table_file.specs.Numbers.{bytesOf, bytesOfAll}
 use Rattle.table_file.specs.File.{Header, header, sectionOne, sectionTwo, fileOf, countOf, nodesOf, writeCheck, writeOutcome, Permitted}
 use Rattle.lattice.proofs.BufferLaws.{sets-append, sets-front}
 use Rattle.lattice.proofs.ShapeLaws.{nodes-high}

@@ -11,7 +11,8 @@ use Rattle.lattice.specs.Buffer.{tabulate}
 use Rattle.lattice.specs.Digits.{span}
 use Rattle.lattice.specs.Shape.{axesOutcome, countAllowed, countsOutcome}
 use Rattle.lattice.specs.Records.{sampleLimit, limitOutcome}
-use Rattle.table_file.specs.Numbers.{numberAt, bytesOfAll, signedOf, unsignedOf}
+use Rattle.arith.specs.Int.{unsignedOf}
+use Rattle.table_file.specs.Numbers.{numberAt, bytesOfAll, signedOf}
 
 -- n and three node counts
 pub record Header : Type 0 where

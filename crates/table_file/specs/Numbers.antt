@@ -1,8 +1,8 @@
 -- The numbers of a file: 4 bytes each, lowest first, counts unsigned and samples in two's complement.
-use Prim.Native.Nat.{ℕ, suc, _+_, _-_}
+use Prim.Native.Nat.{ℕ, _+_}
 use mathlib.Core.List.{List, [], _∷_, _++_}
 use lib.Dec.{ltb}
-use lib.IntN.{ℤ, pos, negsuc, _-ℤ_}
+use lib.IntN.{ℤ, pos, _-ℤ_}
 use lib.ListN.{getD}
 use Rattle.arith.specs.Choice.{pick}
 use Rattle.lattice.specs.Buffer.{tabulate}
@@ -24,8 +24,3 @@ bytesOfAll (v ∷ vs) = bytesOf v ++ bytesOfAll vs
 -- v, below 2^32, read in two's complement
 unfoldable pub signedOf : ℕ → ℤ
 signedOf v = pick (ltb v 2147483648) (pos v) (pos v -ℤ pos 4294967296)
-
--- the number below 2^32 that stands for z; `negsuc n` is -(n + 1)
-unfoldable pub unsignedOf : ℤ → ℕ
-unsignedOf (pos n) = n
-unsignedOf (negsuc n) = 4294967296 - suc n

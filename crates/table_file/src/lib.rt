@@ -4,11 +4,12 @@ ghost use Prim.Native.Nat.{_+_, _*_, _≤_, _<_};
 ghost use mathlib.Core.List.{map};
 ghost use lib.ListN.{length, take};
 ghost use lib.Seq.{sets};
+ghost use Rattle.arith.specs.Int.{unsignedOf};
 ghost use Rattle.lattice.specs.Outcome.{done, first, firstOf, whenDone};
 ghost use Rattle.lattice.specs.Answer.{meaning};
 ghost use Rattle.lattice.specs.Buffer.{overwrite};
 ghost use Rattle.lattice.specs.Records.{sampleLimit, limitOutcome};
-ghost use Rattle.table_file.specs.Numbers.{numberAt, bytesOf, bytesOfAll, signedOf, unsignedOf};
+ghost use Rattle.table_file.specs.Numbers.{numberAt, bytesOf, bytesOfAll, signedOf};
 ghost use Rattle.table_file.specs.File.{header, fileOf, axesIn, headerIn, samplesIn, countOutcome, oneOutcome, readOutcome, writeCheck, writeOutcome};
 ghost use Rattle.table_file.specs.Answers.{tableMeaning, writeMeaning};
 ghost use Rattle.table_file.specs.Parser.{numberFrom, samplesFrom, lengthsOutcome, restOutcome, AfterOne};
@@ -67,17 +68,6 @@ fn signed(v: u32) -> i32
         v as i32
     } else {
         (v as i64 - 0x1_0000_0000) as i32
-    }
-}
-
-// The number that stands for `x` in two's complement.
-fn unsigned(x: i32) -> u32
-    ensures { λ r. ⌜ r ≡ unsignedOf x ⌝ }
-{
-    if x < 0 {
-        (x as i64 + 0x1_0000_0000) as u32
-    } else {
-        x as u32
     }
 }
 
@@ -293,7 +283,7 @@ fn put_samples(bytes: &mut [u8], start: usize, samples: &[i32])
     let mut i = 0;
     while i < samples.len() {
         let x = samples[i];
-        put_number(bytes, at, unsigned(x));
+        put_number(bytes, at, arith::unsigned(x));
         at += 4;
         i += 1;
     }

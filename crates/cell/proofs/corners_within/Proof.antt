@@ -24,17 +24,20 @@ record Called (b : tie.Start) (limits : List ℤ) (E C : ℕ) : Type 0 where
   same : passed (firstOf C (cornerTest limits E (now (b .args .records)) (b .args .l))) ≡ passed (cornersOutcome (b .args .s) (now (b .args .records)) (placeAt (b .args .cell)))
 
 -- a table of m orders and n axes: E entries a record, C corners
-module _ (b : tie.Start) (limits : List ℤ) (m n E C : ℕ) (m-is : b .args .l .orders ≡ m) (n-is : b .args .s .axes ≡ n) (row : (e : ℕ) → e < m ^ 3 → at limits e ≡ pos (limitOf m e)) (E-is : m ^ n ≡ E) (C-is : 2 ^ n ≡ C)
+module _ (b : tie.Start) (limits : List ℤ) (m n E C : ℕ) (m-is : b .args .l .orders ≡ m) (n-is : b .args .n ≡ n) (row : (e : ℕ) → e < m ^ 3 → at limits e ≡ pos (limitOf m e)) (E-is : m ^ n ≡ E) (C-is : 2 ^ n ≡ C)
   where
     row-in : (e : ℕ) → e < b .args .l .orders ^ 3 → at limits e ≡ pos (limitOf (b .args .l .orders) e)
     row-in = subst (λ (k : ℕ). (e : ℕ) → e < k ^ 3 → at limits e ≡ pos (limitOf k e)) (sym m-is) row
 
+    axes-are : b .args .s .axes ≡ n
+    axes-are = sym (b .pre .0 .2) ∙ n-is
+
     entries-is : b .args .l .entries ≡ E
     unfolding entries
-    entries-is = b .pre .1 .1 .entries-are ∙ ap (λ (k : ℕ). k ^ b .args .s .axes) (sym (b .pre .1 .1 .orders-are) ∙ m-is) ∙ ap (λ (k : ℕ). m ^ k) n-is ∙ E-is
+    entries-is = b .pre .1 .1 .entries-are ∙ ap (λ (k : ℕ). k ^ b .args .s .axes) (sym (b .pre .1 .1 .orders-are) ∙ m-is) ∙ ap (λ (k : ℕ). m ^ k) axes-are ∙ E-is
 
     corners-are : 2 ^ b .args .s .axes ≡ C
-    corners-are = ap (λ (k : ℕ). 2 ^ k) n-is ∙ C-is
+    corners-are = ap (λ (k : ℕ). 2 ^ k) axes-are ∙ C-is
 
     small : Small (b .args .l)
     small = laid-small (b .args .s) (placeAt (b .args .cell)) (b .args .l) (b .pre .0 .0) (b .pre .1 .0) (b .pre .1 .1)
@@ -57,8 +60,8 @@ module _ (b : tie.Start) (limits : List ℤ) (m n E C : ℕ) (m-is : b .args .l 
     called i j = record { asked = (i, j, small, hold); within = inside; same = is }
 
 -- the last number of axes
-three : (b : tie.Start) → (b .args .s .axes ≡ 1 → ⊥) → (b .args .s .axes ≡ 2 → ⊥) → b .args .s .axes ≡ 3
-three b f g = let l = b .pre .0 .0 .axes-low in let h = b .pre .0 .0 .axes-high in omega (arith, f, g)
+three : (b : tie.Start) → (b .args .n ≡ 1 → ⊥) → (b .args .n ≡ 2 → ⊥) → b .args .n ≡ 3
+three b f g = let l = b .pre .0 .0 .axes-low in let h = b .pre .0 .0 .axes-high in let e = b .pre .0 .2 in omega (arith, f, g)
 
 -- and of orders
 quintic : (b : tie.Start) → (b .args .l .orders ≡ 2 → ⊥) → b .args .l .orders ≡ 3

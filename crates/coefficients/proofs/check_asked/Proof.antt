@@ -2,6 +2,7 @@
 use lib.Dec.{leb, eqb}
 use Rattle.lattice.specs.Shape.{orders, size, shapeOutcome}
 use Rattle.cell.specs.Cell.{placeAt, cellOutcome}
+use Rattle.cell.proofs.CellLaws.{indices}
 use Rattle.coefficients.specs.Corners.{coefficientCount}
 use Rattle.lattice.specs.Answer.{meaning}
 use Rattle.lattice.specs.Outcome.{refuseUnless, first}
@@ -32,8 +33,8 @@ returns-2 c =
     let b = c .before .before .before .before .before in
     let a = b .before .args in
     let e = ap meaning (c .before .before .before .enum-told2 .given .1) in
-    c .earlier .ensures ∙ ap₂ first (c .before .before .check-sizes .ensures) (c .before .check-cell .ensures)
-    ∙ first-assoc (refuseUnless (eqb (a .given) (size (a .s))) 4 0) (refuseUnless (leb (coefficientCount (orders (a .s)) (a .s .axes)) (a .room)) 9 0) (cellOutcome (a .s) (placeAt (a .cell)))
+    c .earlier .ensures ∙ ap₂ first (c .before .before .check-sizes .ensures) (c .before .check-cell .ensures ∙ ap (cellOutcome (a .s)) (indices (a .t3)))
+    ∙ first-assoc (refuseUnless (eqb (a .given) (size (a .s))) 4 0) (refuseUnless (leb (coefficientCount (orders (a .s)) (a .s .axes)) (a .room)) 9 0) (cellOutcome (a .s) (placeAt (a .t3)))
     ∙ sym (first-passed (shapeOutcome (a .s)) _ (sym (b .check-shape .ensures) ∙ e))
 
 pub check-asked-spec : {M : Type 1} → statement M
@@ -45,6 +46,9 @@ check-asked-spec =
     returns
     (λ c. search needs)
     check-sizes-requires
+    (λ c. search needs)
+    (λ c. search needs)
+    (λ c. search needs)
     (λ c κs. search needs)
     (λ c κs. search needs)
     returns-2)

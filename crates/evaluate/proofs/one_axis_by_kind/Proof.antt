@@ -12,7 +12,7 @@ use denote.Ref.{now}
 use Rattle.arith.proofs.Machine.{read}
 use Rattle.lattice.specs.Buffer.{at}
 use Rattle.evaluate.specs.Stages.{Workable, WorkedOff}
-use Rattle.evaluate.proofs.Order.{workable-as, worked-off-as}
+use Rattle.evaluate.proofs.StageOrder.{workable-as, worked-off-as}
 use Rattle.evaluate.proofs.one_axis_by_kind.Statement.{statement}
 use Rattle.evaluate.proofs.one_axis_by_kind.Tie as tie
 

@@ -1,47 +1,46 @@
 -- `hermite::shift` meets its contract: eighths are three powers of 2.
-use mathlib.Core.Path.{ap₂}
-use mathlib.Core.Bool.{Bool}
-use lib.Pow.{pow-add}
-use Rattle.hermite.specs.Stage.{worth}
-use mathlib.Core.Path.{_≡_, sym, ap, _∙_}
-use Prim.Native.Nat.{ℕ, _+_, _^_, _-_, _*_}
+use mathlib.Core.Path.{_≡_, sym, ap₂, _∙_}
+use mathlib.Core.Bool.{Bool, true, false}
+use Prim.Native.Nat.{ℕ, _≤_, _+_, _*_, _-_}
 use native.Mathlib.Omega.{arith}
 use borrow.Author.Needs.{needs}
+use Rattle.arith.specs.Choice.{pick}
+use Rattle.arith.proofs.Choices.{on-pick}
+use Rattle.hermite.specs.Stage.{shiftOf}
 use Rattle.hermite.proofs.shift.Statement.{statement}
 use Rattle.hermite.proofs.shift.Tie as tie
 
--- a power three steps further is eight times as much
-module _ (p q D t f : ℕ) (e : q ≡ p + 3) where
-  eightfold : 2 ^ q ≡ 2 ^ p * 8
-  eightfold = ap (λ (i : ℕ). 2 ^ i) e ∙ pow-add 2 p 3
+-- where from and to are known
+module _ (s : tie.Start) (f t : Bool) (ef : s .args .from ≡ f) (et : s .args .to ≡ t) where
+  is : 8 * (2 * s .args .m - pick (s .args .slope) 2 1) + pick f 3 0 - pick t 3 0 ≡ shiftOf (s .args .slope) (s .args .m) (s .args .from) (s .args .to)
+  unfolding shiftOf
+  is = ap₂ (λ (f t : Bool). 8 * (2 * s .args .m - pick (s .args .slope) 2 1) + pick f 3 0 - pick t 3 0) (sym ef) (sym et)
 
-  up : 2 ^ p ≡ D → t ≡ 1 → f ≡ 8 → 2 ^ q * t ≡ D * f
-  up d a b = rw (a, b) (omega (arith, eightfold, d))
-
-  down : 2 ^ q ≡ D → t ≡ 8 → f ≡ 1 → 2 ^ p * t ≡ D * f
-  down d a b = rw (a, b) (omega (arith, eightfold, d))
+-- no power is too small or too large for three more or fewer
+range : (b : Bool) (m : ℕ) → 2 ≤ m → m ≤ 3 → (3 ≤ 8 * (2 * m - pick b 2 1)) × (8 * (2 * m - pick b 2 1) ≤ 40)
+range b m h k = on-pick (λ (d : ℕ). (3 ≤ 8 * (2 * m - d)) × (8 * (2 * m - d) ≤ 40)) b 2 1 (λ e. (omega arith, omega arith)) (λ e. (omega arith, omega arith))
 
 returns : tie.Need-returns
-returns c =
-    let s = c .before .before .before in
-    (omega arith, ap₂ (λ (x : ℕ) (b : Bool). x * worth b) (c .before .before .exponent .ensures .2) (c .before .if1 .taken ∙ sym (c .if2 .taken)))
+unfolding pick
+returns c = let d = c .before .before in d .exponent .ensures ∙ omega arith ∙ is (d .before) true true (c .before .if1 .taken) (c .if2 .taken)
+
+add-result : tie.Need-add-result
+add-result c = let d = c .before .before in let a = d .before .args in let r = range (a .slope) (a .m) (d .before .pre .0) (d .before .pre .1) in let e = d .exponent .ensures in omega arith
 
 returns-2 : tie.Need-returns-2
-unfolding worth
-returns-2 c =
-    let r = c .before .before .exponent in
-    (omega arith, up (r .result + 1) (r .result + 3 + 1) _ _ _ (omega arith) (r .ensures .2) (ap worth (c .before .if1 .taken)) (ap worth (c .if2 .left)))
+unfolding pick
+returns-2 c = let d = c .before .before in let e = d .exponent .ensures in omega arith ∙ is (d .before) true false (c .before .if1 .taken) (c .if2 .left)
+
+sub-result : tie.Need-sub-result
+sub-result c = let d = c .before .before in let a = d .before .args in let r = range (a .slope) (a .m) (d .before .pre .0) (d .before .pre .1) in let e = d .exponent .ensures in omega arith
 
 returns-3 : tie.Need-returns-3
-unfolding worth
-returns-3 c =
-    let r = c .before .before .exponent in
-    (omega arith, down (r .result - 3 + 1) (r .result + 1) _ _ _ (omega arith) (r .ensures .2) (ap worth (c .before .if1 .left)) (ap worth (c .if3 .taken)))
+unfolding pick
+returns-3 c = let d = c .before .before in let e = d .exponent .ensures in omega arith ∙ is (d .before) false true (c .before .if1 .left) (c .if3 .taken)
 
 returns-4 : tie.Need-returns-4
-returns-4 c = (omega arith, ap₂ (λ (x : ℕ) (b : Bool). x * worth b) (c .before .before .exponent .ensures .2) (c .before .if1 .left ∙ sym (c .if3 .left)))
+unfolding pick
+returns-4 c = let d = c .before .before in let e = d .exponent .ensures in omega arith ∙ is (d .before) false false (c .before .if1 .left) (c .if3 .left)
 
 pub shift-spec : {M : Type 1} → statement M
-shift-spec =
-    tie.close
-    (tie.spec (λ c κs. search needs) returns (λ c. search needs) returns-2 (λ c. search needs) returns-3 returns-4)
+shift-spec = tie.close (tie.spec (λ c κs. search needs) returns add-result returns-2 sub-result returns-3 returns-4)

@@ -1,106 +1,67 @@
-use mathlib.Core.Path.{_≡_, refl, sym, ap, _∙_}
+use mathlib.Core.Path.{_≡_, ap, subst, _∙_}
+use Prim.Native.Nat.{_≤_, _*_}
+use lib.IntN.{ℤ}
+use lib.Signed.{mag}
+use mir.Syntax.{w32}
+use mir.Val.{Fits}
 use denote.Ref.{now}
-use Rattle.lattice.specs.Answer.{meaning}
-use Rattle.lattice.specs.Outcome.{done, firstOf}
-use Rattle.lattice.specs.Shape.{Shaped}
-use Rattle.lattice.proofs.ShapeLaws.{shaped}
-use Rattle.lattice.proofs.OutcomeLaws.{first-done}
-use Rattle.cell.specs.Cell.{placeAt}
-use Rattle.evaluate.specs.Wants.{wanted}
-use Rattle.query.specs.Queries.{askedOutcome, positionAt, positionOutcome, byPosition}
-use Rattle.query.proofs.QueryLaws.{asked-parts, Read, by-position-stops, at-place, lent, lent-long, lend, Near, near, ready, answered, stopped}
 use borrow.Author.Needs.{needs}
+use Rattle.arith.specs.Int.{unsignedOf}
+use Rattle.arith.proofs.Machine.{element}
+use Rattle.lattice.specs.Buffer.{at}
+use Rattle.lattice.specs.Shape.{count}
+use Rattle.evaluate.specs.Wants.{wanted}
+use Rattle.hermite.specs.Stage.{steps}
+use Rattle.query.specs.Queries.{cellOf}
+use Rattle.query.proofs.Locate.{Stands, stands-for, cell-below, cell-held, on-axes}
 use Rattle.query.proofs.at_position.Statement.{statement}
 use Rattle.query.proofs.at_position.Tie as tie
 
--- not refused before 5: the position's cell and in-cell step
-module _ (c : tie.After-enum-told) where
-  abbrev begin : tie.Start
-  begin = c .before .before .before .before
+module _ (c : tie.After-cell-of3) where
+  abbrev x : tie.After-unsigned
+  x = c .before .before .before .before .before .before .before .before .before .before
 
-  within : (askedOutcome (begin .args .s) (now (begin .args .records)) (wanted (begin .args .q .«slope_axis»)) ≡ done tt) × (firstOf 3 (positionOutcome (begin .args .s) (positionAt (begin .args .q .position))) ≡ done tt)
-  within =
-      let a = begin .args in
-      first-done (askedOutcome (a .s) (now (a .records)) (wanted (a .q .«slope_axis»))) (firstOf 3 (positionOutcome (a .s) (positionAt (a .q .position)))) tt
-      (sym (c .before .before .check-query .ensures (now (a .records)) refl) ∙ ap meaning (c .enum-told .given .1))
+  abbrev y : tie.After-unsigned2
+  y = c .before .before .before .before .before .before .before .before
 
-  shape : Shaped (begin .args .s)
-  shape = let a = begin .args in shaped (a .s) (asked-parts (a .s) (now (a .records)) (wanted (a .q .«slope_axis»)) (within .0) .0)
-
-module _ (c : tie.After-position-step) where
-  abbrev told : tie.After-enum-told
-  told = c .before .before
-
-  abbrev start : tie.Start
-  start = begin told
-
-  place : Read (start .args .s) (lent (now (start .args .records))) (wanted (start .args .q .«slope_axis»)) (placeAt (c .before .position-cell .result)) (placeAt (c .position-step .result)) (byPosition (start .args .s) (now (start .args .records)) (wanted (start .args .q .«slope_axis»)) (positionAt (start .args .q .position)))
-  place =
-      let a = start .args in
-      lend (a .s) (now (a .records)) (wanted (a .q .«slope_axis»)) (placeAt (c .before .position-cell .result)) (placeAt (c .position-step .result)) _
-      (at-place (a .s) (now (a .records)) (wanted (a .q .«slope_axis»)) (positionAt (a .q .position)) (placeAt (c .before .position-cell .result)) (placeAt (c .position-step .result)) (within told .0) (within told .1) (c .before .position-cell .ensures) (c .position-step .ensures))
-
-  facts : Near (start .args .s) (lent (now (start .args .records))) (c .before .position-cell .result)
-  facts = let a = start .args in near (a .s) (lent (now (a .records))) (wanted (a .q .«slope_axis»)) (c .before .position-cell .result) (placeAt (c .position-step .result)) (place .0)
-
-enum-told : tie.Need-enum-told
-enum-told c = search needs
-
-corners-within-requires : tie.Need-corners-within-requires
-corners-within-requires c κs = let f = facts (c .before .before) in ((f .shape, f .long), (f .here, c .before .lay-out .ensures))
-
-answer-requires : tie.Need-answer-requires
-answer-requires c κs =
-    let w = c .before .before in
-    let l = w .before .before in
-    let u = l .before in
-    let a = start u .args in
-    ready (a .s) (lent (now (a .records))) (wanted (a .q .«slope_axis»)) (u .before .position-cell .result) (placeAt (u .position-step .result)) (place u .0) (l .lay-out .result) (l .lay-out .ensures) (sym (w .corners-within .ensures) ∙ c .before .if1 .taken)
+  abbrev z : tie.After-unsigned3
+  z = c .before .before .before .before .before .before
 
 returns : tie.Need-returns
+unfolding count
 returns c =
-    let w = c .before .before .before in
-    let u = w .before .before .before in
-    let a = start u .args in
-    answered (a .s) (lent (now (a .records))) (wanted (a .q .«slope_axis»)) (u .before .position-cell .result) (placeAt (u .position-step .result)) (sym (w .corners-within .ensures) ∙ c .before .before .if1 .taken) (c .answer .result) (c .answer .ok) (c .answer .ensures) ∙ place u .1
-
-beyond-requires : tie.Need-beyond-requires
-beyond-requires c κs =
-    let w = c .before .before in
-    let l = w .before .before in
-    let f = facts (l .before) in
-    ((f .shape, f .long), ((f .here, l .lay-out .ensures), sym (w .corners-within .ensures) ∙ c .before .if1 .left))
-
-returns-2 : tie.Need-returns-2
-returns-2 c =
-    let b = c .before .before .before in
-    let a = b .before .before .args in
-    let r = c .before .asked .given .0 .0 in
-    sym (by-position-stops (a .s) (now (a .records)) (wanted (a .q .«slope_axis»)) (positionAt (a .q .position)) (r .number) (r .place)
-    (sym (b .check-query .ensures (now (a .records)) refl) ∙ ap meaning (c .before .asked .given .1)))
-
-returns-3 : tie.Need-returns-3
-returns-3 c =
-    let u = c .before .before .before .before .before .before in
-    let a = start u .args in
-    stopped (a .s) (lent (now (a .records))) (wanted (a .q .«slope_axis»)) (u .before .position-cell .result) (placeAt (u .position-step .result)) _ (c .beyond .ensures) ∙ place u .1
+    let d = c .before in
+    let b = x d .before .before in
+    let a = b .args in
+    let p = a .t3 .position in
+    c .read .ensures
+    ∙ on-axes (a .t1) (now (a .records)) (wanted (a .t3 .«slope_axis»)) p (x d .unsigned .result) (y d .unsigned2 .result) (z d .unsigned3 .result) _ _ _
+    (stands-for (at p 0) (x d .before .unsigned-arg .given) (x d .unsigned .ensures))
+    (stands-for (at p 1) (y d .before .unsigned-arg2 .given) (y d .unsigned2 .ensures))
+    (stands-for (at p 2) (z d .before .unsigned-arg3 .given) (z d .unsigned3 .ensures))
+    (d .before .before .before .before .cell-of .ensures) (d .before .before .cell-of2 .ensures) (d .cell-of3 .ensures)
 
 pub at-position-spec : {M : Type 1} → statement M
 at-position-spec =
     tie.close
     (tie.spec
+    (λ c. search needs)
     (λ c κs. search needs)
     (λ c. search needs)
-    enum-told
-    (λ c κs. shape c)
-    (λ c κs. ((shape (c .before), within (c .before) .1), c .position-cell .ensures))
-    (λ c κs. (facts c .shape, facts c .here))
-    (λ c. lent-long (start (c .before .before) .args .records .now))
-    corners-within-requires
-    (λ c. lent-long (start (c .before .before .before .before .before) .args .records .now))
-    answer-requires
-    returns
-    (λ c. lent-long (start (c .before .before .before .before .before) .args .records .now))
-    beyond-requires
-    returns-2
-    returns-3)
+    (λ c κs. search needs)
+    (λ c. search needs)
+    (λ c κs. search needs)
+    (λ c. search needs)
+    (λ c κs. search needs)
+    (λ c. search needs)
+    (λ c κs. search needs)
+    (λ c. search needs)
+    (λ c κs. search needs)
+    (λ c. cell-held _ _ _ (c .before .before .before .before .cell-of .ensures) (x c .unsigned .ok))
+    (λ c. cell-below _ _ _ (c .before .before .before .before .cell-of .ensures))
+    (λ c. cell-held _ _ _ (c .before .before .cell-of2 .ensures) (y c .unsigned2 .ok))
+    (λ c. cell-below _ _ _ (c .before .before .cell-of2 .ensures))
+    (λ c. cell-held _ _ _ (c .cell-of3 .ensures) (z c .unsigned3 .ok))
+    (λ c. cell-below _ _ _ (c .cell-of3 .ensures))
+    (λ c κs. search needs)
+    returns)

@@ -10,7 +10,7 @@ use denote.Ref.{now}
 use mir.Syntax.{w32}
 use mir.Val.{toZ, ofZ}
 use Rattle.arith.proofs.Machine.{element}
-use Rattle.query.proofs.Locate.{size-low}
+use Rattle.arith.proofs.Machine.{near}
 use Rattle.table_file.specs.File.{header}
 use Rattle.text.specs.Lines.{cellLine}
 use Rattle.report.specs.Parts.{lineFrom, lineLimit}
@@ -34,7 +34,7 @@ module _ (c : tie.After-dose-at2) where
   short : length (cellLine (start .args .cell) low high) ≤ lineLimit
   short =
       rw (element (c .before .dose-at .result) (c .before .dose-at .ok), element (c .dose-at2 .result) (c .dose-at2 .ok))
-      (line-short (start .args .cell) (c .before .dose-at .result) (c .dose-at2 .result) (start .pre .1 .1) (size-low (c .before .dose-at .result) (c .before .dose-at .ok)) (size-low (c .dose-at2 .result) (c .dose-at2 .ok)))
+      (line-short (start .args .cell) (c .before .dose-at .result) (c .dose-at2 .result) (start .pre .1 .1) (near (c .before .dose-at .result) (c .before .dose-at .ok)) (near (c .dose-at2 .result) (c .dose-at2 .ok)))
 
   line : cellLine (start .args .cell) low high ≡ lineFrom (header (start .args .axes) (start .args .counts)) (now (start .args .cubic)) (now (start .args .quintic)) (start .args .cell)
   unfolding lineFrom

@@ -2,7 +2,8 @@
 use mathlib.Core.List.{List, map}
 use lib.ListN.{take}
 use lib.Seq.{sets}
-use Rattle.table_file.specs.Numbers.{bytesOf, bytesOfAll, unsignedOf}
+use Rattle.arith.specs.Int.{unsignedOf}
+use Rattle.table_file.specs.Numbers.{bytesOf, bytesOfAll}
 use Rattle.table_file.proofs.WriteLaws.{length-file, file-put}
 use mathlib.Core.Path.{sym, ap, _∙_}
 use Prim.Native.Nat.{ℕ, _≤_, _+_, _*_}

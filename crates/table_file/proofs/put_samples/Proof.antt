@@ -7,7 +7,8 @@ use Rattle.table_file.proofs.WriteLaws.{put-next, sample-number}
 use mathlib.Core.List.{List, map}
 use lib.ListN.{take}
 use lib.Seq.{sets, length-sets}
-use Rattle.table_file.specs.Numbers.{bytesOf, bytesOfAll, unsignedOf}
+use Rattle.arith.specs.Int.{unsignedOf}
+use Rattle.table_file.specs.Numbers.{bytesOf, bytesOfAll}
 use mathlib.Core.Path.{_≡_, refl, sym, ap, _∙_}
 use Prim.Native.Nat.{ℕ, _≤_, _+_, _-_, _*_}
 use native.Mathlib.Omega.{arith}
