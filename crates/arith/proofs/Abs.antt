@@ -1,12 +1,12 @@
--- The size of an integer, in ℕ, where `omega` reads it: of a sum, a product, a negation; from bounds on both sides and back; and that a number fits its width.
+-- The size of an integer, in ℕ, where `omega` reads it: of a sum, a product, a negation; from bounds on both sides; and that a number fits its width.
 use mathlib.Core.Path.{_≡_, refl, sym, subst}
 use mathlib.Core.Bool.{Bool, true, false, cond}
 use Prim.Native.Nat.{ℕ, zero, suc, _+_, _*_, _-_, _/_, _^_, _≤_, _<_}
 use native.Mathlib.Nat.{div-le-self, lt-of-le-of-lt, le-refl, mul-le-mul-left, mul-le-mul-right, le-trans}
 use native.Mathlib.Omega.{arith}
-use lib.Dec.{T, ltb, leb→le, le→leb, ltb→lt}
+use lib.Dec.{T, ltb, leb→le, ltb→lt}
 use lib.IntN.{ℤ, pos, negsuc, negℤ, subℕ, natAbs, _+ℤ_, _-ℤ_, _*ℤ_}
-use lib.Signed.{_≤ℤ_, leZ, leZ-yes, mag, quotZ, shrZ, mag-shr}
+use lib.Signed.{_≤ℤ_, leZ, mag, quotZ, shrZ, mag-shr}
 use mir.Syntax.{Width}
 use mir.Val.{SFits, hbits}
 
@@ -54,21 +54,6 @@ abs-lo (suc B) n t = omega (arith, leb→le n B t)
 pub abs≤ : {B : ℕ} {x : ℤ} → Within B x → natAbs x ≤ B
 abs≤ {B} {x = pos n} h = leb→le n B (h .hi .le)
 abs≤ {B} {x = negsuc n} h = abs-lo B n (h .lo .le)
-
-neg-le : (B n : ℕ) → T (leZ (negℤ (pos B)) (pos n))
-neg-le zero n = le→leb 0 n (omega arith)
-neg-le (suc B) n = tt
-
-lo-abs : (B n : ℕ) → suc n ≤ B → T (leZ (negℤ (pos B)) (negsuc n))
-lo-abs zero n h = absurd (none n h)
-  where
-    none : (n : ℕ) → suc n ≤ 0 → ⊥
-    none n h = omega arith
-lo-abs (suc B) n h = le→leb n B (omega arith)
-
-pub within : {B : ℕ} (x : ℤ) → natAbs x ≤ B → Within B x
-within {B} (pos n) h = record { lo = leZ-yes (neg-le B n); hi = leZ-yes (le→leb n B h) }
-within {B} (negsuc n) h = record { lo = leZ-yes (lo-abs B n h); hi = leZ-yes tt }
 
 -- ---- fits
 pub mag≤abs : (x : ℤ) → mag x ≤ natAbs x

@@ -96,6 +96,13 @@ by-3 P p q r (suc (suc (suc k))) l = absurd (none k l)
     none : (k : ℕ) → suc (suc (suc k)) < 3 → ⊥
     none k l = omega arith
 
+-- of 0, 1 and 2, and of all others
+pub from-3 : (P : ℕ → Type 0) → P 0 → P 1 → P 2 → ((k : ℕ) → 3 ≤ k → P k) → (k : ℕ) → P k
+from-3 P p q r others zero = p
+from-3 P p q r others (suc zero) = q
+from-3 P p q r others (suc (suc zero)) = r
+from-3 P p q r others (suc (suc (suc k))) = others (suc (suc (suc k))) (omega arith)
+
 -- of the orders below m
 pub by-order : (P : ℕ → ℕ → Type 0) → P 2 0 → P 2 1 → P 3 0 → P 3 1 → P 3 2 → (m : ℕ) → 2 ≤ m → m ≤ 3 → (o : ℕ) → o < m → P m o
 by-order P p q r s t = by-m (λ m. (o : ℕ) → o < m → P m o) (by-2 (P 2) p q) (by-3 (P 3) r s t)

@@ -2,22 +2,22 @@
 use mathlib.Core.Path.{_≡_, refl, sym, ap, _∙_, fun-ext}
 use mathlib.Core.Bool.{Bool, true}
 use mathlib.Core.List.{List, [], _∷_}
-use Prim.Native.Nat.{ℕ, zero, suc, _+_, _*_, _/_, _%_, _^_, _≤_, _<_}
+use Prim.Native.Nat.{ℕ, _+_, _*_, _/_, _%_, _^_, _≤_, _<_}
 use native.Mathlib.Nat.{le-of-lt, mul-le-mul, mul-add-div, mul-add-mod-self-left, mul-zero, zero-div, zero-mod, pow-zero, le-trans, div-lt-iff-lt-mul}
 use native.Mathlib.Decide.{decLt}
 use native.Mathlib.Omega.{arith}
 use lib.Dec.{leb, ltb, eqb, lit<, lit≤}
 use lib.ListN.{getD}
-use borrow.Author.Tests.{leb-true, eqb-true, lt-ltb, le-ltb}
+use borrow.Author.Tests.{leb-true, eqb-true, lt-ltb, le-ltb, le-leb, eq-eqb}
 use Rattle.arith.specs.Choice.{pick}
-use Rattle.arith.proofs.Choices.{pick-true, pick-false, by-n}
+use Rattle.arith.proofs.Choices.{pick-true, pick-false, by-n, from-3}
 use Rattle.lattice.specs.declared.Shape.{Shape}
-use Rattle.lattice.specs.Outcome.{done, refuseUnless}
+use Rattle.lattice.specs.Outcome.{Check, done, refuseUnless, firstOf}
 use Rattle.lattice.specs.Digits.{number}
 use Rattle.lattice.specs.Shape.{count, orders, entries, size, Shaped}
-use Rattle.lattice.specs.Axes.{Place}
+use Rattle.lattice.specs.Axes.{Place, OnUsed}
 use Rattle.lattice.specs.Records.{nodeNumber, entryNumber, entryIndex}
-use Rattle.lattice.proofs.OutcomeLaws.{refuse-done, firstOf-each}
+use Rattle.lattice.proofs.OutcomeLaws.{refuse-done, passes, firstOf-each, firstOf-passes}
 use Rattle.lattice.proofs.ShapeLaws.{orders-range, entries-high, nodes-high, pow-one, pow-two}
 use Rattle.lattice.proofs.RecordsLaws.{InTable, in-table, node-is, node-below, index-below}
 use Rattle.cell.specs.Cell.{placeAt, indexOutcome, cellOutcome, Accepted, Laid, Small, base, far, near, offset}
@@ -32,40 +32,51 @@ place-beyond xs a l = pick-false (ltb a 3) (getD xs a 0) 0 (le-ltb a 3 l)
 -- the place of three numbers
 pub three : (x y z : ℕ) (f : Place) → x ≡ f 0 → y ≡ f 1 → z ≡ f 2 → ((a : ℕ) → 3 ≤ a → f a ≡ 0) → placeAt (x ∷ y ∷ z ∷ []) ≡ f
 unfolding placeAt pick
-three x y z f i j k none = fun-ext go
-  where
-    go : (a : ℕ) → placeAt (x ∷ y ∷ z ∷ []) a ≡ f a
-    go zero = i
-    go (suc zero) = j
-    go (suc (suc zero)) = k
-    go (suc (suc (suc a))) = place-beyond (x ∷ y ∷ z ∷ []) (suc (suc (suc a))) (omega arith) ∙ sym (none (suc (suc (suc a))) (omega arith))
+three x y z f i j k none = fun-ext (from-3 (λ a. placeAt (x ∷ y ∷ z ∷ []) a ≡ f a) i j k (λ a l. place-beyond (x ∷ y ∷ z ∷ []) a l ∙ sym (none a l)))
 
 -- and of three numbers one by one
 pub indices : (xs : List ℕ) → placeAt (getD xs 0 0 ∷ getD xs 1 0 ∷ getD xs 2 0 ∷ []) ≡ placeAt xs
 unfolding placeAt pick
 indices xs = three (getD xs 0 0) (getD xs 1 0) (getD xs 2 0) (placeAt xs) refl refl refl (place-beyond xs)
 
+-- tests of three numbers: what `test` says on a used axis, 0 on an unused one
+module _ (n number : ℕ) (test : ℕ → ℕ → Bool) where
+  abbrev tests : Place → ℕ → Check
+  tests p a = refuseUnless (pick (ltb a n) (test a (p a)) (eqb (p a) 0)) number a
+
+  module _ (p : Place) (h : firstOf 3 (tests p) ≡ done tt) where
+    one-passed : (a : ℕ) → a < 3 → pick (ltb a n) (test a (p a)) (eqb (p a) 0) ≡ true
+    one-passed a l = refuse-done (pick (ltb a n) (test a (p a)) (eqb (p a) 0)) number a (firstOf-each 3 (tests p) h a l)
+
+    pub used-passed : n ≤ 3 → (a : ℕ) → a < n → test a (p a) ≡ true
+    used-passed high a l = sym (pick-true (ltb a n) (test a (p a)) (eqb (p a) 0) (lt-ltb a n l)) ∙ one-passed a (omega arith)
+
+    unused-passed : (a : ℕ) → a < 3 → n ≤ a → p a ≡ 0
+    unused-passed a l k = eqb-true (p a) 0 (sym (pick-false (ltb a n) (test a (p a)) (eqb (p a) 0) (le-ltb a n k)) ∙ one-passed a l)
+
+  module _ (X : ℕ → ℕ → Type 0) where
+    pub all-passed : ((a i : ℕ) → test a i ≡ true → X a i) → (xs : List ℕ) → n ≤ 3 → firstOf 3 (tests (placeAt xs)) ≡ done tt → OnUsed n X (placeAt xs)
+    all-passed f xs high h = record { used = λ a l. f a (placeAt xs a) (used-passed (placeAt xs) h high a l); unused = λ a k. other a k (decLt a 3) }
+      where
+        other : (a : ℕ) → n ≤ a → Dec (a < 3) → placeAt xs a ≡ 0
+        other a k (yes l) = unused-passed (placeAt xs) h a l k
+        other a k (no l) = place-beyond xs a (omega (arith, l))
+
+    pub all-pass : ((a i : ℕ) → X a i → test a i ≡ true) → (p : Place) → ((a : ℕ) → a < n → X a (p a)) → ((a : ℕ) → a < 3 → n ≤ a → p a ≡ 0) → firstOf 3 (tests p) ≡ done tt
+    all-pass f p used unused = firstOf-passes 3 (tests p) (λ a l. passes (pick (ltb a n) (test a (p a)) (eqb (p a) 0)) number a (go a l (decLt a n)))
+      where
+        go : (a : ℕ) → a < 3 → Dec (a < n) → pick (ltb a n) (test a (p a)) (eqb (p a) 0) ≡ true
+        go a l (yes k) = pick-true (ltb a n) (test a (p a)) (eqb (p a) 0) (lt-ltb a n k) ∙ f a (p a) (used a k)
+        go a l (no k) = pick-false (ltb a n) (test a (p a)) (eqb (p a) 0) (le-ltb a n (omega arith)) ∙ eq-eqb (p a) 0 (unused a l (omega arith))
+
+-- a cell that is not refused 14, and back
 pub accepted : (s : Shape) (xs : List ℕ) → s .axes ≤ 3 → cellOutcome s (placeAt xs) ≡ done tt → Accepted s (placeAt xs)
 unfolding cellOutcome indexOutcome
-accepted s xs high h = record { used = used; unused = λ a k. other a k (decLt a 3) }
-  where
-    high-cell : ℕ → Bool
-    high-cell a = leb (placeAt xs a + 2) (count s a)
+accepted s = all-passed (s .axes) 14 (λ a i. leb (i + 2) (count s a)) (λ a i. i + 2 ≤ count s a) (λ a i. leb-true (i + 2) (count s a))
 
-    test : (a : ℕ) → a < 3 → pick (ltb a (s .axes)) (high-cell a) (eqb (placeAt xs a) 0) ≡ true
-    test a l =
-        refuse-done (pick (ltb a (s .axes)) (high-cell a) (eqb (placeAt xs a) 0)) 14 a
-        (firstOf-each 3 (λ a. refuseUnless (pick (ltb a (s .axes)) (high-cell a) (eqb (placeAt xs a) 0)) 14 a) h a l)
-
-    used : (a : ℕ) → a < s .axes → placeAt xs a + 2 ≤ count s a
-    used a l =
-        leb-true (placeAt xs a + 2) (count s a)
-        (sym (pick-true (ltb a (s .axes)) (high-cell a) (eqb (placeAt xs a) 0) (lt-ltb a (s .axes) l)) ∙ test a (omega arith))
-
-    other : (a : ℕ) → s .axes ≤ a → Dec (a < 3) → placeAt xs a ≡ 0
-    other a k (yes l) =
-        eqb-true (placeAt xs a) 0 (sym (pick-false (ltb a (s .axes)) (high-cell a) (eqb (placeAt xs a) 0) (le-ltb a (s .axes) k)) ∙ test a l)
-    other a k (no n) = place-beyond xs a (omega (arith, n))
+pub cell-passes : (s : Shape) (cell : Place) → ((a : ℕ) → a < s .axes → cell a + 2 ≤ count s a) → ((a : ℕ) → a < 3 → s .axes ≤ a → cell a ≡ 0) → cellOutcome s cell ≡ done tt
+unfolding cellOutcome indexOutcome
+cell-passes s = all-pass (s .axes) 14 (λ a i. leb (i + 2) (count s a)) (λ a i. i + 2 ≤ count s a) (λ a i. le-leb (i + 2) (count s a))
 
 -- ---- the numbers of a cell
 

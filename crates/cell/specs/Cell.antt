@@ -46,9 +46,8 @@ unfoldable pub cornersOutcome : Shape → List ℤ → Place → Check
 cornersOutcome s rs cell = firstOf (cornerEntries s) (λ i. entryOutcome s rs (cornerPlace s cell i))
 
 -- a cell that 14 does not refuse: document 01's accepted cell
-pub record Accepted (s : Shape) (cell : Place) : Type 0 where
-  pub used : (a : ℕ) → a < s .axes → cell a + 2 ≤ count s a
-  pub unused : (a : ℕ) → s .axes ≤ a → cell a ≡ 0
+abbrev pub Accepted : Shape → Place → Type 0
+Accepted s cell = OnUsed (s .axes) (λ a i. i + 2 ≤ count s a) cell
 
 -- ---- where the numbers of a cell stand in the records
 
@@ -120,10 +119,6 @@ pub record NearCell (count c i : ℕ) : Type 0 where
 pub record AtEnds (m c j : ℕ) : Type 0 where
   pub low : m * c ≤ j
   pub high : j < m * c + 2 * m
-
--- a node of the block
-abbrev pub InBlock : ℕ → Place → Place → Place → Type 0
-InBlock n count cell = OnUsed n (λ a. NearCell (count a) (cell a))
 
 -- an entry of a corner's record
 abbrev pub InCorners : ℕ → ℕ → Place → Place → Type 0

@@ -1,19 +1,17 @@
 -- The tests of 14, 10 and 11 of the three kinds of query: what they say of the query's point and of the cell that it reads, and where they are passed.
-use mathlib.Core.Path.{_≡_, refl, sym, ap, _∙_}
+use mathlib.Core.Path.{_≡_, refl, ap, _∙_}
 use mathlib.Core.Bool.{Bool, true, _&&_}
 use mathlib.Core.List.{List}
 use Prim.Native.Nat.{ℕ, _+_, _*_, _-_, _≤_, _<_}
 use native.Mathlib.Omega.{arith}
 use native.Mathlib.Decide.{decLt}
-use lib.Dec.{leb, ltb, eqb, leb→le}
+use lib.Dec.{leb, ltb, leb→le}
 use lib.Ieee.{Float}
 use lib.Ieee.Scale.{finite}
-use lib.ListN.{getD}
 use lib.IntN.{ℤ, pos, negsuc, natAbs, _-ℤ_}
 use lib.Signed.{_≤ℤ_, nonNeg}
-use borrow.Author.Tests.{leb-true, eqb-true, lt-ltb, le-ltb, le-leb, eq-eqb}
-use Rattle.arith.specs.Choice.{pick}
-use Rattle.arith.proofs.Choices.{pick-true, pick-false}
+use borrow.Author.Tests.{leb-true, le-ltb, le-leb}
+use Rattle.arith.proofs.Choices.{pick-false}
 use Rattle.arith.proofs.Order.{nn-pos}
 use Rattle.lattice.specs.declared.Shape.{Shape}
 use Rattle.lattice.specs.Outcome.{Check, done, refuseUnless, first, firstOf}
@@ -22,12 +20,12 @@ use Rattle.lattice.specs.Shape.{count, Shaped}
 use Rattle.lattice.specs.Axes.{Place, OnUsed}
 use Rattle.lattice.proofs.OutcomeLaws.{first-done, first-passed, first-assoc, refuse-done, passes, firstOf-each, firstOf-passes}
 use Rattle.hermite.specs.Stage.{steps}
-use Rattle.cell.specs.Cell.{placeAt, indexOutcome, cellOutcome, Accepted}
-use Rattle.cell.proofs.CellLaws.{accepted}
+use Rattle.cell.specs.Cell.{placeAt, cellOutcome, Accepted}
+use Rattle.cell.proofs.CellLaws.{accepted, cell-passes}
 use Rattle.floats.specs.Step.{step}
 use Rattle.evaluate.specs.Evaluate.{Want}
 use Rattle.query.specs.Queries.{Position, positionAt, askedOutcome, testedOutcome, reading, stepsOutcome, positionOutcome, cellOf, positionCell, positionStep, byCell, byPosition}
-use Rattle.query.proofs.QueryLaws.{in-cell}
+use Rattle.query.proofs.QueryLaws.{steps-known, steps-pass, in-cell}
 use Rattle.float_query.specs.Floats.{stepsOf, floatOutcome, byFloat}
 use Rattle.claims.specs.Third.{Query, atPosition, inCell, atFloats, queried, pointOf, cellRead, stepRead, Point, Contains, Inside, Reads}
 use Rattle.claims.proofs.General.{less, le-pos}
@@ -45,51 +43,7 @@ by-gate s rs want (atPosition p) = refl
 by-gate s rs want (inCell cell u) = first-assoc (askedOutcome s rs want) (first (cellOutcome s (placeAt cell)) (stepsOutcome s (placeAt u))) (reading s rs want (placeAt cell) (placeAt u))
 by-gate s rs want (atFloats x) = refl
 
--- ---- tests that differ on used and unused axes
-
-module _ (n number : ℕ) (x y : ℕ → Bool) where
-  abbrev sides : ℕ → Check
-  sides a = refuseUnless (pick (ltb a n) (x a) (y a)) number a
-
-  side-done : firstOf 3 sides ≡ done tt → (a : ℕ) → a < 3 → pick (ltb a n) (x a) (y a) ≡ true
-  side-done h a l = refuse-done (pick (ltb a n) (x a) (y a)) number a (firstOf-each 3 sides h a l)
-
-  used-done : firstOf 3 sides ≡ done tt → (a : ℕ) → a < 3 → a < n → x a ≡ true
-  used-done h a l k = sym (pick-true (ltb a n) (x a) (y a) (lt-ltb a n k)) ∙ side-done h a l
-
-  unused-done : firstOf 3 sides ≡ done tt → (a : ℕ) → a < 3 → n ≤ a → y a ≡ true
-  unused-done h a l k = sym (pick-false (ltb a n) (x a) (y a) (le-ltb a n k)) ∙ side-done h a l
-
-  sides-pass : ((a : ℕ) → a < n → x a ≡ true) → ((a : ℕ) → n ≤ a → y a ≡ true) → firstOf 3 sides ≡ done tt
-  sides-pass f g = firstOf-passes 3 sides (λ a l. passes (pick (ltb a n) (x a) (y a)) number a (go a (decLt a n)))
-    where
-      go : (a : ℕ) → Dec (a < n) → pick (ltb a n) (x a) (y a) ≡ true
-      go a (yes l) = pick-true (ltb a n) (x a) (y a) (lt-ltb a n l) ∙ f a l
-      go a (no k) = pick-false (ltb a n) (x a) (y a) (le-ltb a n (omega arith)) ∙ g a (omega arith)
-
 -- ---- a cell and u
-
-pub cell-passes : (s : Shape) (cell : Place) → Accepted s cell → cellOutcome s cell ≡ done tt
-unfolding cellOutcome indexOutcome
-cell-passes s cell h =
-    sides-pass (s .axes) 14 (λ a. leb (cell a + 2) (count s a)) (λ a. eqb (cell a) 0) (λ a k. le-leb (cell a + 2) (count s a) (h .used a k)) (λ a k. eq-eqb (cell a) 0 (h .unused a k))
-
-module _ (s : Shape) (xs : List ℕ) where
-  steps-pass : OnUsed (s .axes) (λ a i. i ≤ steps) (placeAt xs) → stepsOutcome s (placeAt xs) ≡ done tt
-  unfolding stepsOutcome
-  steps-pass h =
-      sides-pass (s .axes) 11 (λ a. leb (placeAt xs a) steps) (λ a. eqb (placeAt xs a) 0) (λ a k. le-leb (placeAt xs a) steps (h .used a k)) (λ a k. eq-eqb (placeAt xs a) 0 (h .unused a k))
-
-  steps-known : s .axes ≤ 3 → stepsOutcome s (placeAt xs) ≡ done tt → OnUsed (s .axes) (λ a i. i ≤ steps) (placeAt xs)
-  unfolding stepsOutcome placeAt
-  steps-known high h = record {
-    used = λ a l. leb-true (placeAt xs a) steps (used-done (s .axes) 11 (λ a. leb (placeAt xs a) steps) (λ a. eqb (placeAt xs a) 0) h a (omega arith) l);
-    unused = λ a l. go a l (decLt a 3);
-  }
-    where
-      go : (a : ℕ) → s .axes ≤ a → Dec (a < 3) → placeAt xs a ≡ 0
-      go a l (yes k) = eqb-true (placeAt xs a) 0 (unused-done (s .axes) 11 (λ a. leb (placeAt xs a) steps) (λ a. eqb (placeAt xs a) 0) h a k l)
-      go a l (no k) = pick-false (ltb a 3) (getD xs a 0) 0 (le-ltb a 3 (omega arith))
 
 cell-reads : (s : Shape) (cell u : Place) → Accepted s cell → OnUsed (s .axes) (λ a i. i ≤ steps) u → Point s (λ a. pos (steps * cell a + u a)) × Contains s cell u (λ a. pos (steps * cell a + u a))
 cell-reads s cell u h k = (
@@ -206,5 +160,5 @@ module _ (s : Shape) (ok : Shaped s) where
   pub gate-passes : (q : Query) → Inside s q → gate s q ≡ done tt
   unfolding gate Inside
   gate-passes (atPosition xs) h = point-passes s ok (positionAt xs) h
-  gate-passes (inCell cell u) h = first-passed (cellOutcome s (placeAt cell)) (stepsOutcome s (placeAt u)) (cell-passes s (placeAt cell) (h .0)) ∙ steps-pass s u (h .1)
+  gate-passes (inCell cell u) h = first-passed (cellOutcome s (placeAt cell)) (stepsOutcome s (placeAt u)) (cell-passes s (placeAt cell) (h .0 .used) (λ a l. h .0 .unused a)) ∙ steps-pass s (placeAt u) (h .1)
   gate-passes (atFloats x) h = floats-pass s x (h .0) (point-passes s ok (stepsOf x) (h .1))

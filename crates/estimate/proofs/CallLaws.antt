@@ -1,25 +1,23 @@
 -- What follows where estimation is not refused: the facts of the table, and every record within its limits and found again by its place.
-use mathlib.Core.Path.{_≡_, sym, ap, _∙_}
-use mathlib.Core.List.{List, _++_, append-nil}
+use mathlib.Core.Path.{_≡_, ap, _∙_}
+use mathlib.Core.List.{List}
 use Prim.Native.Nat.{ℕ, _/_, _≤_}
 use native.Mathlib.Omega.{arith}
 use lib.Dec.{leb, eqb, ltb, lit<}
 use lib.IntN.{ℤ, pos, natAbs}
-use lib.ListN.{length, drop}
-use lib.Seq.{drop-length}
+use lib.ListN.{length}
 use borrow.Author.Tests.{leb-true, eqb-true}
 use Rattle.arith.proofs.Choices.{on-pick}
 use Rattle.lattice.specs.declared.Shape.{Shape}
 use Rattle.lattice.specs.Outcome.{Check, done, refuseUnless, first}
-use Rattle.lattice.specs.Buffer.{overwrite}
 use Rattle.lattice.specs.Shape.{count, orders, nodes, size, shapeOutcome, Shaped}
 use Rattle.lattice.specs.Axes.{Place}
 use Rattle.lattice.specs.Records.{samplesField, recordsField, entryIndex, entryPlace, sampleLimit, entryLimit, limitOutcome}
-use Rattle.lattice.proofs.OutcomeLaws.{first-done, refuse-done, when-done}
+use Rattle.lattice.proofs.OutcomeLaws.{first-done, refuse-done}
 use Rattle.lattice.proofs.BufferLaws.{length-tabulate, getD-tabulate}
 use Rattle.lattice.proofs.ShapeLaws.{shaped, orders-range, nodes-is}
 use Rattle.lattice.proofs.RecordsLaws.{InTable, index-below, place-back, limit-each}
-use Rattle.estimate.specs.Estimate.{tableRecords, recordsOf, estimateOutcome, estimateWrites, Estimable}
+use Rattle.estimate.specs.Estimate.{tableRecords, recordsOf, estimateOutcome, Estimable}
 use Rattle.estimate.specs.Passes.{ordersOn, gridOf, Grids, Samples}
 use Rattle.estimate.proofs.EstimateLaws.{limits}
 use Rattle.estimate.proofs.EntryLaws.{orders-some}
@@ -72,14 +70,6 @@ grid-samples s xs room ok = record { grid = grids s (ok .shape); whole = ok .who
 pub records-length : (s : Shape) (xs : List ℤ) → length (recordsOf s xs) ≡ size s
 unfolding recordsOf
 records-length s xs = length-tabulate (size s) (λ i. tableRecords s xs (entryPlace s i))
-
--- a slice of exactly the records' length holds the records
-pub written : (s : Shape) (xs old : List ℤ) → estimateOutcome s xs (length old) ≡ done tt → length old ≡ size s → estimateWrites s xs old ≡ recordsOf s xs
-unfolding estimateWrites
-written s xs old h e =
-    sym (when-done (overwrite (recordsOf s xs) old) old h)
-    ∙ ap (λ (n : ℕ). recordsOf s xs ++ drop n old) (records-length s xs ∙ sym e)
-    ∙ ap (λ (l : List ℤ). recordsOf s xs ++ l) (drop-length old) ∙ append-nil (recordsOf s xs)
 
 -- an entry is read back at its place
 pub read-back : (s : Shape) (xs : List ℤ) (p : Place) → s .axes ≤ 3 → InTable s (λ a. p a / orders s) → ((a : ℕ) → s .axes ≤ a → p a ≡ 0) → recordsField s (recordsOf s xs) p ≡ tableRecords s xs p

@@ -5,20 +5,18 @@ use mathlib.Core.List.{List, [], _∷_}
 use Prim.Native.Nat.{ℕ, _*_, _≤_, _<_}
 use native.Mathlib.Omega.{arith}
 use native.Mathlib.Decide.{ℕ-discrete}
-use lib.Dec.{eqb, lit≤}
+use lib.Dec.{eqb}
 use lib.IntN.{ℤ, pos, _*ℤ_}
 use borrow.Author.Tests.{ne-eqb, eq-eqb}
-use Rattle.arith.specs.Choice.{pick}
-use Rattle.arith.specs.Int.{Rounding, roundHalfUp}
+use Rattle.arith.specs.Int.{Rounding}
 use Rattle.arith.proofs.Choices.{pick-true, pick-false}
-use Rattle.arith.proofs.Round.{round-common}
 use Rattle.lattice.specs.Axes.{Place, Field, origin, put, along, sweep, axes, without}
 use Rattle.lattice.proofs.Along.{put-at, put-off, each-axes, each-without, Fresh, distinct-axes, distinct-without, fresh-back}
 use Rattle.lattice.proofs.Local.{Depends, linear-depends, sweep-local, used, OnAxis, on-used}
-use Rattle.hermite.specs.Hermite.{value, slope, kindOf, divisor, stageSum}
-use Rattle.hermite.proofs.HermiteLaws.{stage-linear, stage-multiple}
+use Rattle.hermite.specs.Hermite.{value, slope, kindOf, stageSum}
+use Rattle.hermite.proofs.HermiteLaws.{stage-linear}
 use Rattle.cell.specs.Cell.{AtEnds, InCorners}
-use Rattle.evaluate.specs.Evaluate.{Want, dose, slopeAlong, Ask, kindOn, lastAxis, divisorOn, stageOn, toEighth, toUnit, inEighths, before, answerBy, answer}
+use Rattle.evaluate.specs.Evaluate.{Want, dose, slopeAlong, Ask, kindOn, lastAxis, divisorOn, stageOn, toEighth, toUnit, inEighths, before, answerBy}
 use Rattle.evaluate.specs.Wants.{wantOf}
 
 -- an axis before the last has the weights of a value
@@ -129,13 +127,3 @@ module _ (round : Rounding) (q : Ask) where
       go : (t b : ℕ) → Fresh b ls → Dec (b ≡ l) → put l t origin b ≡ put l t p b
       go t b f (yes e) = subst (λ (i : ℕ). put l t origin i ≡ put l t p i) (sym e) (put-at l t origin ∙ sym (put-at l t p))
       go t b f (no n) = put-off l t b origin n ∙ sym (put-off l t b p n ∙ none b (unused b f n))
-
--- ---- one axis: the stage's sum by its divisor, rounded once
-
-pub one-axis : (m N : ℕ) (cell step : Place) (g : Field) → 0 < divisor value m N
-    → answer (record { m = m; n = 1; N = N; want = dose; cell = cell; step = step }) g
-    ≡ roundHalfUp (stageSum value m N (cell 0) (step 0) (λ t. g (put 0 t origin)) 0) (divisor value m N)
-unfolding answer answerBy before inEighths toUnit stageOn divisorOn kindOn lastAxis axes without pick sweep
-one-axis m N cell step g some =
-    ap (λ z. roundHalfUp z (8 * divisor value m N)) (stage-multiple value m N (cell 0) (step 0) (pos 8) (λ t. g (put 0 t origin)) 0)
-    ∙ round-common 8 (stageSum value m N (cell 0) (step 0) (λ t. g (put 0 t origin)) 0) (divisor value m N) (lit≤ tt) some

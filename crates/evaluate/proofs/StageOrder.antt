@@ -17,7 +17,7 @@ use Rattle.hermite.specs.Stage.{steps, load, shiftOf}
 use Rattle.hermite.specs.declared.Basis.{Basis}
 use Rattle.evaluate.specs.declared.Axis.{Axis}
 use Rattle.evaluate.specs.declared.Strides.{Strides}
-use Rattle.evaluate.specs.Stages.{offsetOf, after, numbersAt, also, ofAxis, beside, AllPrepared, Safe, Made, AllSteps, Workable, WorkedOff}
+use Rattle.evaluate.specs.Stages.{offsetOf, after, numbersAt, also, beside, AllPrepared, Safe, Made, AllSteps, Workable, WorkedOff}
 use Rattle.evaluate.proofs.EndLaws.{offset-low, offset-high, number-at, number-none, safe-low, load-same}
 
 -- ---- the numbers of a stage, held one after the other

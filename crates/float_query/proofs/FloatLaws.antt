@@ -18,25 +18,21 @@ use Rattle.arith.proofs.Choices.{pick-true, pick-false, on-pick, split, by-3}
 use Rattle.arith.proofs.Machine.{element}
 use Rattle.arith.specs.Choice.{pick}
 use Rattle.lattice.specs.declared.Shape.{Shape}
-use Rattle.lattice.specs.Outcome.{Outcome, Check, done, refused, refuseUnless, first, firstOf, passed}
+use Rattle.lattice.specs.Outcome.{Outcome, Check, done, refused, refuseUnless, first, firstOf}
 use Rattle.lattice.specs.Buffer.{at}
-use Rattle.lattice.specs.Shape.{count, orders, entries, size, shapeOutcome, axesOutcome, degreeOutcome, countsOutcome, countAllowed, Shaped}
+use Rattle.lattice.specs.Shape.{count, orders, size, shapeOutcome, axesOutcome, degreeOutcome, countsOutcome, countAllowed, Shaped}
 use Rattle.lattice.specs.Axes.{Place}
 use Rattle.lattice.specs.Records.{recordsField, entryIndex, entryLimit}
 use Rattle.lattice.proofs.ShapeLaws.{shaped}
 use Rattle.lattice.proofs.OutcomeLaws.{first-done, first-passed, first-after, refused-first, refuse-done, passes, firstOf-each}
 use Rattle.hermite.specs.Stage.{steps}
-use Rattle.cell.specs.declared.Layout.{Layout}
-use Rattle.cell.specs.Cell.{placeAt, cellOutcome, cornerEntries, cornerPlace, entryOutcome, cornersOutcome, Laid, base, far}
-use Rattle.cell.proofs.CellLaws.{three}
+use Rattle.cell.specs.Cell.{cornerEntries, cornerPlace, entryOutcome, cornersOutcome}
 use Rattle.floats.specs.declared.FloatStep.{FloatStep}
 use Rattle.floats.specs.Step.{step, clamped}
 use Rattle.floats.proofs.StepLaws.{within, clamped-within, clamped-same}
 use Rattle.evaluate.specs.Evaluate.{Want, dose, slopeAlong}
-use Rattle.evaluate.specs.Stages.{Ready}
-use Rattle.evaluate.proofs.Answering.{answer-fits}
-use Rattle.query.specs.Queries.{Position, wantOutcome, askedOutcome, reading, positionAt, positionOutcome, cellOf, positionCell, positionStep, byPosition}
-use Rattle.query.proofs.QueryLaws.{asked-parts, reading-parts, tested-passes, ready, position-cells, position-steps}
+use Rattle.query.specs.Queries.{Position, wantOutcome, askedOutcome, reading, positionAt, positionOutcome, positionCell, positionStep, byPosition}
+use Rattle.query.proofs.QueryLaws.{asked-parts}
 use Rattle.float_query.specs.Floats.{stepsOf, floatOutcome, byFloat, heldStep, finiteOn, withTen}
 
 -- ---- 10 for 11
@@ -202,51 +198,3 @@ three-held x f g h i j k p q r u v w =
           (held-step f (x 0) i p u) (held-step g (x 1) j q v) (held-step h (x 2) k r w);
       none = λ a l. pick-false (ltb a 3) (at (held p q r) a) (pos 0) (le-ltb a 3 l);
     }
-
--- ---- the size of an answer
-
--- what is read at a position is below 2^24, so that a float holds it
-pub by-position-small : (s : Shape) (rs : List ℤ) (want : Want) (xs : List ℤ) (v : ℤ) → byPosition s rs want (positionAt xs) ≡ done v → natAbs v < 2 ^ 24
-unfolding byPosition positionAt positionCell cellOf
-by-position-small s rs want xs v h = small (f .0) (g .0) (g .1)
-  where
-    p : Position
-    p = positionAt xs
-
-    cell : Place
-    cell = positionCell s p
-
-    u : Place
-    u = positionStep s p
-
-    f : (askedOutcome s rs want ≡ done tt) × (first (firstOf 3 (positionOutcome s p)) (reading s rs want cell u) ≡ done v)
-    f = first-done (askedOutcome s rs want) (first (firstOf 3 (positionOutcome s p)) (reading s rs want cell u)) v h
-
-    g : (firstOf 3 (positionOutcome s p) ≡ done tt) × (reading s rs want cell u ≡ done v)
-    g = first-done (firstOf 3 (positionOutcome s p)) (reading s rs want cell u) v (f .1)
-
-    laid : Layout
-    laid = record { orders = orders s; entries = entries s; base = base s cell; far = far s 0 ∷ far s 1 ∷ far s 2 ∷ [] }
-
-    cells : List ℕ
-    cells = cell 0 ∷ cell 1 ∷ cell 2 ∷ []
-
-    none : (a : ℕ) → 3 ≤ a → cell a ≡ 0
-    none a l = let e = ap natAbs (pick-false (ltb a 3) (at xs a) (pos 0) (le-ltb a 3 l)) in omega arith
-
-    same : placeAt cells ≡ cell
-    same = three (cell 0) (cell 1) (cell 2) cell refl refl refl none
-
-    back : (P : Place → Type 0) → P cell → P (placeAt cells)
-    back P h = subst P (sym same) h
-
-    small : askedOutcome s rs want ≡ done tt → firstOf 3 (positionOutcome s p) ≡ done tt → reading s rs want cell u ≡ done v → natAbs v < 2 ^ 24
-    small asked inside h =
-        let r = reading-parts s rs want cell u v h in
-        let ok = shaped s (asked-parts s rs want asked .0) in
-        subst (λ z. natAbs z < 2 ^ 24) (r .1)
-        (answer-fits s rs cell u want laid
-        (subst (λ (c : Place). Ready s rs c u want laid) same
-        (ready s rs want cells u (tested-passes s rs want (placeAt cells) u (record { asked = asked; cells = back (λ c. cellOutcome s c ≡ done tt) (position-cells s p ok inside); inside = position-steps s p ok inside }))
-        laid (back (λ c. Laid s c laid) (record { orders-are = refl; entries-are = refl; base-is = refl; far-x = refl; far-y = refl; far-z = refl }))
-        (ap passed (back (λ c. cornersOutcome s rs c ≡ done tt) (r .0))))))

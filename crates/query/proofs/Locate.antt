@@ -2,7 +2,7 @@
 use mathlib.Core.Path.{_≡_, refl, sym, ap, ap₂, subst, _∙_, fun-ext}
 use mathlib.Core.Bool.{Bool, true, false, _&&_}
 use mathlib.Core.List.{List, [], _∷_}
-use Prim.Native.Nat.{ℕ, suc, _+_, _*_, _-_, _/_, _^_, _≤_, _<_}
+use Prim.Native.Nat.{ℕ, _*_, _-_, _/_, _^_, _≤_, _<_}
 use native.Mathlib.Omega.{arith}
 use native.Mathlib.Decide.{decLt}
 use lib.Dec.{leb, ltb, eqb}
@@ -10,24 +10,24 @@ use lib.IntN.{ℤ, pos, negsuc, natAbs}
 use lib.Signed.{nonNeg, mag}
 use mir.Syntax.{w32}
 use mir.Val.{Fits, toZ, ofZ}
-use borrow.Author.Tests.{ltb-true, leb-true, eqb-true, lt-leb, le-leb, eq-eqb, ne-eqb, lt-ltb, le-ltb}
+use borrow.Author.Tests.{leb-true, eqb-true, lt-leb, le-leb, eq-eqb, ne-eqb, lt-ltb, le-ltb}
 use Rattle.arith.specs.Choice.{pick}
 use Rattle.arith.specs.Int.{unsignedOf}
 use Rattle.arith.proofs.Machine.{element}
-use Rattle.arith.proofs.Choices.{pick-true, pick-false, by-3}
+use Rattle.arith.proofs.Choices.{pick-true, pick-false, by-3, from-3}
 use Rattle.lattice.specs.declared.Shape.{Shape}
-use Rattle.lattice.specs.Outcome.{Outcome, Check, done, refuseUnless, first, firstOf}
+use Rattle.lattice.specs.Outcome.{Check, done, refuseUnless, first, firstOf}
 use Rattle.lattice.specs.Buffer.{at}
 use Rattle.lattice.specs.Shape.{count, Shaped}
 use Rattle.lattice.specs.Axes.{Place}
 use Rattle.lattice.proofs.ShapeLaws.{shaped}
-use Rattle.lattice.proofs.OutcomeLaws.{first-passed, first-after, first-assoc, passes, firstOf-passes, firstOf-same}
+use Rattle.lattice.proofs.OutcomeLaws.{first-passed, first-after, first-assoc, firstOf-same}
 use Rattle.hermite.specs.Stage.{steps}
-use Rattle.cell.specs.Cell.{placeAt, indexOutcome, cellOutcome}
-use Rattle.cell.proofs.CellLaws.{place-beyond}
+use Rattle.cell.specs.Cell.{placeAt, cellOutcome}
+use Rattle.cell.proofs.CellLaws.{place-beyond, cell-passes}
 use Rattle.evaluate.specs.Evaluate.{Want}
 use Rattle.query.specs.Queries.{askedOutcome, testedOutcome, reading, stepsOutcome, byCell, Position, positionAt, positionOutcome, cellOf, positionCell, positionStep, byPosition}
-use Rattle.query.proofs.QueryLaws.{asked-parts, position-range, in-either}
+use Rattle.query.proofs.QueryLaws.{asked-parts, position-range, by-cell-small}
 
 -- ---- the cell that the code finds
 
@@ -60,6 +60,16 @@ stands : (p : ℤ) → mag p < 2 ^ 31 → Stands p (unsignedOf p)
 unfolding unsignedOf
 stands (pos n) h = record { low = λ e. refl; high = λ e. let z : _≡_ {A = ℕ} 0 1 = cc in absurd (omega arith) }
 stands (negsuc n) h = record { low = λ e. let z : _≡_ {A = ℕ} 0 1 = cc in absurd (omega arith); high = λ e. omega arith }
+
+-- a number that stands for any position
+standing : ℤ → ℕ
+standing (pos n) = n
+standing (negsuc n) = 2 ^ 31
+
+stands-there : (p : ℤ) → Stands p (standing p)
+unfolding standing
+stands-there (pos n) = record { low = λ e. refl; high = λ e. let z : _≡_ {A = ℕ} 0 1 = cc in absurd (omega arith) }
+stands-there (negsuc n) = record { low = λ e. let z : _≡_ {A = ℕ} 0 1 = cc in absurd (omega arith); high = λ e. omega arith }
 
 -- as the code has it
 pub stands-for : (p : ℤ) {b : ℕ} → mag p < 2 ^ 31 → b ≡ unsignedOf (toZ w32 (ofZ w32 p)) → Stands p b
@@ -95,26 +105,21 @@ unused-test c (negsuc n) b h s = let e = s .high refl in ne-eqb (b - steps * cel
 -- the cell and the in-cell step of the numbers b that stand for a position
 pub record Located (s : Shape) (p : Position) (b : ℕ → ℕ) (cell step : Place) : Type 0 where
   pub stand : (a : ℕ) → a < 3 → Stands (p a) (b a)
-  pub cell-is : (a : ℕ) → a < 3 → cell a ≡ cellOf steps (count s a) (b a)
-  pub step-is : (a : ℕ) → a < 3 → step a ≡ b a - steps * cell a
-  pub none : (a : ℕ) → 3 ≤ a → (cell a ≡ 0) × (step a ≡ 0) × (natAbs (p a) ≡ 0)
+  pub cell-is : (a : ℕ) → cell a ≡ cellOf steps (count s a) (b a)
+  pub step-is : (a : ℕ) → step a ≡ b a - steps * cell a
+  pub beyond : (a : ℕ) → 3 ≤ a → b a ≡ natAbs (p a)
 
 module _ (s : Shape) (p : Position) (b : ℕ → ℕ) (cell step : Place) (l : Located s p b cell step) (f : Shaped s) where
   -- no cell of a position is refused
   cells : cellOutcome s cell ≡ done tt
-  unfolding cellOutcome indexOutcome cellOf
-  cells = firstOf-passes 3 (λ a. indexOutcome s (cell a) a) (λ a h.
-      let e = l .cell-is a h in
-      passes (pick (ltb a (s .axes)) (leb (cell a + 2) (count s a)) (eqb (cell a) 0)) 14 a
-      (in-either s a (leb (cell a + 2) (count s a)) (eqb (cell a) 0)
-      (λ k. le-leb (cell a + 2) (count s a) (let i = f .used a k in omega arith))
-      (λ k. eq-eqb (cell a) 0 (let i = f .unused a h k in omega arith))))
+  unfolding cellOf
+  cells = cell-passes s cell (λ a k. let e = l .cell-is a in let i = f .used a k in omega arith) (λ a h k. let e = l .cell-is a in let i = f .unused a h k in omega arith)
 
   one : (a : ℕ) → a < 3 → pick (ltb a (s .axes)) (leb (step a) steps) (eqb (step a) 0) ≡ (nonNeg (p a) && leb (natAbs (p a)) (steps * (count s a - 1)))
   one a h = go (decLt a (s .axes))
     where
       at-step : step a ≡ b a - steps * cellOf steps (count s a) (b a)
-      at-step = l .step-is a h ∙ ap (λ (i : ℕ). b a - steps * i) (l .cell-is a h)
+      at-step = l .step-is a ∙ ap (λ (i : ℕ). b a - steps * i) (l .cell-is a)
 
       go : Dec (a < s .axes) → pick (ltb a (s .axes)) (leb (step a) steps) (eqb (step a) 0) ≡ (nonNeg (p a) && leb (natAbs (p a)) (steps * (count s a - 1)))
       go (yes k) =
@@ -130,24 +135,20 @@ module _ (s : Shape) (p : Position) (b : ℕ → ℕ) (cell step : Place) (l : L
 
   -- the cell and the in-cell step of a position that is not refused
   module _ (h : firstOf 3 (positionOutcome s p) ≡ done tt) where
-    is-here : (a : ℕ) → a < 3 → b a ≡ natAbs (p a)
-    is-here a k = l .stand a k .low (position-range s p h a k .0)
+    is-here : (a : ℕ) → b a ≡ natAbs (p a)
+    is-here a = go (decLt a 3)
+      where
+        go : Dec (a < 3) → b a ≡ natAbs (p a)
+        go (yes k) = l .stand a k .low (position-range s p h a k .0)
+        go (no k) = l .beyond a (omega arith)
 
     cell-at : cell ≡ positionCell s p
-    unfolding positionCell cellOf
-    cell-at = fun-ext (λ a. go a (decLt a 3))
-      where
-        go : (a : ℕ) → Dec (a < 3) → cell a ≡ positionCell s p a
-        go a (yes k) = l .cell-is a k ∙ ap (cellOf steps (count s a)) (is-here a k)
-        go a (no k) = let e = l .none a (omega arith) in omega arith
+    unfolding positionCell
+    cell-at = fun-ext (λ a. l .cell-is a ∙ ap (cellOf steps (count s a)) (is-here a))
 
     step-at : step ≡ positionStep s p
     unfolding positionStep
-    step-at = fun-ext (λ a. go a (decLt a 3))
-      where
-        go : (a : ℕ) → Dec (a < 3) → step a ≡ positionStep s p a
-        go a (yes k) = l .step-is a k ∙ ap₂ (λ (i j : ℕ). i - steps * j) (is-here a k) (ap (λ (g : Place). g a) cell-at)
-        go a (no k) = let e = l .none a (omega arith) in omega arith
+    step-at = fun-ext (λ a. l .step-is a ∙ ap₂ (λ (i j : ℕ). i - steps * j) (is-here a) (ap (λ (g : Place). g a) cell-at))
 
 -- the query by position, for every position
 pub located : (s : Shape) (rs : List ℤ) (want : Want) (p : Position) (b : ℕ → ℕ) (cell step : Place) → Located s p b cell step → byCell s rs want cell step ≡ byPosition s rs want p
@@ -160,18 +161,30 @@ located s rs want p b cell step l =
     ∙ first-after (firstOf 3 (positionOutcome s p)) (reading s rs want cell step) (reading s rs want (positionCell s p) (positionStep s p))
     (λ h. ap₂ (reading s rs want) (cell-at s p b cell step l f h) (step-at s p b cell step l f h)))
 
+-- in a table: the query by the position's own cell and step
+pub by-position-is : (s : Shape) (rs : List ℤ) (want : Want) (p : Position) → firstOf 3 (positionOutcome s p) ≡ done tt → byPosition s rs want p ≡ byCell s rs want (positionCell s p) (positionStep s p)
+unfolding positionCell positionStep
+by-position-is s rs want p h =
+    sym (located s rs want p (λ a. natAbs (p a)) (positionCell s p) (positionStep s p)
+    (record {
+      stand = λ a l. record { low = λ e. refl; high = λ e. let k = position-range s p h a l .0 in let z : _≡_ {A = ℕ} 0 1 = cc in absurd (omega arith) };
+      cell-is = λ a. refl;
+      step-is = λ a. refl;
+      beyond = λ a l. refl;
+    }))
+
 -- and by what the code has of three axes
 pub on-axes : (s : Shape) (rs : List ℤ) (want : Want) (xs : List ℤ) (x y z i j k : ℕ) → Stands (at xs 0) x → Stands (at xs 1) y → Stands (at xs 2) z
     → i ≡ cellOf steps (count s 0) x → j ≡ cellOf steps (count s 1) y → k ≡ cellOf steps (count s 2) z
     → byCell s rs want (placeAt (i ∷ j ∷ k ∷ [])) (placeAt ((x - 256 * i) ∷ (y - 256 * j) ∷ (z - 256 * k) ∷ [])) ≡ byPosition s rs want (positionAt xs)
-unfolding placeAt positionAt pick
+unfolding placeAt positionAt pick cellOf
 on-axes s rs want xs x y z i j k p q r e f g =
     located s rs want (positionAt xs) (placeAt numbers) (placeAt cell) (placeAt step)
     (record {
       stand = by-3 (λ (a : ℕ). Stands (positionAt xs a) (placeAt numbers a)) p q r;
-      cell-is = by-3 (λ (a : ℕ). placeAt cell a ≡ cellOf steps (count s a) (placeAt numbers a)) e f g;
-      step-is = by-3 (λ (a : ℕ). placeAt step a ≡ placeAt numbers a - steps * placeAt cell a) refl refl refl;
-      none = λ a h. (place-beyond cell a h, place-beyond step a h, ap natAbs (pick-false (ltb a 3) (at xs a) (pos 0) (le-ltb a 3 h)));
+      cell-is = from-3 (λ a. placeAt cell a ≡ cellOf steps (count s a) (placeAt numbers a)) e f g (λ a h. let l = place-beyond numbers a h in let m = place-beyond cell a h in omega arith);
+      step-is = from-3 (λ a. placeAt step a ≡ placeAt numbers a - steps * placeAt cell a) refl refl refl (λ a h. let l = place-beyond numbers a h in let m = place-beyond step a h in omega arith);
+      beyond = λ a h. place-beyond numbers a h ∙ sym (ap natAbs (pick-false (ltb a 3) (at xs a) (pos 0) (le-ltb a 3 h)));
     })
   where
     numbers : List ℕ
@@ -182,3 +195,15 @@ on-axes s rs want xs x y z i j k p q r e f g =
 
     step : List ℕ
     step = (x - 256 * i) ∷ (y - 256 * j) ∷ (z - 256 * k) ∷ []
+
+-- an answer at a position is below 2^24
+pub by-position-small : (s : Shape) (rs : List ℤ) (want : Want) (xs : List ℤ) (v : ℤ) → byPosition s rs want (positionAt xs) ≡ done v → natAbs v < 2 ^ 24
+by-position-small s rs want xs v h =
+    let x = standing (at xs 0) in
+    let y = standing (at xs 1) in
+    let z = standing (at xs 2) in
+    let i = cellOf steps (count s 0) x in
+    let j = cellOf steps (count s 1) y in
+    let k = cellOf steps (count s 2) z in
+    by-cell-small s rs want (i ∷ j ∷ k ∷ []) (placeAt ((x - 256 * i) ∷ (y - 256 * j) ∷ (z - 256 * k) ∷ [])) v
+    (on-axes s rs want xs x y z i j k (stands-there (at xs 0)) (stands-there (at xs 1)) (stands-there (at xs 2)) refl refl refl ∙ h)

@@ -1,10 +1,9 @@
 -- The facts behind a query that is not refused, when it is not, and a query by position as the query by its cell and in-cell step.
-use mathlib.Core.Path.{_≡_, sym, ap, subst, _∙_}
-use mathlib.Core.Bool.{Bool, true, _&&_}
-use mathlib.Core.List.{List}
+use mathlib.Core.Path.{_≡_, refl, sym, ap, subst, _∙_}
+use mathlib.Core.Bool.{true, _&&_}
+use mathlib.Core.List.{List, [], _∷_}
 use Prim.Native.Nat.{ℕ, _+_, _*_, _-_, _^_, _≤_, _<_}
 use native.Mathlib.Omega.{arith}
-use native.Mathlib.Decide.{decLt}
 use lib.Dec.{leb, ltb, eqb}
 use lib.ListN.{length, take}
 use lib.Seq.{take-length}
@@ -12,39 +11,42 @@ use lib.IntN.{ℤ, natAbs}
 use lib.Signed.{nonNeg, mag}
 use mir.Syntax.{w32}
 use mir.Val.{toZ, ofZ}
-use borrow.Author.Tests.{ltb-true, leb-true, eqb-true, lt-ltb, le-ltb, le-leb, eq-eqb}
-use Rattle.arith.specs.Choice.{pick}
+use borrow.Author.Tests.{ltb-true, leb-true, eqb-true, le-leb, eq-eqb}
 use Rattle.arith.proofs.Machine.{element}
-use Rattle.arith.proofs.Choices.{pick-true, pick-false, and-true}
+use Rattle.arith.proofs.Choices.{and-true}
 use Rattle.lattice.specs.declared.Shape.{Shape}
 use Rattle.lattice.specs.Outcome.{Outcome, Check, done, refused, refuseUnless, first, firstOf, passed}
-use Rattle.lattice.specs.Shape.{count, size, shapeOutcome, Shaped}
-use Rattle.lattice.specs.Axes.{Place}
+use Rattle.lattice.specs.Shape.{count, orders, entries, size, shapeOutcome, Shaped}
+use Rattle.lattice.specs.Axes.{Place, OnUsed}
 use Rattle.lattice.specs.Records.{recordsField}
 use Rattle.lattice.proofs.ShapeLaws.{shaped}
-use Rattle.lattice.proofs.OutcomeLaws.{first-done, first-passed, first-after, first-assoc, refused-first, passed-done, done-same, refuse-done, passes, firstOf-each, firstOf-passes}
+use Rattle.lattice.proofs.OutcomeLaws.{first-done, first-passed, refused-first, passed-done, done-same, refuse-done, passes, firstOf-each}
 use Rattle.hermite.specs.Stage.{steps}
 use Rattle.cell.specs.declared.Layout.{Layout}
-use Rattle.cell.specs.Cell.{placeAt, indexOutcome, cellOutcome, cornersOutcome, Accepted, Laid}
-use Rattle.cell.proofs.CellLaws.{accepted}
+use Rattle.cell.specs.Cell.{placeAt, cellOutcome, cornersOutcome, Accepted, Laid, base, far}
+use Rattle.cell.proofs.CellLaws.{used-passed, all-passed, all-pass, accepted}
 use Rattle.evaluate.specs.Stages.{Ready}
+use Rattle.evaluate.proofs.Answering.{answer-fits}
 use Rattle.evaluate.specs.Evaluate.{Want, dose, slopeAlong, lastAxis, askAt, answer}
-use Rattle.query.specs.Queries.{wantOutcome, askedOutcome, testedOutcome, reading, stepsOutcome, byCell, Position, positionOutcome, cellOf, positionCell, positionStep, byPosition}
+use Rattle.query.specs.Queries.{wantOutcome, askedOutcome, testedOutcome, reading, stepsOutcome, byCell, Position, positionOutcome, cellOf}
 
 pub last-used : (s : Shape) (want : Want) → 1 ≤ s .axes → wantOutcome s want ≡ done tt → lastAxis (s .axes) want < s .axes
 unfolding wantOutcome lastAxis
 last-used s dose l h = omega arith
 last-used s (slopeAlong a) l h = ltb-true a (s .axes) (refuse-done (ltb a (s .axes)) 12 0 h)
 
+-- steps that are not refused 11, and back
 pub step-inside : (s : Shape) (step : Place) → Shaped s → stepsOutcome s step ≡ done tt → (a : ℕ) → a < s .axes → step a ≤ steps
 unfolding stepsOutcome
-step-inside s step f h a l =
-    leb-true (step a) steps
-    (sym (pick-true (ltb a (s .axes)) (leb (step a) steps) (eqb (step a) 0) (lt-ltb a (s .axes) l))
-    ∙ refuse-done (pick (ltb a (s .axes)) (leb (step a) steps) (eqb (step a) 0)) 11 a (firstOf-each 3 (λ a. refuseUnless (pick (ltb a (s .axes)) (leb (step a) steps) (eqb (step a) 0)) 11 a) h a (within a (s .axes) l (f .axes-high))))
-  where
-    within : (a n : ℕ) → a < n → n ≤ 3 → a < 3
-    within a n l h = omega arith
+step-inside s step f h a l = leb-true (step a) steps (used-passed (s .axes) 11 (λ a i. leb i steps) step h (f .axes-high) a l)
+
+pub steps-known : (s : Shape) (xs : List ℕ) → s .axes ≤ 3 → stepsOutcome s (placeAt xs) ≡ done tt → OnUsed (s .axes) (λ a i. i ≤ steps) (placeAt xs)
+unfolding stepsOutcome
+steps-known s = all-passed (s .axes) 11 (λ a i. leb i steps) (λ a i. i ≤ steps) (λ a i. leb-true i steps)
+
+pub steps-pass : (s : Shape) (step : Place) → OnUsed (s .axes) (λ a i. i ≤ steps) step → stepsOutcome s step ≡ done tt
+unfolding stepsOutcome
+steps-pass s step h = all-pass (s .axes) 11 (λ a i. leb i steps) (λ a i. i ≤ steps) (λ a i. le-leb i steps) step (h .used) (λ a l. h .unused a)
 
 -- the tests of a query that is not refused, and its answer
 pub record Asked (s : Shape) (rs : List ℤ) (want : Want) (cell step : Place) (v : ℤ) : Type 0 where
@@ -166,6 +168,20 @@ module _ (s : Shape) (rs : List ℤ) (want : Want) (cell : List ℕ) (step : Pla
   unfolding reading
   stopped o h = h (answer (askAt s want (placeAt cell) step) (recordsField s rs))
 
+  -- an answer is below 2^24
+  pub by-cell-small : (v : ℤ) → byCell s rs want (placeAt cell) step ≡ done v → natAbs v < 2 ^ 24
+  unfolding byCell
+  by-cell-small v h =
+      let f = first-done (testedOutcome s rs want (placeAt cell) step) (reading s rs want (placeAt cell) step) v h in
+      let r = reading-parts s rs want (placeAt cell) step v (f .1) in
+      subst (λ z. natAbs z < 2 ^ 24) (r .1) (answer-fits s rs (placeAt cell) step want laid (ready (f .0) laid is-laid (ap passed (r .0))))
+    where
+      laid : Layout
+      laid = record { orders = orders s; entries = entries s; base = base s (placeAt cell); far = far s 0 ∷ far s 1 ∷ far s 2 ∷ [] }
+
+      is-laid : Laid s (placeAt cell) laid
+      is-laid = record { orders-are = refl; entries-are = refl; base-is = refl; far-x = refl; far-y = refl; far-z = refl }
+
 -- ---- positions
 
 -- a position of the table: on a used axis a step of an accepted cell, on an unused one 0
@@ -178,52 +194,3 @@ position-range s p h a l =
 pub in-cell : (c P : ℕ) → 2 ≤ c → P ≤ steps * (c - 1) → (cellOf steps c P + 2 ≤ c) × (steps * cellOf steps c P ≤ P) × (P - steps * cellOf steps c P ≤ steps)
 unfolding cellOf
 in-cell c P h k = (omega arith, omega arith, omega arith)
-
--- on an unused axis
-pub unused-cell : (s : Shape) (p : Position) → Shaped s → (a : ℕ) → a < 3 → s .axes ≤ a → positionCell s p a ≡ 0
-unfolding positionCell cellOf
-unused-cell s p f a l k = let e = f .unused a l k in omega arith
-
-pub unused-step : (s : Shape) (p : Position) → Shaped s → firstOf 3 (positionOutcome s p) ≡ done tt → (a : ℕ) → a < 3 → s .axes ≤ a → positionStep s p a ≡ 0
-unfolding positionStep
-unused-step s p f h a l k = let e = f .unused a l k in let r = position-range s p h a l .1 in omega arith
-
-pub in-either : (s : Shape) (a : ℕ) (x y : Bool) → (a < s .axes → x ≡ true) → (s .axes ≤ a → y ≡ true) → pick (ltb a (s .axes)) x y ≡ true
-in-either s a x y f g = go (decLt a (s .axes))
-  where
-    go : Dec (a < s .axes) → pick (ltb a (s .axes)) x y ≡ true
-    go (yes l) = pick-true (ltb a (s .axes)) x y (lt-ltb a (s .axes) l) ∙ f l
-    go (no n) = pick-false (ltb a (s .axes)) x y (le-ltb a (s .axes) (omega arith)) ∙ g (omega arith)
-
-pub position-cells : (s : Shape) (p : Position) → Shaped s → firstOf 3 (positionOutcome s p) ≡ done tt → cellOutcome s (positionCell s p) ≡ done tt
-unfolding cellOutcome indexOutcome positionCell
-position-cells s p f h = firstOf-passes 3 (λ a. indexOutcome s (positionCell s p a) a) (λ a l.
-    let r = position-range s p h a l in
-    passes (pick (ltb a (s .axes)) (leb (positionCell s p a + 2) (count s a)) (eqb (positionCell s p a) 0)) 14 a
-    (in-either s a (leb (positionCell s p a + 2) (count s a)) (eqb (positionCell s p a) 0)
-    (λ k. le-leb (positionCell s p a + 2) (count s a) (in-cell (count s a) (natAbs (p a)) (f .used a k) (r .1) .0))
-    (λ k. eq-eqb (positionCell s p a) 0 (unused-cell s p f a l k))))
-
-pub position-steps : (s : Shape) (p : Position) → Shaped s → firstOf 3 (positionOutcome s p) ≡ done tt → stepsOutcome s (positionStep s p) ≡ done tt
-unfolding stepsOutcome positionStep positionCell
-position-steps s p f h = firstOf-passes 3 (λ a. refuseUnless (pick (ltb a (s .axes)) (leb (positionStep s p a) steps) (eqb (positionStep s p a) 0)) 11 a) (λ a l.
-    let r = position-range s p h a l in
-    passes (pick (ltb a (s .axes)) (leb (positionStep s p a) steps) (eqb (positionStep s p a) 0)) 11 a
-    (in-either s a (leb (positionStep s p a) steps) (eqb (positionStep s p a) 0)
-    (λ k. le-leb (positionStep s p a) steps (in-cell (count s a) (natAbs (p a)) (f .used a k) (r .1) .2))
-    (λ k. eq-eqb (positionStep s p a) 0 (unused-step s p f h a l k))))
-
--- a query by position is the query by its cell and in-cell step, where the position is one of the table
-pub by-position-is : (s : Shape) (rs : List ℤ) (want : Want) (p : Position) → firstOf 3 (positionOutcome s p) ≡ done tt → byPosition s rs want p ≡ byCell s rs want (positionCell s p) (positionStep s p)
-unfolding byPosition byCell testedOutcome
-by-position-is s rs want p h =
-    first-after (askedOutcome s rs want) (first (firstOf 3 (positionOutcome s p)) read) (first tests read)
-    (λ a. let f = shaped s (asked-parts s rs want a .0) in
-    first-passed (firstOf 3 (positionOutcome s p)) read h ∙ sym (first-passed tests read (first-passed (cellOutcome s (positionCell s p)) (stepsOutcome s (positionStep s p)) (position-cells s p f h) ∙ position-steps s p f h)))
-    ∙ sym (first-assoc (askedOutcome s rs want) tests read)
-  where
-    tests : Check
-    tests = first (cellOutcome s (positionCell s p)) (stepsOutcome s (positionStep s p))
-
-    read : Outcome ℤ
-    read = reading s rs want (positionCell s p) (positionStep s p)

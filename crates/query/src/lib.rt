@@ -11,7 +11,7 @@ ghost use Rattle.lattice.specs.Outcome.{done, refuseUnless, first, passed};
 ghost use Rattle.lattice.specs.Answer.{meaning};
 ghost use Rattle.lattice.specs.Shape.{size, Shaped};
 ghost use Rattle.hermite.specs.Stage.{steps};
-ghost use Rattle.cell.specs.Cell.{placeAt, cellOutcome, cornersOutcome, Accepted, Laid};
+ghost use Rattle.cell.specs.Cell.{placeAt, cornersOutcome, Accepted, Laid};
 ghost use Rattle.evaluate.specs.Wants.{wanted, wantOf};
 ghost use Rattle.query.specs.Answers.{told};
 ghost use Rattle.query.specs.Queries.{askedOutcome, testedOutcome, reading, stepsOutcome, byCell, positionAt, cellOf, byPosition};

@@ -24,10 +24,9 @@ use Rattle.estimate.proofs.CallLaws.{estimated, records-length}
 use Rattle.evaluate.specs.Evaluate.{dose, lastAxis, answer, askAt}
 use Rattle.evaluate.proofs.AnswerLaws.{answer-local}
 use Rattle.query.specs.Queries.{wantOutcome, stepsOutcome, byCell}
-use Rattle.cell.proofs.CellLaws.{three}
+use Rattle.cell.proofs.CellLaws.{three, cell-passes}
 use Rattle.query.proofs.QueryLaws.{by-cell-passes}
 use Rattle.claims.proofs.Lent.{field-same, corners-done, lent}
-use Rattle.claims.proofs.Gates.{cell-passes}
 use Rattle.report.specs.Report.{middle, doseIn}
 use Rattle.report.specs.Parts.{Answers, doseFrom}
 
@@ -52,7 +51,7 @@ pub answered : (s : Shape) (rs : List ℤ) (cell : List ℕ) (step : Place) → 
 unfolding doseFrom wantOutcome
 answered s rs cell step known here is =
     ap (byCell s rs dose (placeAt cell)) is
-    ∙ by-cell-passes s rs dose (placeAt cell) (middle (s .axes)) (known .long) (known .shape) refl (cell-passes s (placeAt cell) here) (steps-pass s) (known .corners (placeAt cell) here)
+    ∙ by-cell-passes s rs dose (placeAt cell) (middle (s .axes)) (known .long) (known .shape) refl (cell-passes s (placeAt cell) (here .used) (λ a l. here .unused a)) (steps-pass s) (known .corners (placeAt cell) here)
 
 -- ---- the records that estimation wrote
 

@@ -3,16 +3,14 @@ use mathlib.Core.Path.{_≡_, refl, sym, ap, _∙_}
 use mathlib.Core.Bool.{Bool, true, false}
 use Prim.Native.Nat.{ℕ, suc, _-_, _≤_, _<_}
 use native.Mathlib.Omega.{arith}
-use borrow.Author.Tests.{lt-ltb, le-ltb, ltb-true}
+use borrow.Author.Tests.{lt-ltb, le-ltb}
 use lib.Dec.{ltb}
-use lib.IntN.{ℤ, pos, negsuc, _+ℤ_, _-ℤ_}
-use lib.Signed.{ltZ}
+use lib.IntN.{ℤ, pos, negsuc, _-ℤ_}
 use mir.Syntax.{w32, w64}
 use mir.Val.{SFits, sel, toZ, ofZ}
-use mir.Facts.{toZ-ofZ, ofZ-toZ, toZ-pos, fits-ofZ, sfits-toZ, sfits-widen}
+use mir.Facts.{toZ-ofZ, ofZ-toZ, toZ-pos, sfits-toZ, sfits-widen}
 use Rattle.arith.specs.Choice.{pick}
 use Rattle.arith.proofs.Choices.{pick-false}
-use Rattle.arith.proofs.Machine.{element, widened}
 use Rattle.arith.specs.Int.{unsignedOf}
 use Rattle.arith.proofs.Twos.{unsigned-is, unsigned-below}
 use Rattle.table_file.specs.Numbers.{signedOf}

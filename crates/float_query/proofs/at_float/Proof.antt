@@ -2,19 +2,18 @@ use mathlib.Core.Path.{_≡_, sym, ap, _∙_}
 use mathlib.Core.Bool.{Bool}
 use mathlib.Core.List.{List}
 use Prim.Native.Nat.{ℕ}
-use lib.Ieee.{Float}
 use lib.IntN.{ℤ}
 use denote.Ref.{now}
 use borrow.Author.Needs.{needs}
-use Rattle.lattice.specs.declared.Shape.{Shape}
 use Rattle.lattice.specs.Outcome.{Outcome}
 use Rattle.evaluate.specs.Evaluate.{Want}
 use Rattle.evaluate.specs.Wants.{wanted}
 use Rattle.query.specs.Answers.{told}
 use Rattle.query.specs.Queries.{positionAt, byPosition}
-use Rattle.float_query.specs.Floats.{floatsAt, byFloat, finiteOn, withTen}
+use Rattle.float_query.specs.Floats.{floatsAt, finiteOn, withTen}
 use Rattle.float_query.specs.Answers.{inFloat}
-use Rattle.float_query.proofs.FloatLaws.{Held, held, three-held, ten-done, by-float, by-position-small}
+use Rattle.query.proofs.Locate.{by-position-small}
+use Rattle.float_query.proofs.FloatLaws.{Held, held, three-held, ten-done, by-float}
 use Rattle.float_query.proofs.at_float.Statement.{statement}
 use Rattle.float_query.proofs.at_float.Tie as tie
 

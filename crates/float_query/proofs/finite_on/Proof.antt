@@ -1,6 +1,5 @@
 use mathlib.Core.Path.{_≡_, sym, ap, refl}
 use Prim.Native.Nat.{ℕ, zero, suc}
-use native.Mathlib.Omega.{arith}
 use Rattle.floats.specs.declared.FloatStep.{FloatStep}
 use Rattle.float_query.specs.Floats.{finiteOn}
 use Rattle.float_query.proofs.finite_on.Statement.{statement}

@@ -1,4 +1,4 @@
-use mathlib.Core.Path.{refl, sym, ap, _∙_}
+use mathlib.Core.Path.{sym, ap, _∙_}
 use borrow.Author.Needs.{needs}
 use Rattle.lattice.specs.Answer.{meaning}
 use Rattle.lattice.specs.Shape.{shapeOutcome}

@@ -1,19 +1,10 @@
-use mathlib.Core.Path.{_≡_, ap, subst, _∙_}
-use Prim.Native.Nat.{_≤_, _*_}
-use lib.IntN.{ℤ}
-use lib.Signed.{mag}
-use mir.Syntax.{w32}
-use mir.Val.{Fits}
+use mathlib.Core.Path.{_∙_}
 use denote.Ref.{now}
 use borrow.Author.Needs.{needs}
-use Rattle.arith.specs.Int.{unsignedOf}
-use Rattle.arith.proofs.Machine.{element}
 use Rattle.lattice.specs.Buffer.{at}
 use Rattle.lattice.specs.Shape.{count}
 use Rattle.evaluate.specs.Wants.{wanted}
-use Rattle.hermite.specs.Stage.{steps}
-use Rattle.query.specs.Queries.{cellOf}
-use Rattle.query.proofs.Locate.{Stands, stands-for, cell-below, cell-held, on-axes}
+use Rattle.query.proofs.Locate.{stands-for, cell-below, cell-held, on-axes}
 use Rattle.query.proofs.at_position.Statement.{statement}
 use Rattle.query.proofs.at_position.Tie as tie
 

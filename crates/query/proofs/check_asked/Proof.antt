@@ -11,7 +11,7 @@ use borrow.Author.Tests.{not-true, not-false}
 use Rattle.lattice.specs.declared.Shape.{Shape}
 use Rattle.lattice.specs.Outcome.{done, refuseUnless}
 use Rattle.lattice.specs.Answer.{meaning}
-use Rattle.lattice.specs.Shape.{size, shapeOutcome, Shaped}
+use Rattle.lattice.specs.Shape.{size, shapeOutcome}
 use Rattle.lattice.proofs.ShapeLaws.{shaped, table-shape}
 use Rattle.lattice.proofs.OutcomeLaws.{first-passed, refused-first}
 use Rattle.evaluate.specs.Wants.{wantOf}

@@ -1,6 +1,5 @@
 use mathlib.Core.Path.{refl, sym, _∙_}
 use denote.Ref.{now}
-use borrow.Author.Needs.{needs}
 use Rattle.cell.specs.Cell.{placeAt}
 use Rattle.evaluate.specs.Wants.{wantOf}
 use Rattle.query.proofs.QueryLaws.{Near, near, ready, answered, stopped}
