@@ -1,5 +1,6 @@
 -- `estimate::check_estimate` meets its contract: the shape is tested first, since the other tests need it; the rest is one expression.
-use mathlib.Core.Path.{_≡_, sym, ap, _∙_}
+use mathlib.Core.Path.{_≡_, sym, ap, ap₂, _∙_}
+use Prim.Native.Nat.{ℕ}
 use lib.Dec.{leb, eqb}
 use lib.ListN.{length}
 use denote.Ref.{now}
@@ -32,9 +33,12 @@ unfolding estimateOutcome
 returns-2 c =
     let b = c .before .before .before .before .before .before .before in
     let a = b .before .before .before .args in
-    let xs = a .samples .now in
-    let rest : Check = first (refuseUnless (eqb (length xs) (nodes (a .s))) 4 0) (first (refuseUnless (leb (size (a .s)) (a .room)) 9 0) (limitOutcome 32768 xs)) in
-    let e : meaning (c .earlier2 .result) ≡ rest = cc in
+    let counted = c .before .before .before .before .before in
+    let roomy = c .before .before .before in
+    let rest : Check = first (refuseUnless (eqb (length (a .samples .now)) (nodes (a .s))) 4 0) (first (refuseUnless (leb (size (a .s)) (a .room)) 9 0) (limitOutcome 32768 (a .samples .now))) in
+    let e : meaning (c .earlier2 .result) ≡ rest = c .earlier2 .ensures
+    ∙ ap₂ first (counted .refuse-unless .ensures ∙ ap (λ (n : ℕ). refuseUnless (eqb (length (a .samples .now)) n) 4 0) (counted .before .node-count .ensures))
+    (c .before .earlier .ensures ∙ ap₂ first (roomy .refuse-unless2 .ensures ∙ ap (λ (n : ℕ). refuseUnless (leb n (a .room)) 9 0) (roomy .before .table-entries .ensures)) (c .before .before .check-limit .ensures)) in
     e ∙ sym (first-passed _ rest (sym (b .before .before .check-shape .ensures) ∙ ap meaning (b .enum-told2 .given .1)))
 
 pub check-estimate-spec : {M : Type 1} → statement M
