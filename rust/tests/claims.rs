@@ -129,6 +129,63 @@ fn samples_outside_the_block_do_not_count() {
     }
 }
 
+// The samples of a table that holds a smaller one at its low corner.
+fn grown(random: &mut Random, small: Shape, samples: &[i32], large: Shape) -> Vec<i32> {
+    let [cx, cy, _] = small.counts.map(|count| count as usize);
+    let [wide, high, _] = large.counts.map(|count| count as usize);
+    let mut out = random.samples(large.nodes());
+    for (node, &sample) in samples.iter().enumerate() {
+        let [x, y, z] = [node % cx, node / cx % cy, node / cx / cy];
+        out[x + wide * (y + high * z)] = sample;
+    }
+    out
+}
+
+#[test]
+fn a_table_that_grows_keeps_its_answers() {
+    let mut random = Random::new(5);
+    for (axes, degree) in KINDS {
+        for _ in 0..40 {
+            let small = random.shape(axes, degree, 6);
+            let mut large = small;
+            for count in &mut large.counts[..axes as usize] {
+                *count += random.below(3) as u32;
+            }
+            let samples = random.samples(small.nodes());
+            let wider = grown(&mut random, small, &samples, large);
+            let tables = [
+                Estimated::new(small, &samples),
+                Estimated::new(large, &wider),
+            ];
+            // Both tables have the same nodes of the block of such a cell.
+            let same_block = |cell: &[u32; 3]| {
+                (0..axes as usize).all(|axis| {
+                    small.counts[axis] == large.counts[axis] || cell[axis] + 2 < small.counts[axis]
+                })
+            };
+            for cell in cells(small).into_iter().filter(same_block) {
+                let mut u = [0; 3];
+                u[..axes as usize].fill_with(|| random.below(257) as u32);
+                for along in kinds(axes) {
+                    let [one, two] = tables
+                        .each_ref()
+                        .map(|t| t.ask(Where::Cell(cell, u), along));
+                    assert_eq!(one, two, "{small:?} {large:?} {cell:?} {u:?}");
+                    assert!(one.is_ok());
+                }
+            }
+        }
+    }
+}
+
+#[test]
+fn a_node_after_the_last_cell_counts() {
+    let small = Estimated::new(shape(1, 3, [2, 1, 1]), &[0, 100]);
+    let large = Estimated::new(shape(1, 3, [3, 1, 1]), &[0, 100, 200]);
+    let doses = [small, large].map(|t| t.ask(Where::Cell([0; 3], [192, 0, 0]), None));
+    assert_eq!(doses, [Ok(80), Ok(73)]);
+}
+
 #[test]
 fn every_sample_of_the_block_counts() {
     // A change anywhere in the block shows in some dose or slope of a quintic cell.

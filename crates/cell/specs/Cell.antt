@@ -1,4 +1,4 @@
--- A cell: refusal 14, its corners and refusal 5 on them, where their records stand, and its block.
+-- A cell: refusal 14, its corners and refusal 5 on them, and where their records stand.
 use mathlib.Core.Path.{_≡_}
 use Prim.Native.Nat.{ℕ, zero, suc, _+_, _*_, _/_, _%_, _^_, _≤_, _<_}
 use mathlib.Core.List.{List}
@@ -107,13 +107,7 @@ pub record Small (l : Layout) : Type 0 where
   pub y-low : getD (l .far) 1 0 ≤ 2 ^ 32
   pub z-low : getD (l .far) 2 0 ≤ 2 ^ 32
 
--- ---- the block of a cell, and the numbers of its corners
-
--- on one axis: a node from one below the cell's index to two above it, as far as there is one
-pub record NearCell (count c i : ℕ) : Type 0 where
-  pub low : c ≤ i + 1
-  pub high : i ≤ c + 2
-  pub there : i < count
+-- ---- the numbers of a cell's corners
 
 -- on one axis: a number of one of the cell's two ends
 pub record AtEnds (m c j : ℕ) : Type 0 where

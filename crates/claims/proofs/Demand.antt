@@ -6,13 +6,14 @@ use Prim.Native.Nat.{ℕ, _*_, _≤_, _<_}
 use lib.Dec.{ltb, eqb, lit<}
 use lib.ListN.{length, take}
 use lib.IntN.{ℤ}
-use borrow.Author.Tests.{ltb-true, lt-ltb}
+use borrow.Author.Tests.{ltb-true, lt-ltb, eq-eqb}
 use Rattle.arith.specs.Int.{roundHalfUp}
 use Rattle.arith.proofs.Order.{pos-inj}
 use Rattle.arith.proofs.Round.{half-up-nearly}
 use Rattle.lattice.specs.declared.Shape.{Shape}
 use Rattle.lattice.specs.Outcome.{Outcome, Check, done, refused, refuseUnless, first}
 use Rattle.lattice.specs.Shape.{size, shapeOutcome, Shaped}
+use Rattle.lattice.specs.Axes.{Place}
 use Rattle.lattice.proofs.OutcomeLaws.{first-done, first-passed, first-after, refused-first, done-same, refuse-done, passes}
 use Rattle.lattice.proofs.ShapeLaws.{orders-range}
 use Rattle.estimate.specs.Estimate.{Estimable, tableRecords, recordsOf, estimateOutcome, estimateWrites}
@@ -22,12 +23,12 @@ use Rattle.evaluate.specs.Evaluate.{Want, dose, slopeAlong, lastAxis, answer, a
 use Rattle.query.specs.Queries.{wantOutcome, askedOutcome, reading}
 use Rattle.query.proofs.QueryLaws.{last-used, asked-parts, asked-passes}
 use Rattle.float_query.specs.Answers.{Held, asDose, asSlope, inFloat}
-use Rattle.claims.specs.Third.{Query, queried, cellRead, stepRead, Reads, AcceptedTable, bothCalls, asked, Distance, Agreement, Locality, Askable, NoGap, Claimed, ThirdDemand}
+use Rattle.claims.specs.Third.{Query, queried, cellRead, stepRead, Reads, AcceptedTable, bothCalls, asked, Distance, Agreement, recounted, Locality, Askable, NoGap, Claimed, ThirdDemand}
 use Rattle.claims.proofs.General.{rejoined}
 use Rattle.claims.proofs.Distance.{Proper, distance}
 use Rattle.claims.proofs.Agree.{agreement}
 use Rattle.claims.proofs.Lent.{lent, reading-is, block-local}
-use Rattle.claims.proofs.Gates.{gate, by-gate, gated, gate-passes}
+use Rattle.claims.proofs.Gates.{gate, by-gate, gated, gate-passes, gate-same, step-same}
 
 -- ---- a slope along a used axis
 
@@ -40,6 +41,11 @@ want-passes : (s : Shape) (want : Want) → Askable s want → wantOutcome s wan
 unfolding wantOutcome Askable
 want-passes s dose h = refl
 want-passes s (slopeAlong l) h = passes (ltb l (s .axes)) 12 0 (lt-ltb l (s .axes) h)
+
+want-same : (s : Shape) (counts : List ℕ) (want : Want) → wantOutcome s want ≡ wantOutcome (recounted s counts) want
+unfolding wantOutcome
+want-same s counts dose = refl
+want-same s counts (slopeAlong l) = refl
 
 used-last : (s : Shape) (want : Want) → 1 ≤ s .axes → Askable s want → lastAxis (s .axes) want < s .axes
 used-last s want l h = last-used s want l (want-passes s want h)
@@ -63,6 +69,13 @@ module _ (s : Shape) (xs old : List ℤ) (taken : AcceptedTable s xs old) where
   both-is want q =
       first-passed (estimateOutcome s xs (length old)) (queried s _ want q) taken
       ∙ ap (λ (rs : List ℤ). queried s rs want q) (lent s xs old taken) ∙ by-gate s (recordsOf s xs) want q
+
+  -- of the tests before the query's own, the slope axis alone can be refused
+  asked-is : (want : Want) → askedOutcome s (recordsOf s xs) want ≡ wantOutcome s want
+  unfolding askedOutcome
+  asked-is want =
+      first-passed (shapeOutcome s) _ (known .passed)
+      ∙ first-passed (refuseUnless (eqb (length (recordsOf s xs)) (size s)) 4 0) (wantOutcome s want) (passes _ 4 0 (eq-eqb _ _ (records-length s xs)))
 
   askable-passes : (want : Want) → Askable s want → askedOutcome s (recordsOf s xs) want ≡ done tt
   askable-passes want a = asked-passes s (recordsOf s xs) want (records-length s xs) (known .passed) (want-passes s want a)
@@ -125,20 +138,27 @@ module _ (s : Shape) (xs old : List ℤ) (want : Want) (q : Query) where
       ∙ sym (taken s xs new want r w k .is)
 
   pub third-locality : Locality s xs old want q (bothCalls s xs old want q)
-  unfolding askedOutcome
-  third-locality ys new t u same =
+  third-locality counts ys new t u same e =
       both-is s xs old t want q
-      ∙ ap (λ (n : ℕ). first (tests n) (first (gate s q) (seen s xs want q))) (records-length s xs ∙ sym (records-length s ys))
-      ∙ first-after (tests (length (recordsOf s ys))) (first (gate s q) (seen s xs want q)) (first (gate s q) (seen s ys want q))
-      (λ f. first-after (gate s q) (seen s xs want q) (seen s ys want q)
-      (λ g. let a = asked-known s (recordsOf s ys) want f in
-      read-is s xs old t want q a g
-      ∙ ap done (block-local s xs (length old) (known s xs old t) (cellRead s q) (gated s (known s xs old t .shape) q g .accepted) ys same want (stepRead s q) (used-last s want (known s xs old t .shape .axes-low) a))
-      ∙ sym (read-is s ys new u want q a g)))
-      ∙ sym (both-is s ys new u want q)
+      ∙ ap (λ (c : Check). first c (first (gate s q) (seen s xs want q))) (asked-is s xs old t want ∙ want-same s counts want ∙ sym (asked-is r ys new u want))
+      ∙ ap (λ (c : Check). first (askedOutcome r (recordsOf r ys) want) (first c (seen s xs want q))) gates
+      ∙ first-after (askedOutcome r (recordsOf r ys) want) (first (gate r q) (seen s xs want q)) (first (gate r q) (seen r ys want q))
+      (λ f. first-after (gate r q) (seen s xs want q) (seen r ys want q)
+      (λ g. let a = asked-known r (recordsOf r ys) want f in
+      let h : Askable s want = asked-known s (recordsOf s xs) want (asked-is s xs old t want ∙ want-same s counts want ∙ sym (asked-is r ys new u want) ∙ f) in
+      let p = gates ∙ g in
+      read-is s xs old t want q h p
+      ∙ ap done (block-local s xs (length old) (known s xs old t) (cellRead s q) (gated s (known s xs old t .shape) q p .accepted) counts ys same want (stepRead s q) (used-last s want (known s xs old t .shape .axes-low) h)
+      ∙ ap (λ (c : Place). answer (askAt r want c (stepRead s q)) (tableRecords r ys)) (sym e)
+      ∙ ap (λ (i : Place). answer (askAt r want (cellRead r q) i) (tableRecords r ys)) (sym (step-same s (known s xs old t .shape) counts (known r ys new u .shape) q e)))
+      ∙ sym (read-is r ys new u want q a g)))
+      ∙ sym (both-is r ys new u want q)
     where
-      tests : ℕ → Check
-      tests n = first (shapeOutcome s) (first (refuseUnless (eqb n (size s)) 4 0) (wantOutcome s want))
+      r : Shape
+      r = recounted s counts
+
+      gates : gate s q ≡ gate r q
+      gates = gate-same s (known s xs old t .shape) counts (known r ys new u .shape) q xs ys same e
 
   pub third-no-gap : NoGap s xs old want q (bothCalls s xs old want q)
   third-no-gap t a i = (_, both-done s xs old t want q a (gate-passes s (known s xs old t .shape) q i))

@@ -1,16 +1,17 @@
 -- The tests of 14, 10 and 11 of the three kinds of query: what they say of the query's point and of the cell that it reads, and where they are passed.
-use mathlib.Core.Path.{_≡_, refl, ap, _∙_}
+use mathlib.Core.Path.{_≡_, refl, sym, ap, _∙_}
 use mathlib.Core.Bool.{Bool, true, _&&_}
 use mathlib.Core.List.{List}
 use Prim.Native.Nat.{ℕ, _+_, _*_, _-_, _≤_, _<_}
 use native.Mathlib.Omega.{arith}
 use native.Mathlib.Decide.{decLt}
-use lib.Dec.{leb, ltb, leb→le}
+use lib.Dec.{leb, ltb, eqb, leb→le}
 use lib.Ieee.{Float}
 use lib.Ieee.Scale.{finite}
 use lib.IntN.{ℤ, pos, negsuc, natAbs, _-ℤ_}
 use lib.Signed.{_≤ℤ_, nonNeg}
 use borrow.Author.Tests.{leb-true, le-ltb, le-leb}
+use Rattle.arith.specs.Choice.{pick}
 use Rattle.arith.proofs.Choices.{pick-false}
 use Rattle.arith.proofs.Order.{nn-pos}
 use Rattle.lattice.specs.declared.Shape.{Shape}
@@ -18,17 +19,17 @@ use Rattle.lattice.specs.Outcome.{Check, done, refuseUnless, first, firstOf}
 use Rattle.lattice.specs.Buffer.{at}
 use Rattle.lattice.specs.Shape.{count, Shaped}
 use Rattle.lattice.specs.Axes.{Place, OnUsed}
-use Rattle.lattice.proofs.OutcomeLaws.{first-done, first-passed, first-assoc, refuse-done, passes, firstOf-each, firstOf-passes}
+use Rattle.lattice.proofs.OutcomeLaws.{first-done, first-passed, first-assoc, refuse-done, passes, firstOf-each, firstOf-passes, firstOf-same}
 use Rattle.hermite.specs.Stage.{steps}
-use Rattle.cell.specs.Cell.{placeAt, cellOutcome, Accepted}
+use Rattle.cell.specs.Cell.{placeAt, indexOutcome, cellOutcome, Accepted}
 use Rattle.cell.proofs.CellLaws.{accepted, cell-passes}
 use Rattle.floats.specs.Step.{step}
 use Rattle.evaluate.specs.Evaluate.{Want}
 use Rattle.query.specs.Queries.{Position, positionAt, askedOutcome, testedOutcome, reading, stepsOutcome, positionOutcome, cellOf, positionCell, positionStep, byCell, byPosition}
 use Rattle.query.proofs.QueryLaws.{steps-known, steps-pass, in-cell}
 use Rattle.float_query.specs.Floats.{stepsOf, floatOutcome, byFloat}
-use Rattle.claims.specs.Third.{Query, atPosition, inCell, atFloats, queried, pointOf, cellRead, stepRead, Point, Contains, Inside, Reads}
-use Rattle.claims.proofs.General.{less, le-pos}
+use Rattle.claims.specs.Third.{Query, atPosition, inCell, atFloats, queried, pointOf, cellRead, stepRead, Point, Contains, NearCell, recounted, AgreeOnBlock, Inside, Reads}
+use Rattle.claims.proofs.General.{less, le-pos, leb-same}
 
 -- ---- one form for all queries
 
@@ -162,3 +163,57 @@ module _ (s : Shape) (ok : Shaped s) where
   gate-passes (atPosition xs) h = point-passes s ok (positionAt xs) h
   gate-passes (inCell cell u) h = first-passed (cellOutcome s (placeAt cell)) (stepsOutcome s (placeAt u)) (cell-passes s (placeAt cell) (h .0 .used) (λ a l. h .0 .unused a)) ∙ steps-pass s (placeAt u) (h .1)
   gate-passes (atFloats x) h = floats-pass s x (h .0) (point-passes s ok (stepsOf x) (h .1))
+
+-- ---- a query that reads the same cell in a table of another size
+
+-- a position of one table is a position of the other
+fits : (c d P : ℕ) → 2 ≤ c → 2 ≤ d → cellOf steps d P ≡ cellOf steps c P → P ≤ steps * (c - 1) → P ≤ steps * (d - 1)
+unfolding cellOf
+fits c d P h k e l = omega arith
+
+module _ (s : Shape) (ok : Shaped s) (counts : List ℕ) (sized : Shaped (recounted s counts)) where
+  abbrev t : Shape
+  t = recounted s counts
+
+  positions-same : (p : Position) → positionCell t p ≡ positionCell s p → (a : ℕ) → a < 3 → positionOutcome s p a ≡ positionOutcome t p a
+  unfolding positionOutcome positionCell
+  positions-same p e a l = ap (λ (b : Bool). refuseUnless (nonNeg (p a) && b) 11 a) (go (decLt a (s .axes)))
+    where
+      P : ℕ
+      P = natAbs (p a)
+
+      here : cellOf steps (count t a) P ≡ cellOf steps (count s a) P
+      here = ap (λ (f : Place). f a) e
+
+      go : Dec (a < s .axes) → leb P (steps * (count s a - 1)) ≡ leb P (steps * (count t a - 1))
+      go (yes k) =
+          leb-same P (steps * (count s a - 1)) P (steps * (count t a - 1)) (fits (count s a) (count t a) P (ok .used a k) (sized .used a k) here)
+          (fits (count t a) (count s a) P (sized .used a k) (ok .used a k) (sym here))
+      go (no k) = let n : s .axes ≤ a = omega (arith, k) in rw (ok .unused a l n, sized .unused a l n) refl
+
+  cells-same : (cell : Place) (xs ys : List ℤ) → AgreeOnBlock s t cell xs ys → cellOutcome s cell ≡ cellOutcome t cell
+  unfolding cellOutcome indexOutcome
+  cells-same cell xs ys same = firstOf-same 3 (λ a. indexOutcome s (cell a) a) (λ a. indexOutcome t (cell a) a) (λ a l. ap (λ (b : Bool). refuseUnless b 14 a) (go a (decLt a (s .axes))))
+    where
+      -- the cell's upper node
+      upper : (n d c : ℕ) → (NearCell n c (c + 1) → c + 1 < d) → c + 2 ≤ n → c + 2 ≤ d
+      upper n d c f h = let k = f (record { low = omega arith; high = omega arith; there = omega arith }) in omega arith
+
+      go : (a : ℕ) → Dec (a < s .axes) → pick (ltb a (s .axes)) (leb (cell a + 2) (count s a)) (eqb (cell a) 0) ≡ pick (ltb a (s .axes)) (leb (cell a + 2) (count t a)) (eqb (cell a) 0)
+      go a (yes k) =
+          ap (λ (b : Bool). pick (ltb a (s .axes)) b (eqb (cell a) 0))
+          (leb-same (cell a + 2) (count s a) (cell a + 2) (count t a) (upper (count s a) (count t a) (cell a) (same .there a k (cell a + 1))) (upper (count t a) (count s a) (cell a) (same .back a k (cell a + 1))))
+      go a (no k) = let e = le-ltb a (s .axes) (omega (arith, k)) in pick-false _ _ _ e ∙ sym (pick-false _ _ _ e)
+
+  pub gate-same : (q : Query) (xs ys : List ℤ) → AgreeOnBlock s t (cellRead s q) xs ys → cellRead t q ≡ cellRead s q → gate s q ≡ gate t q
+  unfolding gate cellRead floatOutcome stepsOutcome
+  gate-same (atPosition p) xs ys same e = firstOf-same 3 (positionOutcome s (positionAt p)) (positionOutcome t (positionAt p)) (positions-same (positionAt p) e)
+  gate-same (inCell cell u) xs ys same e = ap (λ (o : Check). first o (stepsOutcome s (placeAt u))) (cells-same (placeAt cell) xs ys same)
+  gate-same (atFloats x) xs ys same e =
+      firstOf-same 3 (floatOutcome s x) (floatOutcome t x) (λ a l. ap (first (refuseUnless (finite (x a)) 10 a)) (positions-same (stepsOf x) e a l))
+
+  pub step-same : (q : Query) → cellRead t q ≡ cellRead s q → stepRead t q ≡ stepRead s q
+  unfolding cellRead stepRead positionStep
+  step-same (atPosition p) e = ap (λ (c : Place). λ a. natAbs (positionAt p a) - steps * c a) e
+  step-same (inCell cell u) e = refl
+  step-same (atFloats x) e = ap (λ (c : Place). λ a. natAbs (stepsOf x a) - steps * c a) e

@@ -1,10 +1,13 @@
 -- General facts of whole numbers.
 use mathlib.Core.Path.{_≡_, sym, ap, _∙_}
 use mathlib.Core.List.{[], _∷_}
-use Prim.Native.Nat.{ℕ, _+_, _≤_}
-use lib.Dec.{le→leb}
+use Prim.Native.Nat.{ℕ, _+_, _≤_, _<_}
+use native.Mathlib.Omega.{arith}
+use lib.Dec.{leb, le→leb}
+use borrow.Author.Tests.{leb-true, leb-false, le-leb}
 use lib.IntN.{ℤ, pos, _+ℤ_, _-ℤ_}
 use lib.Signed.{_≤ℤ_, leZ-yes}
+use Rattle.arith.proofs.Choices.{split}
 use Rattle.arith.proofs.Quote.{quotes, ring! }
 
 pub less : (c u : ℕ) → pos (c + u) -ℤ pos c ≡ pos u
@@ -21,3 +24,12 @@ rejoined z c u e = ap (λ x. pos c +ℤ x) (sym e) ∙ go (pos c) z
 
 pub le-pos : {a b : ℕ} → a ≤ b → pos a ≤ℤ pos b
 le-pos {a} {b} h = leZ-yes (le→leb a b h)
+
+-- two tests that hold together
+pub leb-same : (a b c d : ℕ) → (a ≤ b → c ≤ d) → (c ≤ d → a ≤ b) → leb a b ≡ leb c d
+leb-same a b c d h k =
+    split (leb a b) (λ e. e ∙ sym (le-leb c d (h (leb-true a b e))))
+    (λ e. e ∙ split (leb c d) (λ f. absurd (apart (leb-false a b e) (k (leb-true c d f)))) sym)
+  where
+    apart : b < a → a ≤ b → ⊥
+    apart l m = omega arith

@@ -128,14 +128,22 @@ pub record NearCell (count c i : ℕ) : Type 0 where
 abbrev pub InBlock : Shape → Place → Place → Type 0
 InBlock s cell = OnUsed (s .axes) (λ a i. NearCell (count s a) (cell a) i)
 
--- two tables have the same sample at each node of the block of a cell
-abbrev pub AgreeOnBlock : Shape → Place → List ℤ → List ℤ → Type 0
-AgreeOnBlock s cell xs ys = (p : Place) → InBlock s cell p → samplesField s xs p ≡ samplesField s ys p
+-- a shape with other node counts
+abbrev pub recounted : Shape → List ℕ → Shape
+recounted s counts = record { axes = s .axes; degree = s .degree; counts = counts }
 
--- the answer is that from any table of the shape that agrees on the block of the cell that the query reads
+-- two tables agree on the block of a cell: on each axis both have the same of its nodes, and each of these nodes has the same sample in both
+pub record AgreeOnBlock (s t : Shape) (cell : Place) (xs ys : List ℤ) : Type 0 where
+  pub there : (a : ℕ) → a < s .axes → (i : ℕ) → NearCell (count s a) (cell a) i → i < count t a
+  pub back : (a : ℕ) → a < s .axes → (i : ℕ) → NearCell (count t a) (cell a) i → i < count s a
+  pub samples : (p : Place) → InBlock s cell p → samplesField s xs p ≡ samplesField t ys p
+
+-- a query that reads the same cell in two tables, which agree on its block, has the same answer in both; the tables may differ in size
 abbrev pub Locality : Shape → List ℤ → List ℤ → Want → Query → Outcome ℤ → Type 0
 Locality s xs old want q given =
-    (ys new : List ℤ) → AcceptedTable s xs old → AcceptedTable s ys new → AgreeOnBlock s (cellRead s q) xs ys → given ≡ bothCalls s ys new want q
+    (counts : List ℕ) (ys new : List ℤ) → AcceptedTable s xs old → AcceptedTable (recounted s counts) ys new
+    → AgreeOnBlock s (recounted s counts) (cellRead s q) xs ys → cellRead (recounted s counts) q ≡ cellRead s q
+    → given ≡ bothCalls (recounted s counts) ys new want q
 
 -- ---- no gap
 

@@ -1,6 +1,6 @@
 -- Estimation along one axis is linear; so the order of axes does not matter, entries keep their limits, and an entry reads the samples
 -- at its node and at the neighbours of it only.
-use mathlib.Core.Path.{_≡_, refl, ap, subst}
+use mathlib.Core.Path.{_≡_, refl, sym, ap, subst, _∙_, fun-ext}
 use mathlib.Core.List.{List, [], _∷_}
 use Prim.Native.Nat.{ℕ, zero, suc, _+_, _*_, _/_, _%_, _^_, _≤_, _<_}
 use native.Mathlib.Nat.{le-trans, le-of-eq, mul-le-mul-right, pow-suc, one-le-pow}
@@ -14,7 +14,7 @@ use Rattle.arith.proofs.Quote.{quotes, ring! }
 use Rattle.arith.proofs.Sums.{total-ext}
 use Rattle.arith.specs.Sum.{sum, total}
 use Rattle.lattice.proofs.Along.{put-off, each-axes, Linear, linear-size, distinct-axes, Reordered, sweep-order}
-use Rattle.lattice.proofs.Local.{Depends, linear-depends, sweep-local, used, OnAxis, on-used}
+use Rattle.lattice.proofs.Local.{Depends, linear-depends, sweep-carries, sweep-local, used, OnAxis, on-used}
 use Rattle.lattice.specs.Axes.{Place, Field, put, sweep, axes, OnUsed}
 use Rattle.lattice.specs.Records.{totalOrder}
 use Rattle.estimate.specs.Estimate.{left, right, byOrder, estimate, records, NextTo}
@@ -129,3 +129,12 @@ module _ (m n : ℕ) (count p : Place) (inside : (a : ℕ) → a < n → p a / m
   entry-local none g h eq =
       sweep-local S T (λ a. estimate m (count a)) (axes n) (distinct-axes n) (each-axes n (λ a. Depends (estimate m (count a)) (S a) (T a)) estimate-depends) g h (λ q y. eq q (on-used y)) p
       (record { done = λ b f. (λ l. refl, none b); left = λ b f. (λ l. absurd (used n b l f), none b) })
+
+-- where a node has an upper neighbour with both counts or with neither, its records are the same
+pub entry-recounted : (m n : ℕ) (count other p : Place) → ((a : ℕ) → a < n → right (count a) (p a / m) ≡ right (other a) (p a / m)) → (g : Field) → records m n count g p ≡ records m n other g p
+unfolding records estimate
+entry-recounted m n count other p same g =
+    sweep-carries (λ a s t. (s ≡ p a) × (t ≡ p a)) (λ a s t. s ≡ t) (λ a. estimate m (count a)) (λ a. estimate m (other a)) (axes n) (distinct-axes n)
+    (each-axes n _ (λ a l x y j k e h. ap (estimate m (count a) x) (e .0) ∙ ap (λ (z : ℕ → ℤ). estimate m (count a) z (p a)) (fun-ext (λ s. h s s refl))
+    ∙ ap (λ (r : ℕ). byOrder (p a % m) (y (left (p a / m))) (y (p a / m)) (y r)) (same a l) ∙ sym (ap (estimate m (other a) y) (e .1))))
+    g g (λ q r e. ap g (fun-ext e)) p p (record { done = λ b f. (refl, refl); left = λ b f. refl })
