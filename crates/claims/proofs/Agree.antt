@@ -4,7 +4,8 @@ use mathlib.Core.List.{List}
 use Prim.Native.Nat.{ℕ, _+_, _*_, _≤_, _<_}
 use Rattle.arith.specs.Int.{Rounding}
 use Rattle.lattice.specs.Axes.{Place, Field, Rule, origin, along, sweep, axes, without}
-use Rattle.lattice.proofs.Along.{each-axes, each-without, sweep-rules}
+use Rattle.lattice.proofs.Along.{sweep-rules}
+use Rattle.evaluate.proofs.AnswerLaws.{each-before}
 use Rattle.hermite.proofs.Ends.{stage-point}
 use Rattle.evaluate.specs.Evaluate.{Ask, kindOn, lastAxis, divisorOn, stageOn, toEighth, toUnit, inEighths, before, answerBy}
 use Rattle.claims.proofs.Distance.{Proper}
@@ -25,7 +26,7 @@ module _ (round : Rounding) (q : Ask) (ok : Proper q) (cell step : Place) (insid
       ap (λ (R : Rule). along l (rounded R (8 * divisorOn q l)) (sweep ls (toEighth round q) (inEighths g)) origin) (stage-same l (ok .last))
       ∙ ap (λ (f : Field). along l (toUnit round (elsewhere q cell step) l) f origin)
       (sweep-rules ls (toEighth round q) (toEighth round (elsewhere q cell step)) (inEighths g)
-      (each-without Same l (axes (q .n)) (each-axes (q .n) (λ a. (a ≡ l → ⊥) → Same a) (λ a k n. ap (λ (R : Rule). rounded R (divisorOn q a)) (stage-same a k)))))
+      (each-before q Same (λ a k n. ap (λ (R : Rule). rounded R (divisorOn q a)) (stage-same a k))))
     where
       l : ℕ
       l = lastAxis (q .n) (q .want)

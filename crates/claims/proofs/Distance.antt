@@ -12,14 +12,14 @@ use Rattle.arith.proofs.Abs.{abs-mul, abs-add}
 use Rattle.arith.proofs.Choices.{by-n}
 use Rattle.arith.proofs.Quote.{quotes, ring! }
 use Rattle.arith.proofs.Round.{Nearly}
-use Rattle.lattice.specs.Axes.{Place, Field, Rule, origin, put, along, sweep, axes}
-use Rattle.lattice.proofs.Along.{Linear, linear-size, Each, each-axes, each-without, last-first, times-order, length-order, length-axes}
+use Rattle.lattice.specs.Axes.{Place, Field, Rule, origin, put, along, sweep}
+use Rattle.lattice.proofs.Along.{Linear, linear-size, Each, last-first, times-order, length-order, length-axes}
 use Rattle.hermite.specs.Hermite.{Kind, value, divisor, stageSum}
 use Rattle.hermite.proofs.HermiteLaws.{stage-linear}
 use Rattle.hermite.proofs.Reach.{reach, gain, reach-gain}
 use Rattle.hermite.proofs.Sizes.{divisor-some}
 use Rattle.evaluate.specs.Evaluate.{Want, dose, slopeAlong, Ask, kindOn, lastAxis, divisorOn, exactSum, exactDivisor, stageOn, toEighth, toUnit, inEighths, before, answerBy}
-use Rattle.evaluate.proofs.AnswerLaws.{kind-before, kind-slope}
+use Rattle.evaluate.proofs.AnswerLaws.{kind-before, kind-slope, each-before}
 use Rattle.claims.specs.Third.{allowed, Within}
 use Rattle.claims.proofs.Exact.{exact-last}
 
@@ -141,10 +141,7 @@ module _ (round : Rounding) (nearly : Nearly round) (q : Ask) (ok : Proper q) (g
   -- ---- the last stage
 
   plain : Each Plain (before q)
-  unfolding before
-  plain =
-      each-without Plain (lastAxis (q .n) (q .want)) (axes (q .n))
-      (each-axes (q .n) (λ a. (a ≡ lastAxis (q .n) (q .want) → ⊥) → Plain a) (λ a l n. (kind-before (q .want) a (q .n) n, ok .inside a l)))
+  plain = each-before q Plain (λ a l n. (kind-before (q .want) a (q .n) n, ok .inside a l))
 
   answer-near : 64 * 4 ^ length (before q) * natAbs (answerBy round q g *ℤ pos (exactDivisor q) -ℤ exactSum q g)
       ≤ (32 * 4 ^ length (before q) + gain (kindOn (q .want) (lastAxis (q .n) (q .want))) * error (length (before q))) * exactDivisor q

@@ -11,7 +11,7 @@ use borrow.Author.Tests.{ne-eqb, eq-eqb}
 use Rattle.arith.specs.Int.{Rounding}
 use Rattle.arith.proofs.Choices.{pick-true, pick-false}
 use Rattle.lattice.specs.Axes.{Place, Field, origin, put, along, sweep, axes, without}
-use Rattle.lattice.proofs.Along.{put-at, put-off, each-axes, each-without, Fresh, distinct-axes, distinct-without, fresh-back}
+use Rattle.lattice.proofs.Along.{put-at, put-off, Each, each-axes, each-without, Fresh, Distinct, distinct-axes, distinct-without, fresh-out, fresh-back}
 use Rattle.lattice.proofs.Local.{Depends, linear-depends, sweep-local, used, OnAxis, on-used}
 use Rattle.hermite.specs.Hermite.{value, slope, kindOf, stageSum}
 use Rattle.hermite.proofs.HermiteLaws.{stage-linear}
@@ -35,6 +35,24 @@ pub kind-last : (b : Bool) (a n : ℕ) → kindOf b ≡ kindOn (wantOf b a) (las
 unfolding kindOf kindOn
 kind-last true a n = sym (kind-slope a n)
 kind-last false a n = refl
+
+-- ---- the axes before the last
+
+module _ (q : Ask) where
+  abbrev last-axis : ℕ
+  last-axis = lastAxis (q .n) (q .want)
+
+  pub each-before : (U : ℕ → Type 0) → ((a : ℕ) → a < q .n → (a ≡ last-axis → ⊥) → U a) → Each U (before q)
+  unfolding before
+  each-before U h = each-without U last-axis (axes (q .n)) (each-axes (q .n) (λ a. (a ≡ last-axis → ⊥) → U a) h)
+
+  pub distinct-before : Distinct (before q)
+  unfolding before
+  distinct-before = distinct-without last-axis (axes (q .n)) (distinct-axes (q .n))
+
+  pub fresh-before : Fresh last-axis (before q)
+  unfolding before
+  fresh-before = fresh-out last-axis (axes (q .n))
 
 module _ (round : Rounding) (q : Ask) where
   -- ---- the corners only
@@ -68,9 +86,7 @@ module _ (round : Rounding) (q : Ask) where
   unfolding answerBy before Any Ends inEighths
   answer-local last g h eq =
       unit-depends l last (λ t. sweep ls (toEighth round q) (inEighths g) (put l t origin)) (λ t. sweep ls (toEighth round q) (inEighths h) (put l t origin)) 0 tt
-      (λ t e. sweep-local Any Ends (toEighth round q) ls (distinct-without l (axes (q .n)) (distinct-axes (q .n)))
-      (each-without (λ a. Depends (toEighth round q a) (Any a) (Ends a)) l (axes (q .n))
-      (each-axes (q .n) (λ a. (a ≡ l → ⊥) → Depends (toEighth round q a) (Any a) (Ends a)) (λ a k n. eighth-depends a k)))
+      (λ t e. sweep-local Any Ends (toEighth round q) ls (distinct-before q) (each-before q (λ a. Depends (toEighth round q a) (Any a) (Ends a)) (λ a k n. eighth-depends a k))
       (inEighths g) (inEighths h) (λ p x. ap (λ z. pos 8 *ℤ z) (eq p (on-used x))) (put l t origin)
       (record { done = λ b f. tt; left = λ b f. other t e b f (ℕ-discrete b l) }))
     where

@@ -37,9 +37,10 @@ use Rattle.evaluate.specs.declared.Axis.{Axis}
 use Rattle.evaluate.specs.Evaluate.{Want, Ask, askAt, kindOn, lastAxis, before, answer}
 use Rattle.evaluate.specs.Wants.{wantOf}
 use Rattle.evaluate.specs.Stages.{after, numbersAt, also, stridesOf, Prepared, AllPrepared, Safe, Made, later, AllMade, AllSteps, Workable, WorkedOff, Ready}
+use Rattle.evaluate.proofs.AnswerLaws.{distinct-before, fresh-before}
 use Rattle.evaluate.proofs.EndLaws.{offset-low, offset-high, number-at}
 use Rattle.evaluate.proofs.Sizes.{noughts, orders-left, cap, Plain, reads-size, plain-before, answer-small}
-use Rattle.evaluate.proofs.ByIndex.{Holds, offset-is, counts, AllHeld, Left, index, index-put, placed-put, left-put, got, after-is, index-base, nought, fresh-before, distinct-before, answer-is}
+use Rattle.evaluate.proofs.ByIndex.{Holds, offset-is, counts, AllHeld, Left, index, index-put, placed-put, left-put, got, after-is, index-base, nought, answer-is}
 use mathlib.Core.Bool.{Bool, true, false}
 use Rattle.cell.specs.declared.Layout.{Layout}
 use Rattle.evaluate.specs.declared.Strides.{Strides}
@@ -272,6 +273,7 @@ module _ (s : Shape) (rs : List ℤ) (cell step : Place) (want : Want) (l : Layo
     all-steps (a ∷ ls) (v ∷ ws) h i = (subst (λ (u : ℕ). u ≤ steps) (sym (i .0 .step-is)) (h .0 .step), all-steps ls ws (h .1) (i .1))
 
     pub workable : Workable (l .orders) slope b vs (length rs) (at rs) (l .base)
+    unfolding askAt
     workable =
         subst (λ (m : ℕ). Workable m slope b vs (length rs) (at rs) (l .base)) (sym (ready .laid .orders-are))
         (subst (λ (p : ℕ). Workable m slope b vs (length rs) (at rs) p) (index-base s ok cell here ∙ sym (ready .laid .base-is))
@@ -286,9 +288,9 @@ module _ (s : Shape) (rs : List ℤ) (cell step : Place) (want : Want) (l : Layo
             → Safe m (length rs) (z ∷ xs) (at rs) (place (λ a. 0))
         safe-all z xs hz hx p =
             safe-more (lastAxis (s .axes) want) 8 prior z xs (last-held z hz) (p .0) (others-held xs hx)
-            (fresh-before s ok cell here rs want step) (ready .last) (distinct-before s ok cell here rs want step) plain (λ a. 0)
+            (fresh-before q) (ready .last) (distinct-before q) plain (λ a. 0)
             (nought s ok cell here rs want step)
-            (safe prior xs (others-held xs hx) (p .1) (distinct-before s ok cell here rs want step) plain)
+            (safe prior xs (others-held xs hx) (p .1) (distinct-before q) plain)
 
     pub worked-answer : (r : ℤ) → WorkedOff (l .orders) slope b vs (at rs) (l .base) r → r ≡ answer (askAt s want cell step) (recordsField s rs)
     worked-answer r w =

@@ -16,7 +16,7 @@ use Rattle.lattice.specs.Buffer.{at}
 use Rattle.lattice.specs.Shape.{orders, Shaped}
 use Rattle.lattice.specs.Axes.{Place, Field, put, sweep, axes}
 use Rattle.lattice.specs.Records.{recordsField}
-use Rattle.lattice.proofs.Along.{put-at, put-off, Each, each-axes, each-without, Fresh, fresh-out, Distinct, distinct-axes, distinct-without}
+use Rattle.lattice.proofs.Along.{put-at, put-off, Each, Fresh, Distinct}
 use Rattle.lattice.proofs.ShapeLaws.{orders-range}
 use Rattle.hermite.specs.Hermite.{Kind, kindOf, divisor, stageSum}
 use Rattle.hermite.specs.Stage.{steps}
@@ -26,7 +26,7 @@ use Rattle.cell.proofs.CellLaws.{Numbers, placed, entry-at}
 use Rattle.evaluate.specs.declared.Axis.{Axis}
 use Rattle.evaluate.specs.Evaluate.{Want, Ask, kindOn, lastAxis, stageOn, divisorOn, toEighth, toUnit, inEighths, before, answer, askAt}
 use Rattle.evaluate.specs.Stages.{offsetBy, offsetOf, worked, after}
-use Rattle.evaluate.proofs.AnswerLaws.{answer-anywhere}
+use Rattle.evaluate.proofs.AnswerLaws.{each-before, distinct-before, fresh-before, answer-anywhere}
 use Rattle.evaluate.proofs.EndLaws.{stage-of}
 
 -- ---- one stage
@@ -167,18 +167,6 @@ module _ (s : Shape) (ok : Shaped s) (cell : Place) (here : Accepted s cell) whe
         each [] = tt
         each (a ∷ ls) = (refl, each ls)
 
-    pub used-before : Each (λ a. a < s .axes) (before q)
-    unfolding before askAt
-    used-before = each-without (λ a. a < s .axes) l (axes (s .axes)) (each-axes (s .axes) (λ a. (a ≡ l → ⊥) → a < s .axes) (λ a i n. i))
-
-    pub distinct-before : Distinct (before q)
-    unfolding before askAt
-    distinct-before = distinct-without l (axes (s .axes)) (distinct-axes (s .axes))
-
-    pub fresh-before : Fresh l (before q)
-    unfolding before askAt
-    fresh-before = fresh-out l (axes (s .axes))
-
     pub answer-is : (z : Axis) (xs : List Axis) → l < s .axes → Holds s want step (counts (before q)) 8 l z → AllHeld s want step (before q) xs
         → answer q (recordsField s rs) ≡ after (orders s) (z ∷ xs) (at rs) (base s cell)
     unfolding answer toUnit stageOn divisorOn askAt after
@@ -186,7 +174,7 @@ module _ (s : Shape) (ok : Shaped s) (cell : Place) (here : Accepted s cell) whe
         answer-anywhere roundHalfUp q (recordsField s rs) (placed s cell (λ a. 0)) none
         ∙ ap (roundHalfUp (stageSum (kindOn want l) (orders s) steps (cell l) (step l) X (placed s cell (λ a. 0) l))) (mul-comm 8 (divisor (kindOn want l) (orders s) steps))
         ∙ worked-is hz (cell l) (index (λ a. 0)) (placed s cell (λ a. 0) l) (after (orders s) xs (at rs)) X
-        (λ u k. ap (got (before q)) (placed-put l u (λ a. 0)) ∙ after-is (before q) xs hx distinct-before used-before (put l u (λ a. 0)) (left-put l (before q) u (λ a. 0) fresh-before last k nought)
+        (λ u k. ap (got (before q)) (placed-put l u (λ a. 0)) ∙ after-is (before q) xs hx (distinct-before q) (each-before q (λ a. a < s .axes) (λ a i n. i)) (put l u (λ a. 0)) (left-put l (before q) u (λ a. 0) (fresh-before q) last k nought)
         ∙ ap (λ (i : ℕ). pos (counts (before q)) *ℤ after (orders s) xs (at rs) i) (index-put l u (λ a. 0) (below (ok .axes-high)) refl))
         ∙ ap (worked (orders s) z (after (orders s) xs (at rs))) index-base
       where

@@ -14,14 +14,14 @@ use Rattle.arith.specs.Sum.{total}
 use Rattle.arith.proofs.Round.{Nearly, half-up-nearly}
 use Rattle.arith.proofs.Abs.{abs-mul}
 use Rattle.arith.proofs.Sums.{total-ext}
-use Rattle.lattice.specs.Axes.{Place, Field, put, sweep, axes}
+use Rattle.lattice.specs.Axes.{Place, Field, put, sweep}
 use Rattle.lattice.specs.Records.{totalOrder, entryLimit}
-use Rattle.lattice.proofs.Along.{put-at, put-off, put-swap, Each, each-axes, each-without, Fresh, Distinct, distinct-axes, distinct-without, fresh-out, last-first, length-order, length-axes}
+use Rattle.lattice.proofs.Along.{put-at, put-off, put-swap, Each, Fresh, Distinct, last-first, length-order, length-axes}
 use Rattle.hermite.specs.Hermite.{value}
 use Rattle.hermite.proofs.Sizes.{eighth-size, unit-size}
 use Rattle.cell.specs.Cell.{AtEnds, InCorners}
 use Rattle.evaluate.specs.Evaluate.{Ask, kindOn, lastAxis, divisorOn, stageOn, toEighth, toUnit, inEighths, before, answerBy, answer}
-use Rattle.evaluate.proofs.AnswerLaws.{kind-before, answer-anywhere}
+use Rattle.evaluate.proofs.AnswerLaws.{kind-before, each-before, distinct-before, fresh-before, answer-anywhere}
 
 -- ---- orders that are 0 on the axes worked off
 
@@ -182,18 +182,7 @@ module _ (round : Rounding) (nearly : Nearly round) (q : Ask) (m2 : 2 ≤ q .m) 
     corner-in = record { used = λ a i. record { low = omega arith; high = omega arith }; unused = corner-none }
 
     pub plain-before : Each Plain (before q)
-    unfolding before
-    plain-before =
-        each-without Plain l (axes (q .n))
-        (each-axes (q .n) (λ a. (a ≡ l → ⊥) → Plain a) (λ a i n. record { plain = kind-before (q .want) a (q .n) n; step = steps-in a i; used = i }))
-
-    pub distinct-before : Distinct (before q)
-    unfolding before
-    distinct-before = distinct-without l (axes (q .n)) (distinct-axes (q .n))
-
-    pub fresh-before : Fresh l (before q)
-    unfolding before
-    fresh-before = fresh-out l (axes (q .n))
+    plain-before = each-before q Plain (λ a i n. record { plain = kind-before (q .want) a (q .n) n; step = steps-in a i; used = i })
 
     pub stages-before : q .n ≡ suc (length (before q))
     unfolding before
@@ -205,12 +194,12 @@ module _ (round : Rounding) (nearly : Nearly round) (q : Ask) (m2 : 2 ≤ q .m) 
     answer-size =
         le-trans (le-of-eq (ap natAbs (answer-anywhere round q g corner corner-none)))
         (unit-size (kindOn (q .want) l) (q .m) (q .N) (q .cell l) (q .step l) (λ t. got (before q) (put l t corner)) (bound (before q) (put l 0 corner))
-        (reads-size (before q) distinct-before plain-before l fresh-before last corner corner-in) round nearly m2 m3 some (steps-in l last) (corner l))
+        (reads-size (before q) (distinct-before q) plain-before l (fresh-before q) last corner corner-in) round nearly m2 m3 some (steps-in l last) (corner l))
 
     no-order : totalOrder (q .m) (q .n) (noughts (before q) (put l 0 corner)) ≡ 0
     unfolding noughts
     no-order =
-        let h = orders-left (q .m) (q .n) m2 (l ∷ before q) (fresh-before, distinct-before) (last, below (before q) plain-before) corner in
+        let h = orders-left (q .m) (q .n) m2 (l ∷ before q) (fresh-before q, distinct-before q) (last, below (before q) plain-before) corner in
         let e = stages-before in
         let f : (q .m - 1) * q .n ≡ (q .m - 1) * suc (length (before q)) = ap (λ (i : ℕ). (q .m - 1) * i) e in
         omega arith
