@@ -2,7 +2,7 @@
 -- the answer of the definition.
 use mathlib.Core.Path.{_≡_, refl, sym, ap, ap₂, subst, _∙_, fun-ext}
 use mathlib.Core.List.{List, [], _∷_}
-use Prim.Native.Nat.{ℕ, zero, suc, _+_, _*_, _-_, _%_, _^_, _≤_, _<_}
+use Prim.Native.Nat.{ℕ, suc, _+_, _*_, _-_, _%_, _^_, _≤_, _<_}
 use native.Mathlib.Nat.{lt-of-lt-of-le, le-trans, le-of-eq, mul-le-mul-left, mod-eq-of-lt, add-mod-left, le-of-mul-le-mul-left}
 use native.Mathlib.Omega.{arith}
 use native.Mathlib.Decide.{decLt}
@@ -17,7 +17,7 @@ use mir.Facts.{toZ-ofZ}
 use Rattle.arith.specs.Int.{roundHalfUp}
 use Rattle.arith.proofs.Abs.{abs-mul, sfits-abs}
 use Rattle.arith.proofs.Machine.{read}
-use Rattle.arith.proofs.Choices.{pick-true, by-m}
+use Rattle.arith.proofs.Choices.{pick-true, by-m, by-3}
 use borrow.Author.Tests.{lt-ltb}
 use Rattle.arith.proofs.Round.{half-up-nearly}
 use Rattle.lattice.specs.declared.Shape.{Shape}
@@ -325,16 +325,7 @@ module _ (s : Shape) (rs : List ℤ) (cell step : Place) (want : Want) (l : Layo
 module _ (s : Shape) (cell : Place) (xs : List ℕ) (l : Layout) (laid : Laid s cell l) where
   pub is-axis : (a : ℕ) → a < 3 → IsAxis s (placeAt xs) a (stridesOf (getD xs a 0) (getD (l .far) a 0) (l .orders ^ a))
   unfolding placeAt near
-  is-axis a h = record { step-is = sym (pick-true (ltb a 3) (getD xs a 0) 0 (lt-ltb a 3 h)); far-is = strides a h; near-is = ap (λ (m : ℕ). m ^ a) (laid .orders-are) }
-    where
-      strides : (a : ℕ) → a < 3 → getD (l .far) a 0 ≡ far s a
-      strides zero h = laid .far-x
-      strides (suc zero) h = laid .far-y
-      strides (suc (suc zero)) h = laid .far-z
-      strides (suc (suc (suc a))) h = absurd (none a h)
-        where
-          none : (a : ℕ) → suc (suc (suc a)) < 3 → ⊥
-          none a h = omega arith
+  is-axis a h = record { step-is = sym (pick-true (ltb a 3) (getD xs a 0) 0 (lt-ltb a 3 h)); far-is = by-3 (λ a. getD (l .far) a 0 ≡ far s a) (laid .far-x) (laid .far-y) (laid .far-z) a h; near-is = ap (λ (m : ℕ). m ^ a) (laid .orders-are) }
 
 -- two axes, and a third between them where there is one
 pub are-axes : (s : Shape) (step : Place) (three : Bool) (i j : ℕ) (a b : Strides) → IsAxis s step i a → IsAxis s step j b → AreAxes s step (also three j (i ∷ [])) (also three b (a ∷ []))

@@ -1,7 +1,7 @@
 -- The stages by index in the records are those of the definition: number t of a cell stands at its base plus its offset on each axis.
 use mathlib.Core.Path.{_≡_, refl, sym, ap, ap₂, subst, _∙_, fun-ext}
 use mathlib.Core.List.{List, [], _∷_}
-use Prim.Native.Nat.{ℕ, zero, suc, _+_, _*_, _/_, _%_, _^_, _≤_, _<_}
+use Prim.Native.Nat.{ℕ, _+_, _*_, _/_, _%_, _^_, _≤_, _<_}
 use native.Mathlib.Nat.{zero-div, zero-mod, mul-one, mul-comm}
 use lib.Pow.{pow-pos}
 use native.Mathlib.Omega.{arith}
@@ -9,6 +9,7 @@ use native.Mathlib.Decide.{ℕ-discrete}
 use lib.IntN.{ℤ, pos, _*ℤ_}
 use Rattle.arith.specs.Int.{roundHalfUp}
 use Rattle.arith.specs.Choice.{pick}
+use Rattle.arith.proofs.Choices.{by-3}
 use Rattle.arith.proofs.Laws.{pos-one-*ℤ}
 use Rattle.arith.proofs.Round.{round-common}
 use Rattle.lattice.specs.declared.Shape.{Shape}
@@ -89,13 +90,8 @@ module _ (s : Shape) (ok : Shaped s) (cell : Place) (here : Accepted s cell) whe
 
   pub index-put : (a u : ℕ) (t : Place) → a < 3 → t a ≡ 0 → index (put a u t) ≡ index t + offset s a u
   unfolding index put pick
-  index-put zero u t l e = rw (e, offset-none 0) (omega arith)
-  index-put (suc zero) u t l e = rw (e, offset-none 1) (omega arith)
-  index-put (suc (suc zero)) u t l e = rw (e, offset-none 2) (omega arith)
-  index-put (suc (suc (suc a))) u t l e = absurd (beyond a l)
-    where
-      beyond : (a : ℕ) → suc (suc (suc a)) < 3 → ⊥
-      beyond a h = omega arith
+  index-put a u t = by-3 (λ a. t a ≡ 0 → index (put a u t) ≡ index t + offset s a u)
+      (λ e. rw (e, offset-none 0) (omega arith)) (λ e. rw (e, offset-none 1) (omega arith)) (λ e. rw (e, offset-none 2) (omega arith)) a
 
   pub index-base : index (λ a. 0) ≡ base s cell
   unfolding index

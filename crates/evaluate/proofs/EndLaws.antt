@@ -1,7 +1,7 @@
 -- The numbers of the two ends of a stage, by index: what a stage of the code makes of them is the stage by index.
 use mathlib.Core.Path.{_≡_, sym, ap, ap₂, subst, _∙_}
 use mathlib.Core.List.{List, [], _∷_}
-use Prim.Native.Nat.{ℕ, zero, suc, _+_, _*_, _-_, _/_, _^_, _≤_, _<_}
+use Prim.Native.Nat.{ℕ, _+_, _*_, _-_, _/_, _^_, _≤_, _<_}
 use native.Mathlib.Nat.{mod-eq-of-lt, add-mod-left, div-eq-of-lt, add-div-left, le-trans, le-of-eq}
 use native.Mathlib.Omega.{arith}
 use native.Mathlib.Decide.{decLt}
@@ -9,7 +9,7 @@ use lib.Dec.{ltb, lit<}
 use lib.IntN.{ℤ, pos, _*ℤ_, natAbs}
 use borrow.Author.Tests.{lt-ltb, le-ltb}
 use Rattle.arith.specs.Int.{roundHalfUp}
-use Rattle.arith.proofs.Choices.{pick-true, pick-false}
+use Rattle.arith.proofs.Choices.{pick-true, pick-false, by-3}
 use Rattle.arith.proofs.Sums.{sum-ext, total-ext}
 use Rattle.lattice.specs.Buffer.{at}
 use Rattle.hermite.specs.declared.Basis.{Basis}
@@ -55,13 +55,9 @@ number-none m g p near o h = pick-false (ltb o m) (g (p + o * near)) (pos 0) (le
 -- the numbers of an end as an array
 pub end-numbers : (m : ℕ) (g : ℕ → ℤ) (p near : ℕ) (a b c : ℤ) → 2 ≤ m → a ≡ g p → b ≡ g (p + near) → c ≡ numbersAt m g p near 2
     → (o : ℕ) → o < 3 → at (a ∷ b ∷ c ∷ []) o ≡ numbersAt m g p near o
-end-numbers m g p near a b c h ea eb ec zero l = ea ∙ ap g (omega arith) ∙ sym (number-at m g p near 0 (omega arith))
-end-numbers m g p near a b c h ea eb ec (suc zero) l = eb ∙ ap g (omega arith) ∙ sym (number-at m g p near 1 (omega arith))
-end-numbers m g p near a b c h ea eb ec (suc (suc zero)) l = ec
-end-numbers m g p near a b c h ea eb ec (suc (suc (suc o))) l = absurd (none o l)
-  where
-    none : (o : ℕ) → suc (suc (suc o)) < 3 → ⊥
-    none o l = omega arith
+end-numbers m g p near a b c h ea eb ec =
+    by-3 (λ o. at (a ∷ b ∷ c ∷ []) o ≡ numbersAt m g p near o) (ea ∙ ap g (omega arith) ∙ sym (number-at m g p near 0 (omega arith)))
+    (eb ∙ ap g (omega arith) ∙ sym (number-at m g p near 1 (omega arith))) ec
 
 -- ---- the ends as a stage takes them
 

@@ -11,6 +11,7 @@ use lib.Pow.{pow-add}
 use lib.IntN.{pos, natAbs}
 use Rattle.arith.specs.Int.{Rounding, roundHalfUp}
 use Rattle.arith.specs.Sum.{total}
+use Rattle.arith.proofs.Choices.{by-3}
 use Rattle.arith.proofs.Round.{Nearly, half-up-nearly}
 use Rattle.arith.proofs.Abs.{abs-mul}
 use Rattle.arith.proofs.Sums.{total-ext}
@@ -208,15 +209,9 @@ module _ (round : Rounding) (nearly : Nearly round) (q : Ask) (m2 : 2 ≤ q .m) 
         below [] h = tt
         below (a ∷ ls) h = (h .0 .used, below ls (h .1))
 
-    few : (k : ℕ) → suc k ≤ 3 → 2 * (cap k * 2 ^ 0) < 2 ^ 24
+    few : (k : ℕ) → k < 3 → 2 * (cap k * 2 ^ 0) < 2 ^ 24
     unfolding cap
-    few zero h = lit≤ tt
-    few (suc zero) h = lit≤ tt
-    few (suc (suc zero)) h = lit≤ tt
-    few (suc (suc (suc k))) h = absurd (too-many k h)
-      where
-        too-many : (k : ℕ) → suc (suc (suc (suc k))) ≤ 3 → ⊥
-        too-many k h = omega arith
+    few = by-3 (λ k. 2 * (cap k * 2 ^ 0) < 2 ^ 24) (lit≤ tt) (lit≤ tt) (lit≤ tt)
 
     pub answer-below : q .n ≤ 3 → natAbs (answerBy round q g) < 2 ^ 24
     answer-below n3 =

@@ -2,7 +2,7 @@
 use mathlib.Core.Path.{_≡_, refl, sym, ap, subst, _∙_}
 use mathlib.Core.Bool.{Bool, true, false}
 use mathlib.Core.List.{List, [], _∷_}
-use Prim.Native.Nat.{ℕ, zero, suc, _+_, _*_, _-_, _^_, _≤_, _<_}
+use Prim.Native.Nat.{ℕ, _+_, _*_, _-_, _^_, _≤_, _<_}
 use native.Mathlib.Nat.{le-trans, le-of-eq}
 use native.Mathlib.Omega.{arith}
 use native.Mathlib.Decide.{ℕ-discrete, decLt}
@@ -11,6 +11,7 @@ use lib.IntN.{ℤ, pos}
 use lib.ListN.{length, set}
 use lib.Seq.{getD-set-same, getD-set-other}
 use Rattle.arith.specs.Choice.{pick}
+use Rattle.arith.proofs.Choices.{by-m, by-2, by-3}
 use Rattle.lattice.specs.Buffer.{at}
 use Rattle.lattice.specs.Axes.{axes, without}
 use Rattle.hermite.specs.Stage.{steps, load, shiftOf}
@@ -105,25 +106,9 @@ module _ (m n : ℕ) (z : Axis) (xs : List Axis) (g : ℕ → ℤ) (p : ℕ) (m2
 -- the axes before the last, the last of them first
 pub axes-before : (n a : ℕ) → 2 ≤ n → n ≤ 3 → a < n → without a (axes n) ≡ also (eqb n 3) (beside 2 a) (beside 0 a ∷ [])
 unfolding axes without pick beside
-axes-before zero a h k l = absurd (omega arith)
-axes-before (suc zero) a h k l = absurd (omega arith)
-axes-before (suc (suc zero)) zero h k l = refl
-axes-before (suc (suc zero)) (suc zero) h k l = refl
-axes-before (suc (suc zero)) (suc (suc a)) h k l = absurd (none a l)
-  where
-    none : (a : ℕ) → suc (suc a) < 2 → ⊥
-    none a l = omega arith
-axes-before (suc (suc (suc zero))) zero h k l = refl
-axes-before (suc (suc (suc zero))) (suc zero) h k l = refl
-axes-before (suc (suc (suc zero))) (suc (suc zero)) h k l = refl
-axes-before (suc (suc (suc zero))) (suc (suc (suc a))) h k l = absurd (none a l)
-  where
-    none : (a : ℕ) → suc (suc (suc a)) < 3 → ⊥
-    none a l = omega arith
-axes-before (suc (suc (suc (suc n)))) a h k l = absurd (none n k)
-  where
-    none : (n : ℕ) → suc (suc (suc (suc n))) ≤ 3 → ⊥
-    none n k = omega arith
+axes-before n a h k l =
+    by-m (λ n. a < n → without a (axes n) ≡ also (eqb n 3) (beside 2 a) (beside 0 a ∷ []))
+    (by-2 (λ a. without a (axes 2) ≡ also (eqb 2 3) (beside 2 a) (beside 0 a ∷ [])) refl refl a) (by-3 (λ a. without a (axes 3) ≡ also (eqb 3 3) (beside 2 a) (beside 0 a ∷ [])) refl refl refl a) n h k l
 
 pub beside-low : (outer a : ℕ) → outer < 3 → beside outer a < 3
 unfolding beside pick
