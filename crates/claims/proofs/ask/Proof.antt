@@ -1,3 +1,4 @@
+-- `claims::ask` meets its contract: each case gives what its query gives.
 use mathlib.Core.Path.{sym, ap, _∙_}
 use denote.Ref.{now}
 use Rattle.evaluate.specs.Wants.{wanted}

@@ -1,3 +1,4 @@
+-- `claims::by_position` meets its contract: the three numbers of the struct are those of the array.
 use mathlib.Core.Path.{_≡_, ap, ap₂, _∙_}
 use mathlib.Core.List.{List, [], _∷_}
 use lib.IntN.{ℤ}

@@ -1,3 +1,4 @@
+-- `evaluate::axis_of` meets its contract: what it holds of the axis is what it was given, with the basis of its step and the shift of its rounding.
 use mathlib.Core.Path.{refl, sym, subst}
 use Prim.Native.Nat.{ℕ, _≤_}
 use borrow.Author.Needs.{needs}

@@ -1,3 +1,4 @@
+-- `evaluate::both_stages` meets its contract: the second stage with m as a literal is the one with m.
 use mathlib.Core.Path.{_≡_, refl, _∙_}
 use native.Mathlib.Omega.{arith}
 use lib.ListN.{length}

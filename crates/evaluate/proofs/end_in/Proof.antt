@@ -1,3 +1,4 @@
+-- `evaluate::end_in` meets its contract: each number is an entry of the records, the third 0 where there is none.
 use Rattle.lattice.specs.Buffer.{at}
 use Rattle.arith.proofs.Machine.{read}
 use Rattle.evaluate.proofs.EndLaws.{number-at, number-none, end-numbers}

@@ -1,3 +1,4 @@
+-- `evaluate::ends_of` meets its contract: the numbers of each end are read off in turn, the third 0 where there is none.
 use mathlib.Core.Path.{_≡_, refl, sym, ap, _∙_}
 use mathlib.Core.List.{[], _∷_}
 use Prim.Native.Nat.{ℕ, _+_, _<_}

@@ -1,3 +1,4 @@
+-- `evaluate::entry` meets its contract: an entry fits 64 bits.
 use Rattle.arith.proofs.Machine.{widen-fits, widened}
 use lib.ListN.{getD}
 use lib.IntN.{pos}

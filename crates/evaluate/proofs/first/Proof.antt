@@ -1,3 +1,4 @@
+-- `evaluate::first` meets its contract: both ends are read from the records, and the stage is that of the axis.
 use mathlib.Core.List.{[]}
 use Rattle.lattice.specs.Buffer.{at}
 use Rattle.arith.specs.Int.{roundHalfUp}

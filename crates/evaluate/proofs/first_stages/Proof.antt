@@ -1,3 +1,4 @@
+-- `evaluate::first_stages` meets its contract: the second stage with m and its shift as literals is the one with m.
 use mathlib.Core.Path.{_≡_, sym, ap, _∙_}
 use mathlib.Core.Bool.{true, false}
 use Prim.Native.Nat.{ℕ}

@@ -1,3 +1,4 @@
+-- `evaluate::in_order` meets its contract: the last axis is one of three, each with its own case.
 use mathlib.Core.Path.{_≡_, refl, sym, subst}
 use Prim.Native.Nat.{ℕ}
 use native.Mathlib.Omega.{arith}

@@ -1,3 +1,4 @@
+-- `evaluate::last_axis` meets its contract: a slope has its own axis, a dose the last.
 use mathlib.Core.Path.{sym, ap}
 use mathlib.Core.Bool.{Bool}
 use Rattle.evaluate.specs.Evaluate.{lastAxis}

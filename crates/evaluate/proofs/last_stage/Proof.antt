@@ -1,3 +1,4 @@
+-- `evaluate::last_stage` meets its contract: the kind as a literal is the kind.
 use mathlib.Core.Path.{sym, subst}
 use mathlib.Core.Bool.{Bool, true, false}
 use borrow.Author.Needs.{needs}

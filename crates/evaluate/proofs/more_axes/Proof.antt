@@ -1,3 +1,4 @@
+-- `evaluate::more_axes` meets its contract: the stages of two axes, or of three, are worked off one above the other.
 use mathlib.Core.Path.{_≡_, _∙_}
 use mathlib.Core.Bool.{true}
 use Prim.Native.Nat.{_≤_}

@@ -1,3 +1,4 @@
+-- `evaluate::one_axis` meets its contract: the stage of the only axis goes from units to units.
 use mathlib.Core.Path.{refl}
 use mathlib.Core.List.{[]}
 use borrow.Author.Needs.{needs}

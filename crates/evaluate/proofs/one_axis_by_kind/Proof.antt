@@ -1,3 +1,4 @@
+-- `evaluate::one_axis_by_kind` meets its contract: m and the kind as literals are m and the kind.
 use mathlib.Core.Path.{_≡_, sym, subst}
 use mathlib.Core.Bool.{Bool, true, false}
 use mathlib.Core.List.{[]}

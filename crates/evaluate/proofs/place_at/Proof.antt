@@ -1,3 +1,4 @@
+-- `evaluate::place_at` meets its contract: a number of the low end stands before the stride to the high one, one of the high end behind it.
 use mathlib.Core.Path.{_≡_, sym, ap, _∙_}
 use Prim.Native.Nat.{ℕ, _+_, _*_, _-_, _≤_, _<_}
 use native.Mathlib.Omega.{arith}

@@ -1,3 +1,4 @@
+-- `evaluate::places_of` meets its contract: each place is found by itself; of cubic there are four.
 use mathlib.Core.Path.{_≡_}
 use mathlib.Core.List.{[], _∷_}
 use Prim.Native.Nat.{ℕ, zero, suc, _*_, _^_, _≤_, _<_}

@@ -1,3 +1,4 @@
+-- `evaluate::strides_of` meets its contract: the axis is one of three, each with its own case.
 use mathlib.Core.Path.{_≡_, sym, ap, _∙_}
 use Prim.Native.Nat.{ℕ, _*_, _^_, _≤_}
 use native.Mathlib.Nat.{pow-zero, mul-le-mul}

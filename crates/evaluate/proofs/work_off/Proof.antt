@@ -1,3 +1,4 @@
+-- `evaluate::work_off` meets its contract: the ends that it takes apart are those of the stage, which is then the one of the definition.
 use mathlib.Core.Path.{sym, ap, subst, _∙_}
 use Prim.Native.Nat.{ℕ, _+_, _^_, _≤_}
 use native.Mathlib.Nat.{le-trans, le-of-eq}

@@ -1,3 +1,4 @@
+-- `float_query::at_float` meets its contract: the query by position at the held steps, told with 10 for 11, is the query by float.
 use mathlib.Core.Path.{_≡_, sym, ap, _∙_}
 use mathlib.Core.Bool.{Bool}
 use mathlib.Core.List.{List}

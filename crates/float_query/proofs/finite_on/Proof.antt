@@ -1,3 +1,4 @@
+-- `float_query::finite_on` meets its contract: the axis is one of three, each with its own float.
 use mathlib.Core.Path.{_≡_, sym, ap, refl}
 use Prim.Native.Nat.{ℕ, zero, suc}
 use Rattle.floats.specs.declared.FloatStep.{FloatStep}

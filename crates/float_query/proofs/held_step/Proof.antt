@@ -1,3 +1,4 @@
+-- `float_query::held_step` meets its contract: the step where the float is finite, else one below 0.
 use mathlib.Core.Path.{sym, _∙_}
 use lib.IntN.{negsuc}
 use Rattle.arith.proofs.Choices.{pick-true, pick-false}

@@ -1,3 +1,4 @@
+-- `float_query::in_float` meets its contract: each case says what the whole-number answer says, the number held by its float.
 use mathlib.Core.Path.{_≡_, sym, ap, subst, _∙_}
 use mathlib.Core.Bool.{Bool}
 use mathlib.Core.Option.{some}

@@ -1,3 +1,4 @@
+-- `float_query::with_ten` meets its contract: 11 becomes 10 where the float on the place of the refusal is not finite.
 use mathlib.Core.Path.{_≡_, refl, sym, ap, _∙_}
 use mathlib.Core.Bool.{Bool, true, false}
 use mathlib.Core.Logic.{⊎-elim}

@@ -1,3 +1,4 @@
+-- `lukhtari::done_of` meets its contract: each case has its number and place.
 use Rattle.lukhtari.specs.Host.{doneOf}
 use Rattle.lattice.specs.Answer.{meaning}
 use mathlib.Core.Path.{sym, ap}

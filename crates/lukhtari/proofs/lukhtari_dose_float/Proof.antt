@@ -1,3 +1,4 @@
+-- `lukhtari::lukhtari_dose_float` meets its contract: the struct holds the float that the query without a slope axis gives.
 use mathlib.Core.Path.{ap, _∙_}
 use denote.Ref.{now}
 use Rattle.evaluate.specs.Evaluate.{dose}

@@ -1,3 +1,4 @@
+-- `lukhtari::lukhtari_dose_in_cell` meets its contract: the struct says what the query without a slope axis says.
 use mathlib.Core.Path.{ap, _∙_}
 use Rattle.lukhtari.specs.Host.{wholeFrom}
 use borrow.Author.Needs.{needs}

@@ -1,3 +1,4 @@
+-- `lukhtari::lukhtari_slope_float` meets its contract: the struct holds the float that the query along the axis gives.
 use mathlib.Core.Path.{ap, _∙_}
 use denote.Ref.{now}
 use Rattle.evaluate.specs.Evaluate.{slopeAlong}

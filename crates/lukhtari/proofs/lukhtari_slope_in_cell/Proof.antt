@@ -1,3 +1,4 @@
+-- `lukhtari::lukhtari_slope_in_cell` meets its contract: the struct says what the query along the axis says.
 use mathlib.Core.Path.{ap, _∙_}
 use Rattle.lukhtari.specs.Host.{wholeFrom}
 use borrow.Author.Needs.{needs}

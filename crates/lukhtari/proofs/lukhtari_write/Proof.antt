@@ -1,3 +1,4 @@
+-- `lukhtari::lukhtari_write` meets its contract: the struct says what the answer says, and the slice is that of the call.
 use Rattle.lukhtari.specs.Host.{writtenFrom}
 use mathlib.Core.Path.{ap, _∙_}
 use borrow.Author.Needs.{needs}

@@ -1,3 +1,4 @@
+-- `lukhtari::real_of` meets its contract: each case has its number and place, and its float or 0.
 use mathlib.Core.Path.{_≡_, refl, sym, ap, _∙_}
 use mathlib.Core.Option.{Option, some}
 use lib.Ieee.{ofBits, binary32}

@@ -1,3 +1,4 @@
+-- `lukhtari::table_of` meets its contract: each case has its number and place, and its counts or 0.
 use Rattle.lukhtari.specs.Host.{tableFrom}
 use Rattle.table_file.specs.Answers.{tableMeaning}
 use mathlib.Core.Path.{sym, ap}

@@ -1,3 +1,4 @@
+-- `lukhtari::whole_of` meets its contract: each case has its number and place, and its value or 0.
 use mathlib.Core.Path.{sym, ap, _∙_}
 use lib.IntN.{ℤ}
 use mir.Syntax.{w32}

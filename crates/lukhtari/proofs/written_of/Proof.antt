@@ -1,3 +1,4 @@
+-- `lukhtari::written_of` meets its contract: each case has its number and place, and its length or 0.
 use Rattle.lukhtari.specs.Host.{writtenFrom}
 use Rattle.table_file.specs.Answers.{writeMeaning}
 use mathlib.Core.Path.{sym, ap}

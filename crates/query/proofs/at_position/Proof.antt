@@ -1,3 +1,4 @@
+-- `query::at_position` meets its contract: the cells and steps are those of the position, read by two's complement.
 use mathlib.Core.Path.{_∙_}
 use denote.Ref.{now}
 use borrow.Author.Needs.{needs}

@@ -1,3 +1,4 @@
+-- `query::beyond` meets its contract: where the limit test is not passed, its search finds the refusal.
 use mathlib.Core.Path.{sym, ap, _∙_}
 use Rattle.lattice.specs.Answer.{meaning}
 use Rattle.lattice.proofs.OutcomeLaws.{refused-first, passed-not}

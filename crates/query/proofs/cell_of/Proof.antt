@@ -1,3 +1,4 @@
+-- `query::cell_of` meets its contract: the smaller of two numbers.
 use mathlib.Core.Logic.{⊎-elim}
 use Rattle.query.proofs.Locate.{low-cell, last-cell}
 use native.Mathlib.Omega.{arith}

@@ -1,3 +1,4 @@
+-- `query::check_asked` meets its contract: 2 and 3, then 4, then 12; each stops at a refusal.
 use mathlib.Core.Path.{_≡_, refl, sym, ap, _∙_}
 use mathlib.Core.Bool.{Bool, true, false}
 use mathlib.Core.List.{List}

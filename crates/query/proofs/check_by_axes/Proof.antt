@@ -1,3 +1,4 @@
+-- `query::check_by_axes` meets its contract: the number of axes as a literal is the number of axes; any other is refused 1.
 use mathlib.Core.Path.{sym, _∙_}
 use native.Mathlib.Omega.{arith}
 use borrow.Author.Needs.{needs}

@@ -1,3 +1,4 @@
+-- `query::check_step` meets its contract: the tests of a used and of an unused axis.
 use borrow.Author.Needs.{needs}
 use Rattle.query.proofs.check_step.Statement.{statement}
 use Rattle.query.proofs.check_step.Tie as tie

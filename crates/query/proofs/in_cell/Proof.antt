@@ -1,3 +1,4 @@
+-- `query::in_cell` meets its contract: the six numbers are those of the two arrays.
 use mathlib.Core.Path.{ap₂, _∙_}
 use denote.Ref.{now}
 use borrow.Author.Needs.{needs}

@@ -1,3 +1,4 @@
+-- `query::read` meets its contract: the tests, and then what is read of the cell.
 use mathlib.Core.Path.{_≡_, refl, sym, ap, _∙_}
 use mathlib.Core.List.{List, [], _∷_}
 use Prim.Native.Nat.{_≤_}

@@ -1,3 +1,4 @@
+-- `query::read_lattice` meets its contract: within the limits the stages are the answer, else the refusal is 5.
 use mathlib.Core.Path.{refl, sym, _∙_}
 use denote.Ref.{now}
 use Rattle.cell.specs.Cell.{placeAt}

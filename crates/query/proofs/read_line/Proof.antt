@@ -1,3 +1,4 @@
+-- `query::read_line` meets its contract: within the limits the stage is the answer, else the refusal is 5.
 use mathlib.Core.Path.{sym, _∙_}
 use denote.Ref.{now}
 use Rattle.cell.specs.Cell.{placeAt}
