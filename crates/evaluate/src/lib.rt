@@ -46,12 +46,6 @@ pub struct Order {
     pub last: Strides,
 }
 
-// The numbers of both ends of an axis.
-pub struct Ends {
-    pub low: [i64; 3],
-    pub high: [i64; 3],
-}
-
 // The stage of an axis whose numbers come and go in units, or in eighths where `from` or `to` is set.
 fn axis_of(m: usize, slope: bool, from: bool, to: bool, step: u32, far: usize, near: usize) -> Axis
     requires { ⌜ (2 ≤ m) × (m ≤ 3) × (step ≤ steps) ⌝ }
@@ -129,33 +123,17 @@ fn places_of(m: usize, near: usize, far: usize) -> [usize; 6]
     [a, b, c, d, e, f]
 }
 
-// The numbers of both ends, which stand one after the other.
-fn ends_of(m: usize, n: [i64; 6]) -> Ends
-    requires { ⌜ (2 ≤ m) × (m ≤ 3) ⌝ }
-    ensures { λ r. ⌜ ((o : ℕ) → o < 3 → (at (r .low) o ≡ numbersAt m (at n) 0 1 o) × (at (r .high) o ≡ numbersAt m (at n) m 1 o)) ⌝ }
-{
-    if m == 2 {
-        return Ends {
-            low: [n[0], n[1], 0],
-            high: [n[2], n[3], 0],
-        };
-    }
-    Ends {
-        low: [n[0], n[1], n[2]],
-        high: [n[3], n[4], n[5]],
-    }
-}
-
 // One stage of the numbers of both ends, which stand one after the other.
 fn work_off(m: usize, k: u32, a: Axis, numbers: [i64; 6]) -> i64
     requires { ⌜ Prepared m a × (k ≡ a .shift) × (load (a .basis) (numbersAt m (at numbers) 0 1) (numbersAt m (at numbers) m 1) ≤ 2 ^ 63 - 2 ^ 45) ⌝ }
     ensures { λ r. ⌜ ((g : ℕ → ℤ) (p : ℕ) → ((t : ℕ) → t < 2 * m → at numbers t ≡ g (p + offsetBy m (a .near) (a .far) t)) → r ≡ worked m a g p) ⌝ }
 {
-    let ends = ends_of(m, numbers);
-    let low = ends.low;
-    let high = ends.high;
+    let n = numbers;
     let basis = a.basis;
-    hermite::stage(m, basis, k, low, high)
+    if m == 2 {
+        return hermite::stage(2, basis, k, [n[0], n[1], 0], [n[2], n[3], 0]);
+    }
+    hermite::stage(3, basis, k, [n[0], n[1], n[2]], [n[3], n[4], n[5]])
 }
 
 // The number after the second stage: the first gives the numbers of both ends.
