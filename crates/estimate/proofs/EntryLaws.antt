@@ -24,9 +24,9 @@ use Rattle.lattice.proofs.ShapeLaws.{orders-range, pow-one, pow-two, pow-three,
 use Rattle.lattice.proofs.RecordsLaws.{node-is}
 use Rattle.estimate.specs.declared.Grid.{Grid}
 use Rattle.estimate.specs.Estimate.{left, right, byOrder, estimate, records, tableRecords}
-use Rattle.estimate.specs.Passes.{passOf, ordersOn, gridOf, rowStart, rowZ, rowYZ, nodeOf, recordSize}
+use Rattle.estimate.specs.Passes.{grouped, ordersOn, gridOf, rowStart, rowZ, rowYZ, rowOf, recordSize}
 use Rattle.estimate.proofs.EstimateLaws.{estimate-linear}
-use Rattle.estimate.proofs.PassesLaws.{group-of, member-of}
+use Rattle.estimate.proofs.PassesLaws.{group-of, member-of, lower-at, upper-at}
 
 -- ---- a single order
 
@@ -107,11 +107,11 @@ module _ (s : Shape) (xs : List ℤ) where
 
   module _ (some : (a : ℕ) → 0 < ordersOn s a) where
     passed-z : (x y z c : ℕ) → c < g .mz → rowZ g xs y z (g .mz * x + c) ≡ along-z c x y z
-    unfolding rowZ passOf rowStart gridOf along-z sample
+    unfolding rowZ grouped rowStart gridOf along-z sample
     passed-z x y z c l = rw (high-digit (ordersOn s 2) x c l, low-digit (ordersOn s 2) x c l, add-comm (count s 0 * (y + count s 1 * z)) x, add-comm (count s 0 * (y + count s 1 * left z)) x, add-comm (count s 0 * (y + count s 1 * right (count s 2) z)) x)
 
     passed-y : (x y z h : ℕ) → h < g .my * g .mz → rowYZ g xs y z (g .my * g .mz * x + h) ≡ along-y (h % g .my) (h / g .my) x y z
-    unfolding rowYZ passOf gridOf along-y
+    unfolding rowYZ grouped gridOf along-y
     passed-y x y z h l =
         let k : h / ordersOn s 1 < ordersOn s 2 = high-below (some 1) l in
         rw (
@@ -122,11 +122,15 @@ module _ (s : Shape) (xs : List ℤ) where
           passed-z x (right (count s 1) y) z (h / ordersOn s 1) k,
         )
 
-    passed : (x y z e : ℕ) → e < recordSize g → nodeOf g (rowYZ g xs y z) x e ≡ along-x (e % g .mx) (e / g .mx % g .my) (e / g .mx / g .my) x y z
-    unfolding nodeOf passOf gridOf along-x
-    passed x y z e l =
+    passed : (x y z e : ℕ) → x < g .cx → e < recordSize g → rowOf g (rowYZ g xs y z) (recordSize g * x + e) ≡ along-x (e % g .mx) (e / g .mx % g .my) (e / g .mx / g .my) x y z
+    unfolding rowOf grouped gridOf along-x
+    passed x y z e i l =
         let k : e / ordersOn s 0 < ordersOn s 1 * ordersOn s 2 = high-below (some 0) l in
         rw (
+          group-of (some 0) (ordersOn s 1 * ordersOn s 2) x e,
+          member-of (ordersOn s 0) (ordersOn s 1 * ordersOn s 2) x e,
+          lower-at (ordersOn s 1 * ordersOn s 2) x (e / ordersOn s 0) k,
+          upper-at (ordersOn s 1 * ordersOn s 2) x (e / ordersOn s 0) k (count s 0) i,
           passed-y (left x) y z (e / ordersOn s 0) k,
           passed-y x y z (e / ordersOn s 0) k,
           passed-y (right (count s 0) x) y z (e / ordersOn s 0) k,
@@ -228,7 +232,7 @@ module _ (s : Shape) (ok : Shaped s) where
           go (no k) = let h = unused-place (omega (arith, k)) in rw (unused-order (omega (arith, k)), h .1) (zero-mod (ordersOn s a))
 
     -- the entry at its index is what the passes give
-    pub entry-is : (xs : List ℤ) → tableRecords s xs (entryPlace s i) ≡ nodeOf (gridOf s) (rowYZ (gridOf s) xs y z) x e
+    pub entry-is : (xs : List ℤ) → tableRecords s xs (entryPlace s i) ≡ rowOf (gridOf s) (rowYZ (gridOf s) xs y z) (recordSize (gridOf s) * x + e)
     unfolding node digit gridOf
     entry-is xs =
         let h : e < ordersOn s 0 * (ordersOn s 1 * ordersOn s 2) = rw record-size l in
@@ -242,4 +246,4 @@ module _ (s : Shape) (ok : Shaped s) where
           place-order 1 (lit< tt),
           place-order 2 (lit< tt),
           mod-eq-of-lt k,
-        ) (sym (passed s xs orders-some x y z e h))
+        ) (sym (passed s xs orders-some x y z e in-x h))

@@ -90,12 +90,12 @@ limits B m (suc n) count g h p =
 
 -- ---- locality
 
-near-left : (count i : ℕ) → i < count → NextTo count i (left i)
+pub near-left : (count i : ℕ) → i < count → NextTo count i (left i)
 unfolding left
 near-left count zero l = record { low = omega arith; high = omega arith; there = l }
 near-left count (suc i) l = record { low = omega arith; high = omega arith; there = omega arith }
 
-near-right : (count i : ℕ) → i < count → NextTo count i (right count i)
+pub near-right : (count i : ℕ) → i < count → NextTo count i (right count i)
 unfolding right
 near-right count i l =
     on-pick (NextTo count i) (ltb (suc i) count) (suc i) i

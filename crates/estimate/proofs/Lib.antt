@@ -2,6 +2,7 @@
 pub mod EstimateLaws
 pub mod PlacedLaws
 pub mod PassesLaws
+pub mod RingLaws
 pub mod EntryLaws
 pub mod RowsLaws
 pub mod CallLaws

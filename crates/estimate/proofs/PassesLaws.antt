@@ -1,8 +1,9 @@
 -- One pass: its groups of orders, the machine's numbers that it reads, and the sizes of what it gives.
-use mathlib.Core.Path.{_≡_, refl, sym}
+use mathlib.Core.Path.{_≡_, refl, sym, _∙_}
 use mathlib.Core.List.{List}
 use Prim.Native.Nat.{ℕ, zero, suc, _+_, _-_, _*_, _/_, _%_, _≤_, _<_}
-use native.Mathlib.Nat.{mul-le-mul, le-trans, mul-assoc, mul-add-div, mul-add-mod-self-left}
+use native.Mathlib.Nat.{mul-le-mul, le-trans, mul-assoc, mul-add-div, mul-add-mod-self-left, mod-one, div-one}
+use native.Mathlib.Decide.{decLt}
 use native.Mathlib.Numerals.{add-one}
 use native.Mathlib.Omega.{arith}
 use lib.Dec.{ltb}
@@ -17,8 +18,8 @@ use Rattle.arith.proofs.Choices.{on-pick, pick-true, pick-false}
 use Rattle.lattice.specs.Buffer.{at}
 use Rattle.estimate.specs.declared.Grid.{Grid}
 use Rattle.estimate.specs.Estimate.{left, right, byOrder}
-use Rattle.estimate.specs.Passes.{passLimit, passOf, rowStart, rowZ, rowYZ, recordSize, rowSize, Read, Grids, Samples}
-use Rattle.lattice.proofs.DigitsLaws.{group-room, high-digit, low-digit, pair-in}
+use Rattle.estimate.specs.Passes.{passLimit, grouped, passOf, rowStart, rowZ, rowYZ, lower, upper, nodeSize, recordSize, rowSize, planeSize, Read, Grids, Samples}
+use Rattle.lattice.proofs.DigitsLaws.{group-room, pair-in}
 
 -- a number read from its bits
 pub bits : (x : ℤ) → natAbs x ≤ passLimit → toZ w32 (ofZ w32 x) ≡ x
@@ -43,20 +44,52 @@ pub high-none : (count i : ℕ) → count ≤ i + 1 → i ≡ right count i
 unfolding right
 high-none count i h = sym (pick-false (ltb (suc i) count) (suc i) i (le-ltb (suc i) count (omega arith)))
 
-pub left-below : (count i : ℕ) → i < count → left i < count
-unfolding left
-left-below count zero h = h
-left-below count (suc i) h = omega arith
+-- ---- neighbours of the numbers of a row
 
-pub right-below : (count i : ℕ) → i < count → right count i < count
-unfolding right
-right-below count i h = on-pick (λ k. k < count) (ltb (suc i) count) (suc i) i (λ e. ltb-true (suc i) count e) (λ e. h)
+module _ (k q : ℕ) where
+  pub lower-none : q < k → lower k q ≡ q
+  unfolding lower
+  lower-none l = pick-true (ltb q k) q (q - k) (lt-ltb q k l)
+
+  pub lower-is : k ≤ q → lower k q ≡ q - k
+  unfolding lower
+  lower-is l = pick-false (ltb q k) q (q - k) (le-ltb q k l)
+
+  module _ (n : ℕ) where
+    pub upper-is : q + k < n → upper k n q ≡ q + k
+    unfolding upper
+    upper-is l = pick-true (ltb (q + k) n) (q + k) q (lt-ltb (q + k) n l)
+
+    pub upper-none : n ≤ q + k → upper k n q ≡ q
+    unfolding upper
+    upper-none l = pick-false (ltb (q + k) n) (q + k) q (le-ltb (q + k) n l)
+
+    pub upper-in : q < n → upper k n q < n
+    unfolding upper
+    upper-in l = on-pick (λ i. i < n) (ltb (q + k) n) (q + k) q (λ e. ltb-true (q + k) n e) (λ e. l)
+
+  pub lower-low : lower k q ≤ q
+  unfolding lower
+  lower-low = on-pick (λ i. i ≤ q) (ltb q k) q (q - k) (λ e. omega arith) (λ e. omega arith)
+
+-- number h of node x
+module _ (k x h : ℕ) (l : h < k) where
+  pub lower-at : lower k (k * x + h) ≡ k * left x + h
+  unfolding left
+  lower-at = go x
+    where
+      go : (x : ℕ) → lower k (k * x + h) ≡ k * left x + h
+      go zero = lower-none k (k * 0 + h) (omega arith)
+      go (suc x) = lower-is k (k * suc x + h) (omega arith) ∙ omega arith
+
+  pub upper-at : (n : ℕ) → x < n → upper k (k * n) (k * x + h) ≡ k * right n x + h
+  upper-at n i = go (decLt (x + 1) n)
+    where
+      go : Dec (x + 1 < n) → upper k (k * n) (k * x + h) ≡ k * right n x + h
+      go (yes j) = rw (← high-is n x j) (upper-is k (k * x + h) (k * n) (omega (arith, group-room k (x + 1) n j)) ∙ omega arith)
+      go (no j) = rw (← high-none n x (omega (arith, j))) (upper-none k (k * x + h) (k * n) (let e : n ≡ x + 1 = omega (arith, j) in rw e (omega arith)))
 
 -- ---- a pass
-
-pub pass-group : (m : ℕ) (l f r : ℕ → ℤ) (t o : ℕ) → o < m → byOrder o (l t) (f t) (r t) ≡ passOf m l f r (m * t + o)
-unfolding passOf
-pass-group m l f r t o h = rw (high-digit m t o h, low-digit m t o h)
 
 -- entry h of node x, where a node has b numbers of a orders each: its number, and its order
 pub group-of : {a : ℕ} → 0 < a → (b x h : ℕ) → (a * b * x + h) / a ≡ b * x + h / a
@@ -64,6 +97,11 @@ group-of {a} k b x h = rw (mul-assoc a b x) (mul-add-div k (b * x) h)
 
 pub member-of : (a b x h : ℕ) → (a * b * x + h) % a ≡ h % a
 member-of a b x h = rw (mul-assoc a b x) (mul-add-mod-self-left a (b * x) h)
+
+-- a single order: the pass changes nothing
+pub one-pass : (m : ℕ) → m ≡ 1 → (l f r : ℕ → ℤ) (t : ℕ) → passOf m l f r t ≡ f t
+unfolding grouped byOrder
+one-pass m e l f r t = rw (e, mod-one t, div-one t) refl
 
 -- what an order of numbers within B is within
 pub order-size : (o : ℕ) (l f r : ℤ) (B : ℕ) → natAbs l ≤ B → natAbs f ≤ B → natAbs r ≤ B → natAbs (byOrder o l f r) ≤ 4 * B
@@ -75,17 +113,17 @@ order-size (suc (suc o)) l f r B a b c = omega (arith, abs-add (l -ℤ pos 2 *�
 -- ---- rows
 
 module _ (g : Grid) (ok : Grids g) where
-  pub column-high : g .my * g .mz ≤ 9
-  column-high = mul-le-mul (ok .my-high) (ok .mz-high)
+  pub node-high : nodeSize g ≤ 9
+  node-high = mul-le-mul (ok .my-high) (ok .mz-high)
 
   pub record-high : recordSize g ≤ 27
-  record-high = mul-le-mul (ok .mx-high) column-high
+  record-high = mul-le-mul (ok .mx-high) node-high
 
   pub row-high : rowSize g ≤ 1728
   row-high = mul-le-mul record-high (ok .x-high)
 
-  pub rows-high : g .cy * g .cz ≤ 4096
-  rows-high = mul-le-mul (ok .y-high) (ok .z-high)
+  pub plane-high : planeSize g ≤ 110592
+  plane-high = mul-le-mul row-high (ok .y-high)
 
   pub row-z-high : g .mz * g .cx ≤ 192
   row-z-high = mul-le-mul (ok .mz-high) (ok .x-high)
@@ -102,7 +140,7 @@ row-read g xs y z ok h k = record { inside = row-in g xs y z ok h k; small = λ 
 
 -- what a row, worked off along z, and along z and y, is within
 pub row-z-size : (g : Grid) (xs : List ℤ) (y z t : ℕ) → Samples g xs → natAbs (rowZ g xs y z t) ≤ 131072
-unfolding rowZ passOf
+unfolding rowZ grouped
 row-z-size g xs y z t ok =
     order-size (t % g .mz) (at xs (rowStart g y (left z) + i)) (at xs (rowStart g y z + i)) (at xs (rowStart g y (right (g .cz) z) + i)) 32768
     (ok .small (rowStart g y (left z) + i)) (ok .small (rowStart g y z + i)) (ok .small (rowStart g y (right (g .cz) z) + i))
@@ -111,7 +149,7 @@ row-z-size g xs y z t ok =
     i = t / g .mz
 
 pub row-yz-size : (g : Grid) (xs : List ℤ) (y z t : ℕ) → Samples g xs → natAbs (rowYZ g xs y z t) ≤ passLimit
-unfolding rowYZ passOf
+unfolding rowYZ grouped
 row-yz-size g xs y z t ok =
     order-size (t % g .my) (rowZ g xs (left y) z i) (rowZ g xs y z i) (rowZ g xs (right (g .cy) y) z i) 131072
     (row-z-size g xs (left y) z i ok) (row-z-size g xs y z i ok) (row-z-size g xs (right (g .cy) y) z i ok)

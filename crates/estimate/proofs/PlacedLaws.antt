@@ -1,9 +1,9 @@
--- Runs of stores: one run after another is one run, and what stands where.
-use mathlib.Core.Path.{_≡_, refl, ap, _∙_}
+-- Runs of stores: one run after another is one run, and what stands where; the loop that stores one group of numbers in each turn.
+use mathlib.Core.Path.{_≡_, refl, sym, ap, _∙_}
 use mathlib.Core.Logic.{⊎-elim}
 use mathlib.Core.List.{List}
 use Prim.Native.Nat.{ℕ, zero, suc, _+_, _*_, _≤_, _<_}
-use native.Mathlib.Nat.{add-zero, zero-add, mul-zero, mul-le-mul-left, add-suc, add-assoc, eq-or-lt-of-le}
+use native.Mathlib.Nat.{add-zero, zero-add, mul-zero, add-suc, add-assoc, eq-or-lt-of-le}
 use native.Mathlib.Numerals.{add-one}
 use native.Mathlib.Omega.{arith}
 use lib.IntN.{ℤ, pos}
@@ -11,7 +11,8 @@ use lib.ListN.{length, length-set}
 use lib.Seq.{getD-set-same, getD-set-other}
 use Rattle.lattice.specs.Buffer.{at}
 use Rattle.lattice.proofs.BufferLaws.{Filled, filled-none, filled-more}
-use Rattle.estimate.specs.Passes.{placed}
+use Rattle.lattice.proofs.DigitsLaws.{group-room, high-digit, low-digit}
+use Rattle.estimate.specs.Passes.{placed, grouped}
 
 pub placed-length : (k n : ℕ) (h : ℕ → ℤ) (b : List ℤ) → length (placed k n h b) ≡ length b
 unfolding placed
@@ -24,7 +25,7 @@ placed-same k zero h g b e = refl
 placed-same k (suc n) h g b e = rw (placed-same k n h g b (λ t l. e t (omega arith)), e n (omega arith))
 
 -- l stores behind n
-pub placed-more : (k n l : ℕ) (h g : ℕ → ℤ) (b : List ℤ) → ((t : ℕ) → t < l → g t ≡ h (n + t)) → placed (k + n) l g (placed k n h b) ≡ placed k (n + l) h b
+placed-more : (k n l : ℕ) (h g : ℕ → ℤ) (b : List ℤ) → ((t : ℕ) → t < l → g t ≡ h (n + t)) → placed (k + n) l g (placed k n h b) ≡ placed k (n + l) h b
 unfolding placed
 placed-more k n zero h g b e = rw (add-zero n)
 placed-more k n (suc l) h g b e =
@@ -33,6 +34,11 @@ placed-more k n (suc l) h g b e =
 -- the same where lists and places have names
 pub placed-next : (k n l p : ℕ) (h g : ℕ → ℤ) (b out next : List ℤ) → p ≡ k + n → out ≡ placed k n h b → next ≡ placed p l g out → ((t : ℕ) → t < l → g t ≡ h (n + t)) → next ≡ placed k (n + l) h b
 placed-next k n l p h g b out next at-p inv e same = e ∙ rw (at-p, inv) (placed-more k n l h g b same)
+
+pub placed-off : (k n : ℕ) (h : ℕ → ℤ) (b : List ℤ) (i : ℕ) → ((t : ℕ) → t < n → i ≡ k + t → ⊥) → at (placed k n h b) i ≡ at b i
+unfolding placed
+placed-off k zero h b i apart = refl
+placed-off k (suc n) h b i apart = getD-set-other (placed k n h b) (k + n) i (h n) (pos 0) (apart n (omega arith)) ∙ placed-off k n h b i (λ t l. apart t (omega arith))
 
 pub placed-at : (k n : ℕ) (h : ℕ → ℤ) (b : List ℤ) (t : ℕ) → t < n → k + n ≤ length b → at (placed k n h b) (k + t) ≡ h t
 unfolding placed
@@ -46,37 +52,46 @@ placed-at k (suc n) h b t i l =
     apart : (k : ℕ) {t n : ℕ} → t < n → k + t ≡ k + n → ⊥
     apart k j e = omega arith
 
-pub placed-before : (k n : ℕ) (h : ℕ → ℤ) (b : List ℤ) (i : ℕ) → i < k → at (placed k n h b) i ≡ at b i
-unfolding placed
-placed-before k zero h b i l = refl
-placed-before k (suc n) h b i l = getD-set-other (placed k n h b) (k + n) i (h n) (pos 0) (apart n l) ∙ placed-before k n h b i l
-  where
-    apart : {k : ℕ} (n : ℕ) {i : ℕ} → i < k → i ≡ k + n → ⊥
-    apart n l e = omega arith
-
 -- a run from the front
+pub placed-front : (n : ℕ) (h : ℕ → ℤ) (b : List ℤ) (t : ℕ) → t < n → n ≤ length b → at (placed 0 n h b) t ≡ h t
+placed-front n h b t i l = rw zero-add at (placed-at 0 n h b t i (omega arith))
+
 pub placed-filled : (n : ℕ) (h : ℕ → ℤ) (b : List ℤ) → n ≤ length b → Filled h b n (placed 0 n h b)
 unfolding placed
 placed-filled zero h b l = filled-none h b
 placed-filled (suc n) h b l =
     rw (zero-add n, ← add-one n) (filled-more h b n (placed 0 n h b) (h n) (pos 0) (omega arith) (placed-filled n h b (omega arith)) refl)
 
--- ---- the turn of a loop that stores m numbers in each turn
+-- ---- groups
 
-pub stored-none : (k m : ℕ) (h : ℕ → ℤ) (b : List ℤ) → b ≡ placed k (m * 0) h b
+module _ (m : ℕ) (f : ℕ → ℕ → ℤ) where
+  pub grouped-at : (t o : ℕ) → o < m → grouped m f (m * t + o) ≡ f t o
+  unfolding grouped
+  grouped-at t o l = rw (high-digit m t o l, low-digit m t o l)
+
+-- the state of a loop that stores m numbers in each turn: t turns are done, the next one stores from index p on
+pub record Stored (k m : ℕ) (f : ℕ → ℕ → ℤ) (b : List ℤ) (t p : ℕ) (out : List ℤ) : Type 0 where
+  pub place : p ≡ k + m * t
+  pub is : out ≡ placed k (m * t) (grouped m f) b
+
+pub stored-none : {k m : ℕ} {f : ℕ → ℕ → ℤ} {b : List ℤ} → Stored k m f b 0 k b
 unfolding placed
-stored-none k m h b = rw (mul-zero m)
+stored-none {k} {m} = record { place = omega arith; is = rw (mul-zero m) }
 
-module _ (k m t : ℕ) (h : ℕ → ℤ) (b out : List ℤ) (p : ℕ) (at-p : p ≡ k + m * t) (inv : out ≡ placed k (m * t) h b) where
+module _ {k m : ℕ} {f : ℕ → ℕ → ℤ} {b : List ℤ} {t p : ℕ} {out : List ℤ} (s : Stored k m f b t p out) where
   pub stored-length : length out ≡ length b
-  stored-length = ap length inv ∙ placed-length k (m * t) h b
+  stored-length = ap length (s .is) ∙ placed-length k (m * t) (grouped m f) b
 
   pub stored-room : (count : ℕ) → t < count → k + m * count ≤ length b → p + m ≤ length out
-  stored-room count l room = let z = mul-le-mul-left m l in omega (arith, stored-length)
+  stored-room count l room = omega (arith, s .place, group-room m t count l, stored-length)
 
-  pub stored-more : (g : ℕ → ℤ) (next : List ℤ) → next ≡ placed p m g out → ((o : ℕ) → o < m → g o ≡ h (m * t + o)) → next ≡ placed k (m * (t + 1)) h b
-  stored-more g next e same =
-      placed-next k (m * t) m p h g b out next at-p inv e same ∙ ap (λ (n : ℕ). placed k n h b) (turn m t)
-    where
-      turn : (m t : ℕ) → m * t + m ≡ m * (t + 1)
-      turn m t = omega arith
+  pub stored-more : {g : ℕ → ℤ} {next : List ℤ} → next ≡ placed p m g out → ((o : ℕ) → o < m → g o ≡ f t o) → Stored k m f b (t + 1) (p + m) next
+  stored-more {g} {next} e same =
+      let turn : m * t + m ≡ m * (t + 1) = omega arith in
+      record {
+        place = omega (arith, s .place);
+        is = rw turn at (placed-next k (m * t) m p (grouped m f) g b out next (s .place) (s .is) e (λ o l. same o l ∙ sym (grouped-at m f t o l)));
+      }
+
+  pub stored-all : (count : ℕ) → t ≡ count → out ≡ placed k (m * count) (grouped m f) b
+  stored-all count e = rw e at (s .is)

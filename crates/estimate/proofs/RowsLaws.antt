@@ -1,83 +1,47 @@
--- The records of a row depend on the numbers of that row only; row after row they are the records of the definition.
-use mathlib.Core.Path.{_≡_, refl, sym, ap, subst, _∙_}
+-- The records of a row depend on the numbers of that row only; plane after plane, row after row, they are the records of the definition.
+use mathlib.Core.Path.{_≡_, sym, ap, subst, _∙_}
 use mathlib.Core.List.{List}
 use Prim.Native.Nat.{ℕ, _+_, _*_, _/_, _%_, _≤_, _<_}
-use native.Mathlib.Nat.{mod-one, div-one, mul-zero, zero-add, mul-le-mul, mul-assoc, add-comm, mod-lt, div-add-mod, mul-le-mul-left}
-use native.Mathlib.Decide.{decLt}
+use native.Mathlib.Nat.{mul-zero, zero-add, mul-le-mul, mul-le-mul-left, mod-lt, div-add-mod, mod-eq-of-lt, div-eq-of-lt, lt-of-le-of-lt}
 use native.Mathlib.Omega.{arith}
-use lib.Dec.{lit<}
 use lib.IntN.{ℤ}
 use Rattle.lattice.specs.declared.Shape.{Shape}
 use Rattle.lattice.specs.Shape.{count, size, Shaped}
 use Rattle.lattice.specs.Buffer.{at}
 use Rattle.lattice.specs.Records.{entryPlace}
 use Rattle.lattice.proofs.ShapeLaws.{nodes-is}
+use Rattle.lattice.proofs.DigitsLaws.{high-below}
 use Rattle.estimate.specs.declared.Grid.{Grid}
-use Rattle.estimate.specs.Estimate.{left, right, byOrder, tableRecords}
-use Rattle.estimate.specs.Passes.{since, passOf, gridOf, rowStart, rowZ, rowYZ, nodeOf, recordSize, rowSize, rowOf, rowsOf, Grids}
-use Rattle.lattice.proofs.DigitsLaws.{group-room, high-below, high-digit, low-digit}
-use Rattle.estimate.proofs.PassesLaws.{left-below, right-below}
+use Rattle.estimate.specs.Estimate.{left, right, tableRecords}
+use Rattle.estimate.specs.Passes.{since, grouped, gridOf, rowStart, rowZ, rowYZ, lower, upper, nodeSize, recordSize, rowSize, rowOf, planeSize, planeOf, planesOf, Grids}
+use Rattle.estimate.proofs.PassesLaws.{one-pass, lower-low, upper-in}
 use Rattle.estimate.proofs.EntryLaws.{record-size, entry-is}
-
-pub record-some : (g : Grid) → Grids g → 0 < recordSize g
-record-some g ok = mul-le-mul (ok .mx-low) (mul-le-mul (ok .my-low) (ok .mz-low))
 
 -- ---- one row
 
-module _ (g : Grid) (ok : Grids g) (row other : ℕ → ℤ) (same : (t : ℕ) → t < g .my * (g .mz * g .cx) → row t ≡ other t) where
-  abbrev k : ℕ
-  k = g .my * g .mz
-
-  number : (x h : ℕ) → x < g .cx → h < k → row (k * x + h) ≡ other (k * x + h)
-  number x h i l = same (k * x + h) (let w = group-room k x (g .cx) i in let e = mul-assoc (g .my) (g .mz) (g .cx) in omega arith)
-
-  pub row-same : (t : ℕ) → t < rowSize g → rowOf g row t ≡ rowOf g other t
-  unfolding rowOf nodeOf passOf
-  row-same t l =
-      let x : t / recordSize g < g .cx = high-below (record-some g ok) l in
-      let h : t % recordSize g / g .mx < k = high-below (ok .mx-low) (mod-lt t (record-some g ok)) in
-      rw (
-        number (left (t / recordSize g)) (t % recordSize g / g .mx) (left-below (g .cx) (t / recordSize g) x) h,
-        number (t / recordSize g) (t % recordSize g / g .mx) x h,
-        number (right (g .cx) (t / recordSize g)) (t % recordSize g / g .mx) (right-below (g .cx) (t / recordSize g) x) h,
-      )
-
--- ---- row after row
-
-module _ (g : Grid) (xs : List ℤ) (y z r : ℕ) (in-y : y < g .cy) (at-r : r ≡ y + g .cy * z) where
-  pub row-in-z : r < g .cy * g .cz → z < g .cz
-  row-in-z l = go (decLt z (g .cz))
-    where
-      go : Dec (z < g .cz) → z < g .cz
-      go (yes h) = h
-      go (no h) = let k : g .cz ≤ z = omega (arith, h) in let w = mul-le-mul-left (g .cy) k in absurd (omega arith)
-
-  turned : r ≡ g .cy * z + y
-  turned = omega arith
-
-  pub rows-at : (o : ℕ) → o < rowSize g → rowsOf g xs (rowSize g * r + o) ≡ rowOf g (rowYZ g xs y z) o
-  unfolding rowsOf
-  rows-at o l = rw (high-digit (rowSize g) r o l, low-digit (rowSize g) r o l, turned, high-digit (g .cy) z y in-y, low-digit (g .cy) z y in-y)
-
--- ---- no orders along an axis: its pass changes nothing
-
-pub one-pass : (m : ℕ) → m ≡ 1 → (l f r : ℕ → ℤ) (t : ℕ) → passOf m l f r t ≡ f t
-unfolding passOf byOrder
-one-pass m e l f r t = rw (e, mod-one t, div-one t) refl
+pub row-same : (g : Grid) → Grids g → (row other : ℕ → ℤ) → ((t : ℕ) → t < g .my * (g .mz * g .cx) → row t ≡ other t) → (t : ℕ) → t < rowSize g → rowOf g row t ≡ rowOf g other t
+unfolding rowOf grouped
+row-same g ok row other same t l =
+    let n : ℕ = nodeSize g * g .cx in
+    let q : ℕ = t / g .mx in
+    let in-q : q < n = high-below (ok .mx-low) (omega arith) in
+    let each : (i : ℕ) → i < n → row i ≡ other i = λ i h. same i (omega arith) in
+    rw (each (lower (nodeSize g) q) (lt-of-le-of-lt (lower-low (nodeSize g) q) in-q), each q in-q, each (upper (nodeSize g) n q) (upper-in (nodeSize g) q n in-q))
 
 -- one axis: the only row is the samples
 module _ (g : Grid) (xs : List ℤ) (my : g .my ≡ 1) (mz : g .mz ≡ 1) where
-  pub line-row : (t : ℕ) → rowYZ g xs 0 0 t ≡ at xs t
+  line-row : (t : ℕ) → rowYZ g xs 0 0 t ≡ at xs t
   unfolding rowYZ rowZ rowStart
   line-row t =
       one-pass (g .my) my (rowZ g xs (left 0) 0) (rowZ g xs 0 0) (rowZ g xs (right (g .cy) 0) 0) t
       ∙ one-pass (g .mz) mz (since xs (rowStart g 0 (left 0))) (since xs (rowStart g 0 0)) (since xs (rowStart g 0 (right (g .cz) 0))) t
-      ∙ ap (λ (k : ℕ). at xs (k + t)) (ap (λ (k : ℕ). g .cx * k) (zero-add (g .cy * 0) ∙ mul-zero (g .cy)) ∙ mul-zero (g .cx)) ∙ ap (at xs) (zero-add t)
+      ∙ ap (at xs) (omega arith)
 
-  pub line-rows : Grids g → (t : ℕ) → t < rowSize g → rowOf g (at xs) t ≡ rowsOf g xs t
+  pub line-rows : Grids g → (t : ℕ) → t < rowSize g → rowOf g (at xs) t ≡ planesOf g xs t
+  unfolding planesOf planeOf grouped
   line-rows ok t l =
-      sym (row-same g ok (rowYZ g xs 0 0) (at xs) (λ i k. line-row i) t l) ∙ sym (rows-at g xs 0 0 0 (ok .y-low) (sym (zero-add (g .cy * 0) ∙ mul-zero (g .cy))) t l)
-      ∙ ap (λ (k : ℕ). rowsOf g xs (k + t)) (mul-zero (rowSize g)) ∙ ap (rowsOf g xs) (zero-add t)
+      let p : t < planeSize g = omega (arith, mul-le-mul-left (rowSize g) (ok .y-low)) in
+      rw (div-eq-of-lt p, mod-eq-of-lt p, div-eq-of-lt l, mod-eq-of-lt l) (row-same g ok (at xs) (rowYZ g xs 0 0) (λ i k. sym (line-row i)) t l)
 
 -- ---- the records of the definition
 
@@ -85,39 +49,41 @@ module _ (s : Shape) (ok : Shaped s) (grid : Grids (gridOf s)) (xs : List ℤ) w
   abbrev g : Grid
   g = gridOf s
 
-  pub rows-size : rowSize g * (g .cy * g .cz) ≡ size s
+  pub planes-size : planeSize g * g .cz ≡ size s
   unfolding size gridOf
-  rows-size = rw (nodes-is s, ← record-size s ok) (turn (recordSize g) (count s 0) (count s 1 * count s 2))
+  planes-size = rw (nodes-is s, ← record-size s ok) (turn (recordSize g) (count s 0) (count s 1) (count s 2))
     where
-      turn : (a b c : ℕ) → a * b * c ≡ b * c * a
-      turn a b c = omega arith
+      turn : (a b c d : ℕ) → a * b * c * d ≡ b * (c * d) * a
+      turn a b c d = omega arith
 
-  -- the index of an entry, put together again from its node and its number
-  together : (a b c x y z e r o i : ℕ) → a * x + e ≡ o → c * z + y ≡ r → a * b * r + o ≡ i → (x + b * (y + c * z)) * a + e ≡ i
-  together a b c x y z e r o i p q h = ap (λ (n : ℕ). (x + b * n) * a + e) (add-comm y (c * z) ∙ q) ∙ regroup a b x e r ∙ ap (λ (n : ℕ). a * b * r + n) p ∙ h
-    where
-      regroup : (a b x e r : ℕ) → (x + b * r) * a + e ≡ a * b * r + (a * x + e)
-      regroup a b x e r = omega arith
+  record-some : 0 < recordSize g
+  record-some = mul-le-mul (grid .mx-low) (mul-le-mul (grid .my-low) (grid .mz-low))
 
   row-some : 0 < rowSize g
-  unfolding gridOf
-  row-some = mul-le-mul (record-some g grid) (ok .low 0 (lit< tt))
+  row-some = mul-le-mul {m₁ = 1} record-some (omega (arith, grid .x-low))
 
-  -- entry e of node x of row r = y + cy·z
-  row-entry : (x y z e r o i : ℕ) → x < g .cx → y < g .cy → z < g .cz → e < recordSize g → recordSize g * x + e ≡ o → g .cy * z + y ≡ r → rowSize g * r + o ≡ i
-      → nodeOf g (rowYZ g xs y z) x e ≡ tableRecords s xs (entryPlace s i)
+  plane-some : 0 < planeSize g
+  plane-some = mul-le-mul row-some (grid .y-low)
+
+  -- entry e of node (x, y, z)
+  entry : (x y z e i : ℕ) → x < g .cx → y < g .cy → z < g .cz → e < recordSize g → planeSize g * z + (rowSize g * y + (recordSize g * x + e)) ≡ i
+      → rowOf g (rowYZ g xs y z) (recordSize g * x + e) ≡ tableRecords s xs (entryPlace s i)
   unfolding gridOf
-  row-entry x y z e r o i in-x in-y in-z in-e p q h =
+  entry x y z e i in-x in-y in-z in-e h =
       let n = record-size s ok in
       sym (entry-is s ok x y z e in-x in-y in-z (subst (λ (k : ℕ). e < k) n in-e) xs)
-      ∙ ap (λ (k : ℕ). tableRecords s xs (entryPlace s k))
-      (subst (λ (k : ℕ). (x + count s 0 * (y + count s 1 * z)) * k + e ≡ i) n (together (recordSize g) (count s 0) (count s 1) x y z e r o i p q h))
+      ∙ ap (λ (k : ℕ). tableRecords s xs (entryPlace s k)) (subst (λ (k : ℕ). (x + count s 0 * (y + count s 1 * z)) * k + e ≡ i) n (together (recordSize g) (count s 0) (count s 1) x y z e ∙ h))
+    where
+      together : (a b c x y z e : ℕ) → (x + b * (y + c * z)) * a + e ≡ a * b * c * z + (a * b * y + (a * x + e))
+      together a b c x y z e = omega arith
 
-  pub rows-are : (i : ℕ) → i < size s → rowsOf g xs i ≡ tableRecords s xs (entryPlace s i)
-  unfolding rowsOf rowOf
-  rows-are i l =
-      let r : i / rowSize g < g .cy * g .cz = high-below row-some (rw rows-size l) in
-      let o : i % rowSize g < rowSize g = mod-lt i row-some in
-      row-entry (i % rowSize g / recordSize g) (i / rowSize g % g .cy) (i / rowSize g / g .cy) (i % rowSize g % recordSize g) (i / rowSize g) (i % rowSize g) i
-      (high-below (record-some g grid) o) (mod-lt (i / rowSize g) (grid .y-low)) (high-below (grid .y-low) r) (mod-lt (i % rowSize g) (record-some g grid))
-      (div-add-mod (i % rowSize g) (recordSize g)) (div-add-mod (i / rowSize g) (g .cy)) (div-add-mod i (rowSize g))
+  pub planes-are : (i : ℕ) → i < size s → planesOf g xs i ≡ tableRecords s xs (entryPlace s i)
+  unfolding planesOf planeOf grouped
+  planes-are i l =
+      let j : ℕ = i % planeSize g in
+      let o : ℕ = j % rowSize g in
+      let in-j : j < planeSize g = mod-lt i plane-some in
+      let in-o : o < rowSize g = mod-lt j row-some in
+      ap (rowOf g (rowYZ g xs (j / rowSize g) (i / planeSize g))) (sym (div-add-mod o (recordSize g)))
+      ∙ entry (o / recordSize g) (j / rowSize g) (i / planeSize g) (o % recordSize g) i (high-below record-some in-o) (high-below row-some in-j) (high-below plane-some (rw planes-size l)) (mod-lt o record-some)
+      (rw (div-add-mod o (recordSize g), div-add-mod j (rowSize g)) (div-add-mod i (planeSize g)))

@@ -2,7 +2,7 @@
 -- orders of each; the order is the fastest digit of the index. The axes are worked off in the order z, y, x.
 -- The promises of `estimate` mention none of this.
 use mathlib.Core.Path.{_≡_}
-use Prim.Native.Nat.{ℕ, zero, suc, _+_, _*_, _/_, _%_, _≤_, _<_}
+use Prim.Native.Nat.{ℕ, zero, suc, _+_, _-_, _*_, _/_, _%_, _≤_, _<_}
 use mathlib.Core.List.{List}
 use lib.Dec.{ltb}
 use lib.IntN.{ℤ, natAbs}
@@ -13,6 +13,7 @@ use Rattle.lattice.specs.Buffer.{at}
 use Rattle.lattice.specs.Shape.{count, orders}
 use Rattle.lattice.specs.Records.{sampleLimit}
 use Rattle.estimate.specs.declared.Grid.{Grid}
+use Rattle.estimate.specs.declared.Neighbours.{Neighbours}
 use Rattle.estimate.specs.Estimate.{left, right, byOrder}
 
 -- a list with h 0, h 1, .., h (n - 1) from index k on
@@ -24,9 +25,13 @@ placed k (suc n) h b = set (placed k n h b) (k + n) (h n)
 abbrev pub since : List ℤ → ℕ → ℕ → ℤ
 since xs k t = at xs (k + t)
 
--- one pass: order t % m of number t / m
-unfoldable pub passOf : ℕ → (ℕ → ℤ) → (ℕ → ℤ) → (ℕ → ℤ) → ℕ → ℤ
-passOf m l f r t = byOrder (t % m) (l (t / m)) (f (t / m)) (r (t / m))
+-- groups of m numbers
+unfoldable pub grouped : ℕ → (ℕ → ℕ → ℤ) → ℕ → ℤ
+grouped m f t = f (t / m) (t % m)
+
+-- one pass: the m orders of each number
+abbrev pub passOf : ℕ → (ℕ → ℤ) → (ℕ → ℤ) → (ℕ → ℤ) → ℕ → ℤ
+passOf m l f r = grouped m (λ i o. byOrder o (l i) (f i) (r i))
 
 -- the numbers that a record holds along axis a: 1 along an unused one
 unfoldable pub ordersOn : Shape → ℕ → ℕ
@@ -47,37 +52,51 @@ rowZ g xs y z = passOf (g .mz) (since xs (rowStart g y (left z))) (since xs (row
 unfoldable pub rowYZ : Grid → List ℤ → ℕ → ℕ → ℕ → ℤ
 rowYZ g xs y z = passOf (g .my) (rowZ g xs (left y) z) (rowZ g xs y z) (rowZ g xs (right (g .cy) y) z)
 
--- and along x: node x of a row whose nodes have k numbers each
-unfoldable pub nodeOf : Grid → (ℕ → ℤ) → ℕ → ℕ → ℤ
-nodeOf g row x = passOf (g .mx) (λ t. row (k * left x + t)) (λ t. row (k * x + t)) (λ t. row (k * right (g .cx) x + t))
-  where
-    k : ℕ
-    k = g .my * g .mz
+-- the neighbours of number q of a row of n numbers, k at each node
+unfoldable pub lower : ℕ → ℕ → ℕ
+lower k q = pick (ltb q k) q (q - k)
 
--- the entries of one record
+unfoldable pub upper : ℕ → ℕ → ℕ → ℕ
+upper k n q = pick (ltb (q + k) n) (q + k) q
+
+-- the numbers of one node of a row
+abbrev pub nodeSize : Grid → ℕ
+nodeSize g = g .my * g .mz
+
+-- the records of a row: a pass along x
+unfoldable pub rowOf : Grid → (ℕ → ℤ) → ℕ → ℤ
+rowOf g row = passOf (g .mx) (λ q. row (lower (nodeSize g) q)) row (λ q. row (upper (nodeSize g) (nodeSize g * g .cx) q))
+
+-- the entries of one record, of the records of one row, and of one plane
 abbrev pub recordSize : Grid → ℕ
-recordSize g = g .mx * (g .my * g .mz)
+recordSize g = g .mx * nodeSize g
 
--- the entries of the records of one row
 abbrev pub rowSize : Grid → ℕ
 rowSize g = recordSize g * g .cx
 
--- the records of a row
-unfoldable pub rowOf : Grid → (ℕ → ℤ) → ℕ → ℤ
-rowOf g row t = nodeOf g row (t / recordSize g) (t % recordSize g)
+abbrev pub planeSize : Grid → ℕ
+planeSize g = rowSize g * g .cy
 
--- the records of all rows: row (y, z) has number y + cy·z
-unfoldable pub rowsOf : Grid → List ℤ → ℕ → ℤ
-rowsOf g xs t = rowOf g (rowYZ g xs (r % g .cy) (r / g .cy)) (t % rowSize g)
-  where
-    r : ℕ
-    r = t / rowSize g
+-- the records of plane z, row after row
+unfoldable pub planeOf : Grid → List ℤ → ℕ → ℕ → ℤ
+planeOf g xs z = grouped (rowSize g) (λ y. rowOf g (rowYZ g xs y z))
+
+-- the records of all planes
+unfoldable pub planesOf : Grid → List ℤ → ℕ → ℤ
+planesOf g xs = grouped (planeSize g) (planeOf g xs)
 
 -- ---- what the inner functions ask for
 
 -- samples, and entries of total order up to 4, lie within ±32768·2^4
 abbrev pub passLimit : ℕ
 passLimit = 524288
+
+-- the neighbours of a node
+pub record Beside (count i : ℕ) (n : Neighbours) : Type 0 where
+  pub low-is : n .low ≡ left i
+  pub high-is : n .high ≡ right count i
+  pub low-in : n .low < count
+  pub high-in : n .high < count
 
 -- what a pass reads lies in its list and within the limit
 pub record Read (xs : List ℤ) (low count : ℕ) : Type 0 where
@@ -103,3 +122,12 @@ pub record Samples (g : Grid) (xs : List ℤ) : Type 0 where
   pub grid : Grids g
   pub whole : length xs ≡ g .cx * (g .cy * g .cz)
   pub small : (i : ℕ) → natAbs (at xs i) ≤ sampleLimit
+
+-- row v of plane z, worked off along z, stands in a list from index k on
+pub record Stands (g : Grid) (xs : List ℤ) (v z : ℕ) (b : List ℤ) (k : ℕ) : Type 0 where
+  pub inside : k + g .mz * g .cx ≤ length b
+  pub same : (t : ℕ) → t < g .mz * g .cx → since b k t ≡ rowZ g xs v z t
+
+-- on three axes row y and the row below it stand in the ring, each at its number's slot
+abbrev pub Ring : Grid → List ℤ → ℕ → ℕ → List ℤ → Type 0
+Ring g xs y z b = (g .mz ≡ 1 → ⊥) → (v : ℕ) → y ≤ v + 1 → v ≤ y → v < g .cy → Stands g xs v z b (g .mz * g .cx * (v % 3))

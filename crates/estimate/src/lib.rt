@@ -5,8 +5,8 @@ ghost use lib.IntN.{natAbs};
 ghost use lib.ListN.{length};
 ghost use Rattle.lattice.specs.Answer.{meaning};
 ghost use Rattle.lattice.specs.Buffer.{at, overwrite};
-ghost use Rattle.estimate.specs.Estimate.{left, right, byOrder, recordsOf, estimateOutcome, estimateWrites, Estimable};
-ghost use Rattle.estimate.specs.Passes.{passLimit, placed, since, passOf, ordersOn, gridOf, rowStart, rowZ, rowYZ, rowSize, rowOf, rowsOf, Read, Grids, Samples};
+ghost use Rattle.estimate.specs.Estimate.{byOrder, recordsOf, estimateOutcome, estimateWrites, Estimable};
+ghost use Rattle.estimate.specs.Passes.{passLimit, placed, since, passOf, ordersOn, gridOf, rowStart, rowZ, rowYZ, rowSize, rowOf, planeSize, planeOf, planesOf, Beside, Read, Grids, Samples, Ring};
 use lattice::Answer;
 use lattice::Shape;
 
@@ -29,7 +29,7 @@ struct Neighbours {
 // A neighbour missing at a border is the node itself.
 fn neighbours_of(count: usize, i: usize) -> Neighbours
     requires { ⌜ i < count ⌝ }
-    ensures { λ r. ⌜ (r .low ≡ left i) × (r .high ≡ right count i) ⌝ }
+    ensures { λ r. ⌜ Beside count i r ⌝ }
 {
     let low = if i == 0 { i } else { i - 1 };
     let high = if i + 1 < count { i + 1 } else { i };
@@ -123,34 +123,24 @@ fn row_z(g: Grid, xs: &[i32], y: usize, z: usize, out: &mut [i32], k: usize)
     pass(g.mz, xs, low, mid, high, g.cx, out, k)
 }
 
-// Row (y, z) of samples that have no orders along z: a pass along y.
-fn row_y(g: Grid, xs: &[i32], y: usize, z: usize, row: &mut [i32])
-    requires { ⌜ Samples g (now xs) × (g .mz ≡ 1) ⌝ }
-    requires { ⌜ (y < g .cy) × (z < g .cz) × (length (now row) ≡ 576) ⌝ }
+// One row, worked off along z and y. On three axes it is made of rows of the ring, to which the row above it is added; on two, of the samples.
+fn row_yz(g: Grid, xs: &[i32], y: usize, z: usize, ring: &mut [i32], row: &mut [i32])
+    requires { ⌜ Samples g (now xs) × (y < g .cy) × (z < g .cz) ⌝ }
+    requires { ⌜ (length (now ring) ≡ 576) × (length (now row) ≡ 576) × Ring g (now xs) y z (now ring) ⌝ }
+    ensures { λ _. ⌜ Ring g (now (xs .entry)) (y + 1) z (now (ring .exit)) ⌝ }
     ensures { λ _. ⌜ ((t : ℕ) → t < g .my * (g .mz * g .cx) → at (now (row .exit)) t ≡ rowYZ g (now (xs .entry)) y z t) ⌝ }
 {
     let n = neighbours_of(g.cy, y);
-    let low = row_start(g, n.low, z);
-    let mid = row_start(g, y, z);
-    let high = row_start(g, n.high, z);
-    pass(g.my, xs, low, mid, high, g.cx, row, 0)
-}
-
-// One row, worked off along z and y; `three` holds it and its neighbours along y, worked off along z.
-fn row_yz(g: Grid, xs: &[i32], y: usize, z: usize, three: &mut [i32], row: &mut [i32])
-    requires { ⌜ Samples g (now xs) ⌝ }
-    requires { ⌜ (y < g .cy) × (z < g .cz) × (length (now three) ≡ 576) × (length (now row) ≡ 576) ⌝ }
-    ensures { λ _. ⌜ ((t : ℕ) → t < g .my * (g .mz * g .cx) → at (now (row .exit)) t ≡ rowYZ g (now (xs .entry)) y z t) ⌝ }
-{
+    let w = g.mz * g.cx;
     if g.mz == 1 {
-        row_y(g, xs, y, z, row)
+        let low = row_start(g, n.low, z);
+        let mid = row_start(g, y, z);
+        let high = row_start(g, n.high, z);
+        pass(g.my, xs, low, mid, high, w, row, 0)
     } else {
-        let n = neighbours_of(g.cy, y);
-        let w = g.mz * g.cx;
-        row_z(g, xs, n.low, z, three, 0);
-        row_z(g, xs, y, z, three, w);
-        row_z(g, xs, n.high, z, three, w + w);
-        pass(g.my, three, 0, w, w + w, w, row, 0)
+        let high = w * (n.high % 3);
+        row_z(g, xs, n.high, z, ring, high);
+        pass(g.my, ring, w * (n.low % 3), w * (y % 3), high, w, row, 0)
     }
 }
 
@@ -171,29 +161,37 @@ fn fill_row(g: Grid, row: &[i32], out: &mut [i32], k: usize)
     pass(g.mx, row, inner, last, last, size, out, q)
 }
 
-// The records of all rows; y, z and p follow the row's number r. What lies behind the records stays.
-fn fill_rows(g: Grid, samples: &[i32], records: &mut [i32])
-    requires { ⌜ Samples g (now samples) × (rowSize g * (g .cy * g .cz) ≤ length (now records)) ⌝ }
-    ensures { λ _. ⌜ now (records .exit) ≡ placed 0 (rowSize g * (g .cy * g .cz)) (rowsOf g (now (samples .entry))) (now (records .entry)) ⌝ }
+// The records of one plane, row after row. Row v, worked off along z, stands in the ring's slot v % 3.
+fn fill_plane(g: Grid, xs: &[i32], z: usize, out: &mut [i32], k: usize)
+    requires { ⌜ Samples g (now xs) × (z < g .cz) × (k + planeSize g ≤ length (now out)) ⌝ }
+    ensures { λ _. ⌜ now (out .exit) ≡ placed k (planeSize g) (planeOf g (now (xs .entry)) z) (now (out .entry)) ⌝ }
 {
-    let rows = g.cy * g.cz;
     let step = g.mx * (g.my * g.mz) * g.cx;
-    let mut three = [0i32; 576];
+    let mut ring = [0i32; 576];
     let mut row = [0i32; 576];
+    row_z(g, xs, 0, z, &mut ring, 0);
+    let mut p = k;
     let mut y: usize = 0;
-    let mut z: usize = 0;
-    let mut p: usize = 0;
-    let mut r: usize = 0;
-    while r < rows {
-        row_yz(g, samples, y, z, &mut three, &mut row);
-        fill_row(g, &row, records, p);
+    while y < g.cy {
+        row_yz(g, xs, y, z, &mut ring, &mut row);
+        fill_row(g, &row, out, p);
         p += step;
-        r += 1;
         y += 1;
-        if y == g.cy {
-            y = 0;
-            z += 1;
-        }
+    }
+}
+
+// The records of all planes. What lies behind the records stays.
+fn fill_planes(g: Grid, xs: &[i32], out: &mut [i32])
+    requires { ⌜ Samples g (now xs) × (planeSize g * g .cz ≤ length (now out)) ⌝ }
+    ensures { λ _. ⌜ now (out .exit) ≡ placed 0 (planeSize g * g .cz) (planesOf g (now (xs .entry))) (now (out .entry)) ⌝ }
+{
+    let step = g.mx * (g.my * g.mz) * g.cx * g.cy;
+    let mut p: usize = 0;
+    let mut z: usize = 0;
+    while z < g.cz {
+        fill_plane(g, xs, z, out, p);
+        p += step;
+        z += 1;
     }
 }
 
@@ -206,7 +204,7 @@ fn fill_records(s: Shape, samples: &[i32], records: &mut [i32])
     if s.axes == 1 {
         fill_row(g, samples, records, 0)
     } else {
-        fill_rows(g, samples, records)
+        fill_planes(g, samples, records)
     }
 }
 

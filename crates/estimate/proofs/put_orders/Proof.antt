@@ -12,7 +12,7 @@ use mir.Facts.{toZ-ofZ}
 use denote.Ref.{now}
 use borrow.Author.Needs.{needs}
 use Rattle.arith.proofs.Abs.{abs-add, abs-minus, abs-mul, sfits-abs}
-use Rattle.arith.proofs.Machine.{Size, sizes, sized, s-bits, fits?}
+use Rattle.arith.proofs.Machine.{Size, sizes, sized, s-bits, fits?, value?}
 use Rattle.estimate.specs.Estimate.{byOrder}
 use Rattle.estimate.specs.Passes.{passLimit, placed}
 use Rattle.estimate.proofs.PassesLaws.{bits}
@@ -23,37 +23,37 @@ use Rattle.estimate.proofs.put_orders.Tie as tie
 abbrev held : ℤ → ℤ
 held x = toZ w32 (ofZ w32 x)
 
-abbrev param : (x : ℤ) → natAbs x ≤ passLimit → Size (held x)
-param x h = s-bits w32 x (sized x passLimit h)
-
 module _ (l f r : ℤ) (small : (natAbs l ≤ passLimit) × (natAbs f ≤ passLimit) × (natAbs r ≤ passLimit)) where
-  D-fits : SFits w32 (r -ℤ l)
-  D-fits = sfits-abs (r -ℤ l) (omega (arith, abs-minus r l))
+  abbrev L : Size (held l)
+  L = s-bits w32 l (sized l passLimit (small .0))
 
-  double-fits : SFits w32 (pos 2 *ℤ f)
-  double-fits = sfits-abs (pos 2 *ℤ f) (omega (arith, abs-mul (pos 2) f))
+  abbrev F : Size (held f)
+  F = s-bits w32 f (sized f passLimit (small .1))
 
-  less-fits : SFits w32 (l -ℤ pos 2 *ℤ f)
-  less-fits = sfits-abs (l -ℤ pos 2 *ℤ f) (omega (arith, abs-minus l (pos 2 *ℤ f), abs-mul (pos 2) f))
-
-  S-fits : SFits w32 (l -ℤ pos 2 *ℤ f +ℤ r)
-  S-fits = sfits-abs (l -ℤ pos 2 *ℤ f +ℤ r) (omega (arith, abs-add (l -ℤ pos 2 *ℤ f) r, abs-minus l (pos 2 *ℤ f), abs-mul (pos 2) f))
+  abbrev R : Size (held r)
+  R = s-bits w32 r (sized r passLimit (small .2))
 
   -- the machine's steps
-  step-double : SFits w32 (pos 2 *ℤ held f)
-  step-double = rw (bits f (small .1)) double-fits
+  less : SFits w32 (held r -ℤ held l)
+  less = fits? (search (L, R, sizes)) (omega arith)
 
-  step-less : SFits w32 (held l -ℤ held (pos 2 *ℤ held f))
-  step-less = rw (bits l (small .0), bits f (small .1), toZ-ofZ {w = w32} double-fits) less-fits
+  twice : SFits w32 (pos 2 *ℤ held f)
+  twice = fits? (search (F, sizes)) (omega arith)
 
-  step-S : SFits w32 (held (held l -ℤ held (pos 2 *ℤ held f)) +ℤ held r)
-  step-S = rw (bits l (small .0), bits f (small .1), bits r (small .2), toZ-ofZ {w = w32} double-fits, toZ-ofZ {w = w32} less-fits) S-fits
+  less-twice : SFits w32 (held l -ℤ held (pos 2 *ℤ held f))
+  less-twice = fits? (search (L, F, sizes)) (omega arith)
+
+  all-three : SFits w32 (held (held l -ℤ held (pos 2 *ℤ held f)) +ℤ held r)
+  all-three = fits? (search (L, F, R, sizes) depth 12) (omega arith)
+
+  value : held f ≡ f
+  value = value? F (omega arith)
 
   D : held (held r -ℤ held l) ≡ r -ℤ l
-  D = rw (bits l (small .0), bits r (small .2)) (toZ-ofZ {w = w32} D-fits)
+  D = value? (search (L, R, sizes)) (omega arith)
 
   S : held (held (held l -ℤ held (pos 2 *ℤ held f)) +ℤ held r) ≡ l -ℤ pos 2 *ℤ f +ℤ r
-  S = rw (bits l (small .0), bits f (small .1), bits r (small .2), toZ-ofZ {w = w32} double-fits, toZ-ofZ {w = w32} less-fits) (toZ-ofZ {w = w32} S-fits)
+  S = value? (search (L, F, R, sizes) depth 12) (omega arith)
 
   -- one, two and three orders
   module _ (k : ℕ) (b : List ℤ) (m : ℕ) where
@@ -65,27 +65,15 @@ module _ (l f r : ℤ) (small : (natAbs l ≤ passLimit) × (natAbs f ≤ passLi
 
     one : m ≡ 1 → b₁ ≡ placed k m (λ o. byOrder o l f r) b
     unfolding placed byOrder
-    one e = rw (e, bits f (small .1), add-zero k)
+    one e = rw (e, value, add-zero k)
 
     two : m ≡ 2 → b₂ ≡ placed k m (λ o. byOrder o l f r) b
     unfolding placed byOrder
-    two e = rw (e, D, bits f (small .1), add-zero k)
+    two e = rw (e, D, value, add-zero k)
 
     three : m ≡ 3 → set b₂ (k + 2) (held (held (held l -ℤ held (pos 2 *ℤ held f)) +ℤ held r)) ≡ placed k m (λ o. byOrder o l f r) b
     unfolding placed byOrder
-    three e = rw (e, S, D, bits f (small .1), add-zero k)
-
-sub-out : tie.Need-sub-out
-sub-out c = let s = c .before in fits? (search (param (s .args .l) (s .pre .1 .0), param (s .args .r) (s .pre .1 .2), sizes)) (omega arith)
-
-mul-out : tie.Need-mul-out
-mul-out c = let s = c .before .before in step-double (s .args .l) (s .args .f) (s .args .r) (s .pre .1)
-
-sub-out-2 : tie.Need-sub-out-2
-sub-out-2 c = let s = c .before .before in step-less (s .args .l) (s .args .f) (s .args .r) (s .pre .1)
-
-add-out : tie.Need-add-out
-add-out c = let s = c .before .before in step-S (s .args .l) (s .args .f) (s .args .r) (s .pre .1)
+    three e = rw (e, S, D, value, add-zero k)
 
 returns : tie.Need-returns
 returns c = let s = c .before .before in three (s .args .l) (s .args .f) (s .args .r) (s .pre .1) (s .args .k) (now (s .args .out)) (s .args .m) (omega arith)
@@ -102,13 +90,13 @@ put-orders-spec =
     (tie.spec
     (λ c. search needs)
     (λ c. search needs)
-    sub-out
+    (λ c. less (c .before .args .l) (c .before .args .f) (c .before .args .r) (c .before .pre .1))
     (λ c. search needs)
     (λ c. search needs)
     (λ c. simp length-set (omega arith))
-    mul-out
-    sub-out-2
-    add-out
+    (λ c. let s = c .before .before in twice (s .args .l) (s .args .f) (s .args .r) (s .pre .1))
+    (λ c. let s = c .before .before in less-twice (s .args .l) (s .args .f) (s .args .r) (s .pre .1))
+    (λ c. let s = c .before .before in all-three (s .args .l) (s .args .f) (s .args .r) (s .pre .1))
     (λ c. search needs)
     (λ c. search needs)
     (λ c. simp length-set (omega arith))

@@ -1,139 +1,89 @@
--- `estimate::row_yz` meets its contract: three rows, worked off along z, stand one behind the other, and a pass along y makes one row of them.
-use mathlib.Core.List.{List}
-use mathlib.Core.Path.{_≡_, ap, subst, _∙_}
-use Prim.Native.Nat.{ℕ, _≤_, _<_, _+_, _*_, _/_}
-use native.Mathlib.Nat.{le-trans, zero-add}
+-- `estimate::row_yz` meets its contract: a pass along y over three rows, which stand in the samples on two axes and in the ring on three.
+use mathlib.Core.Path.{_≡_}
+use Prim.Native.Nat.{ℕ, _≤_, _<_, _+_, _*_, _%_}
 use native.Mathlib.Omega.{arith}
-use lib.ListN.{length}
-use lib.IntN.{ℤ}
 use denote.Ref.{now}
 use borrow.Author.Needs.{needs}
-use Rattle.lattice.specs.Buffer.{at}
-use Rattle.estimate.specs.declared.Grid.{Grid}
-use Rattle.estimate.specs.Estimate.{left, right}
-use Rattle.estimate.specs.Passes.{placed, since, passOf, rowZ, rowYZ, Read, Samples}
-use Rattle.lattice.proofs.DigitsLaws.{high-below}
-use Rattle.estimate.proofs.PlacedLaws.{placed-length, placed-at, placed-before}
-use Rattle.estimate.proofs.PassesLaws.{left-below, right-below, row-z-high, row-yz-high, row-z-size}
+use Rattle.estimate.proofs.PassesLaws.{row-z-high, row-yz-high}
+use Rattle.estimate.proofs.RingLaws.{plain-three, slot-in, reads, made, ring-three, ring-next}
 use Rattle.estimate.proofs.row_yz.Statement.{statement}
 use Rattle.estimate.proofs.row_yz.Tie as tie
 
-module _ (g : Grid) (xs : List ℤ) (y z low high : ℕ) (ok : Samples g xs) (low-is : low ≡ left y) (high-is : high ≡ right (g .cy) y) where
-  abbrev w : ℕ
-  w = g .mz * g .cx
+pass-requires : tie.Need-pass-requires
+pass-requires c κs =
+    let r = c .before .before .before in
+    let n = r .before .before .before .before in
+    let s = n .before in
+    let ok = s .pre .0 .0 in (
+      (ok .grid .my-low, ok .grid .my-high, omega (arith, row-yz-high (s .args .g) (ok .grid), s .pre .1 .1)),
+      rw (r .row-start .ensures, c .before .before .row-start2 .ensures, c .before .row-start3 .ensures) (reads ok (n .neighbours-of .ensures) (plain-three ok (n .neighbours-of .ensures) (s .pre .0 .1) (s .pre .0 .2) (r .before .if1 .taken))),
+    )
 
-  -- the three rows stand one behind the other
-  module _ (b b₁ b₂ b₃ : List ℤ) (long : length b ≡ 576)
-      (e₁ : b₁ ≡ placed 0 w (rowZ g xs low z) b) (e₂ : b₂ ≡ placed w w (rowZ g xs y z) b₁) (e₃ : b₃ ≡ placed (w + w) w (rowZ g xs high z) b₂) where
-    long₁ : length b₁ ≡ 576
-    long₁ = ap length e₁ ∙ placed-length 0 w (rowZ g xs low z) b ∙ long
-
-    long₂ : length b₂ ≡ 576
-    long₂ = ap length e₂ ∙ placed-length w w (rowZ g xs y z) b₁ ∙ long₁
-
-    long₃ : length b₃ ≡ 576
-    long₃ = ap length e₃ ∙ placed-length (w + w) w (rowZ g xs high z) b₂ ∙ long₂
-
-    low-row : (t : ℕ) → t < w → since b₃ 0 t ≡ rowZ g xs low z t
-    low-row t l =
-        rw (e₃, placed-before (w + w) w (rowZ g xs high z) b₂ (0 + t) (omega arith), e₂, placed-before w w (rowZ g xs y z) b₁ (0 + t) (omega arith), e₁)
-        (placed-at 0 w (rowZ g xs low z) b t l (omega (arith, row-z-high g (ok .grid))))
-
-    mid-row : (t : ℕ) → t < w → since b₃ w t ≡ rowZ g xs y z t
-    mid-row t l =
-        rw (e₃, placed-before (w + w) w (rowZ g xs high z) b₂ (w + t) (omega arith), e₂)
-        (placed-at w w (rowZ g xs y z) b₁ t l (omega (arith, row-z-high g (ok .grid), long₁)))
-
-    high-row : (t : ℕ) → t < w → since b₃ (w + w) t ≡ rowZ g xs high z t
-    high-row t l = rw e₃ (placed-at (w + w) w (rowZ g xs high z) b₂ t l (omega (arith, row-z-high g (ok .grid), long₂)))
-
-    -- the pass along y reads them
-    read : (k v : ℕ) → k ≤ w + w → ((t : ℕ) → t < w → since b₃ k t ≡ rowZ g xs v z t) → Read b₃ k w
-    read k v l e =
-        record { inside = omega (arith, row-z-high g (ok .grid), long₃); small = λ t i. rw (e t i) (le-trans (row-z-size g xs v z t ok) (omega arith)) }
-
-    reads-all : Read b₃ 0 w × Read b₃ w w × Read b₃ (w + w) w
-    reads-all = (read 0 low (omega arith) low-row, read w y (omega arith) mid-row, read (w + w) high (omega arith) high-row)
-
-    -- and gives the row
-    result : (b′ b₄ : List ℤ) → length b′ ≡ 576 → b₄ ≡ placed 0 (g .my * w) (passOf (g .my) (since b₃ 0) (since b₃ w) (since b₃ (w + w))) b′
-        → (t : ℕ) → t < g .my * w → at b₄ t ≡ rowYZ g xs y z t
-    unfolding rowYZ passOf
-    result b′ b₄ l e t i =
-        let below : t / g .my < w = high-below (ok .grid .my-low) i in
-        ap (λ (b : List ℤ). at b t) e
-        ∙ subst (λ (k : ℕ). at (placed 0 (g .my * w) h b′) k ≡ h t) (zero-add t) (placed-at 0 (g .my * w) h b′ t i (omega (arith, row-yz-high g (ok .grid))))
-        ∙ rw (low-row (t / g .my) below, mid-row (t / g .my) below, high-row (t / g .my) below, low-is, high-is)
-      where
-        h : ℕ → ℤ
-        h = passOf (g .my) (since b₃ 0) (since b₃ w) (since b₃ (w + w))
-
-row-y-requires : tie.Need-row-y-requires
-row-y-requires c κs = let s = c .before .before .before in ((s .pre .0, c .before .if1 .taken), (s .pre .1 .0, s .pre .1 .1, s .pre .1 .3))
-
-mul-w : tie.Need-mul-w
-mul-w c = let s = c .before .before .before .before in omega (arith, row-z-high (s .args .g) (s .pre .0 .grid))
+mul-high : tie.Need-mul-high
+mul-high c = let s = c .before .before .before .before .before in omega (arith, slot-in (s .pre .0 .0) (c .before .before .before .before .neighbours-of .result .high))
 
 row-z-requires : tie.Need-row-z-requires
 row-z-requires c κs =
-    let s = c .before .before .before .before .before in
-    (s .pre .0, (rw (c .before .before .neighbours-of .ensures .0) (left-below (s .args .g .cy) (s .args .y) (s .pre .1 .0)), s .pre .1 .1, omega (arith, row-z-high (s .args .g) (s .pre .0 .grid), s .pre .1 .2)))
+    let n = c .before .before .before .before .before in
+    let s = n .before in
+    (s .pre .0 .0, (n .neighbours-of .ensures .high-in, s .pre .0 .2, omega (arith, slot-in (s .pre .0 .0) (n .neighbours-of .result .high), s .pre .1 .0)))
 
-row-z-requires-2 : tie.Need-row-z-requires-2
-row-z-requires-2 c κs =
-    let s = c .before .before .before .before .before .before .before .before in
-    (s .pre .0, (s .pre .1 .0, s .pre .1 .1, omega (arith, row-z-high (s .args .g) (s .pre .0 .grid), s .pre .1 .2, c .before .before .row-z .kept)))
+mul-pass : tie.Need-mul-pass
+mul-pass c = let n = c .before .before .before .before .before .before .before .before .before in omega (arith, slot-in (n .before .pre .0 .0) (n .neighbours-of .result .low))
 
-add-row-z : tie.Need-add-row-z
-add-row-z c = let s = c .before .before .before .before .before .before .before .before .before .before .before in omega (arith, row-z-high (s .args .g) (s .pre .0 .grid))
+mul-pass-2 : tie.Need-mul-pass-2
+mul-pass-2 c = let s = c .before .before .before .before .before .before .before .before .before .before in omega (arith, slot-in (s .pre .0 .0) (s .args .y))
 
-row-z-requires-3 : tie.Need-row-z-requires-3
-row-z-requires-3 c κs =
-    let s = c .before .before .before .before .before .before .before .before .before .before .before in (
-      s .pre .0,
-      (
-        rw (c .before .before .before .before .before .before .before .before .neighbours-of .ensures .1) (right-below (s .args .g .cy) (s .args .y) (s .pre .1 .0)),
-        s .pre .1 .1,
-        omega (arith, row-z-high (s .args .g) (s .pre .0 .grid), s .pre .1 .2, c .before .before .row-z2 .kept, c .before .before .before .before .before .row-z .kept),
-      ),
+pass-requires-2 : tie.Need-pass-requires-2
+pass-requires-2 c κs =
+    let r = c .before .before .before .before in
+    let e = r .before .before .before in
+    let n = e .before .before .before in
+    let s = n .before in
+    let ok = s .pre .0 .0 in (
+      (ok .grid .my-low, ok .grid .my-high, omega (arith, row-yz-high (s .args .g) (ok .grid), s .pre .1 .1)),
+      reads ok (n .neighbours-of .ensures) (ring-three ok (n .neighbours-of .ensures) (s .pre .0 .1) (e .if1 .left) (s .pre .1 .0) (s .pre .1 .2) (r .row-z .ensures)),
     )
 
-add-pass : tie.Need-add-pass
-add-pass c = let s = c .before .before .before .before .before .before .before .before .before .before .before .before .before .before in omega (arith, row-z-high (s .args .g) (s .pre .0 .grid))
-
-pass-requires : tie.Need-pass-requires
-pass-requires c κs =
-    let b = c .before .before .before in
-    let s = b .before .before .before .before .before .before .before .before .before .before .before .before in
-    let n = b .before .before .before .before .before .before .before .before .before .neighbours-of in (
-      (s .pre .0 .grid .my-low, s .pre .0 .grid .my-high, omega (arith, row-yz-high (s .args .g) (s .pre .0 .grid), s .pre .1 .3)),
-      reads-all (s .args .g) (s .args .xs .now) (s .args .y) (s .args .z) (n .result .low) (n .result .high) (s .pre .0) (n .ensures .0) (n .ensures .1) (s .args .three .now) _ _ _ (s .pre .1 .2)
-          (b .before .before .before .before .before .before .row-z .ensures) (b .before .before .before .row-z2 .ensures) (b .row-z3 .ensures),
+returns : tie.Need-returns
+returns c =
+    let r = c .before .before .before .before .before in
+    let n = r .before .before .before .before in
+    let s = n .before in
+    let ok = s .pre .0 .0 in (
+      λ some. absurd (some (r .before .if1 .taken)),
+      made ok (n .neighbours-of .ensures) (plain-three ok (n .neighbours-of .ensures) (s .pre .0 .1) (s .pre .0 .2) (r .before .if1 .taken)) (s .args .row .now) (s .pre .1 .1)
+          (rw (r .row-start .ensures, c .before .before .before .before .row-start2 .ensures, c .before .before .before .row-start3 .ensures) at (c .before .pass .ensures)),
     )
 
 returns-2 : tie.Need-returns-2
 returns-2 c =
-    let b = c .before .before .before .before .before in
-    let s = b .before .before .before .before .before .before .before .before .before .before .before .before in
-    let n = b .before .before .before .before .before .before .before .before .before .neighbours-of in
-    result (s .args .g) (s .args .xs .now) (s .args .y) (s .args .z) (n .result .low) (n .result .high) (s .pre .0) (n .ensures .0) (n .ensures .1) (s .args .three .now) _ _ _ (s .pre .1 .2)
-    (b .before .before .before .before .before .before .row-z .ensures) (b .before .before .before .row-z2 .ensures) (b .row-z3 .ensures) (s .args .row .now) _ (s .pre .1 .3) (c .before .pass .ensures)
+    let r = c .before .before .before .before .before .before in
+    let e = r .before .before .before in
+    let n = e .before .before .before in
+    let s = n .before in
+    let ok = s .pre .0 .0 in (
+      ring-next ok (n .neighbours-of .ensures) (s .pre .0 .1) (e .if1 .left) (s .pre .1 .0) (s .pre .1 .2) (r .row-z .ensures),
+      made ok (n .neighbours-of .ensures) (ring-three ok (n .neighbours-of .ensures) (s .pre .0 .1) (e .if1 .left) (s .pre .1 .0) (s .pre .1 .2) (r .row-z .ensures)) (s .args .row .now) (s .pre .1 .1) (c .before .pass2 .ensures),
+    )
 
 pub row-yz-spec : {M : Type 1} → statement M
 row-yz-spec =
     tie.close
     (tie.spec
-    row-y-requires
     (λ c κs. search needs)
-    mul-w
-    row-z-requires
-    row-z-requires-2
-    add-row-z
-    row-z-requires-3
-    add-pass
+    (λ c. omega (arith, row-z-high (c .before .before .args .g) (c .before .before .pre .0 .0 .grid)))
+    (λ c κs. search needs)
+    (λ c κs. search needs)
+    (λ c κs. search needs)
     pass-requires
+    mul-high
+    row-z-requires
+    mul-pass
+    mul-pass-2
+    pass-requires-2
     (λ c. search needs)
-    (λ c. c .before .row-y .ensures)
+    returns
     (λ c. search needs)
     (λ c. search needs)
     returns-2)

@@ -1,0 +1,118 @@
+-- Rows that are worked off along z, where they stand: one is added to the ring, the others stay, and three of them make a row worked off along y.
+use mathlib.Core.Path.{_≡_, sym, ap, subst, _∙_}
+use mathlib.Core.Logic.{⊎-elim}
+use mathlib.Core.List.{List}
+use Prim.Native.Nat.{ℕ, suc, _+_, _*_, _/_, _%_, _≤_, _<_}
+use native.Mathlib.Nat.{le-trans, one-mul, mul-zero, mul-le-mul, eq-or-lt-of-le}
+use native.Mathlib.Omega.{arith}
+use lib.Dec.{ltb}
+use lib.IntN.{ℤ}
+use lib.ListN.{length}
+use borrow.Author.Tests.{ltb-false}
+use Rattle.arith.proofs.Choices.{on-pick}
+use Rattle.lattice.specs.Buffer.{at}
+use Rattle.lattice.proofs.DigitsLaws.{high-below, high-digit}
+use Rattle.estimate.specs.declared.Grid.{Grid}
+use Rattle.estimate.specs.declared.Neighbours.{Neighbours}
+use Rattle.estimate.specs.Estimate.{left, right, NextTo}
+use Rattle.estimate.specs.Passes.{placed, since, grouped, passOf, rowStart, rowZ, rowYZ, Beside, Read, Samples, Stands, Ring}
+use Rattle.estimate.proofs.EstimateLaws.{near-left, near-right}
+use Rattle.estimate.proofs.PlacedLaws.{placed-length, placed-off, placed-at, placed-front}
+use Rattle.estimate.proofs.PassesLaws.{row-read, row-z-high, row-yz-high, row-z-size, one-pass}
+
+right-top : {count i v : ℕ} → NextTo count i v → v ≤ right count i
+unfolding right
+right-top {count} {i} {v} near = on-pick (λ k. v ≤ k) (ltb (suc i) count) (suc i) i (λ e. omega (arith, near .high)) (λ e. omega (arith, near .there, ltb-false (suc i) count e))
+
+-- row y and its neighbours n stand in a list
+pub record Three (g : Grid) (xs : List ℤ) (y z : ℕ) (n : Neighbours) (b : List ℤ) (low mid high : ℕ) : Type 0 where
+  pub below : Stands g xs (n .low) z b low
+  pub here : Stands g xs y z b mid
+  pub above : Stands g xs (n .high) z b high
+
+module _ {g : Grid} {xs : List ℤ} (ok : Samples g xs) where
+  abbrev w : ℕ
+  w = g .mz * g .cx
+
+  abbrev slot : ℕ → ℕ
+  slot v = w * (v % 3)
+
+  -- a row of samples that have no orders along z
+  plain : g .mz ≡ 1 → (v z : ℕ) → v < g .cy → z < g .cz → Stands g xs v z xs (rowStart g v z)
+  unfolding rowZ rowStart
+  plain e v z i l =
+      record {
+        inside = rw (e, one-mul (g .cx)) (row-read g xs v z ok i l .inside);
+        same = λ t h. sym (one-pass (g .mz) e (since xs (rowStart g v (left z))) (since xs (rowStart g v z)) (since xs (rowStart g v (right (g .cz) z))) t);
+      }
+
+  -- ---- a row is added to the ring
+
+  pub slot-in : (v : ℕ) → slot v + w ≤ 576
+  slot-in v = let s : v % 3 + 1 ≤ 3 = omega arith in omega (arith, mul-le-mul (row-z-high g (ok .grid)) s)
+
+  module _ (v z : ℕ) (b next : List ℤ) (long : length b ≡ 576) (e : next ≡ placed (slot v) w (rowZ g xs v z) b) where
+    added : Stands g xs v z next (slot v)
+    added =
+        let l : slot v + w ≤ length b = omega (arith, slot-in v) in
+        rw e (record { inside = rw placed-length l; same = λ t i. placed-at (slot v) w (rowZ g xs v z) b t i l })
+
+    kept : (u : ℕ) → u < v → v ≤ u + 2 → Stands g xs u z b (slot u) → Stands g xs u z next (slot u)
+    kept u l h s =
+        rw e
+        (record {
+          inside = rw placed-length (s .inside);
+          same = λ t i. placed-off (slot v) w (rowZ g xs v z) b (slot u + t) (λ j k d. apart (sym (high-digit w (u % 3) t i) ∙ ap (λ (n : ℕ). n / w) d ∙ high-digit w (v % 3) j k)) ∙ s .same t i;
+        })
+      where
+        apart : u % 3 ≡ v % 3 → ⊥
+        apart d = omega arith
+
+  -- the first row of a plane
+  pub ring-first : (z : ℕ) (b next : List ℤ) → length b ≡ 576 → next ≡ placed 0 w (rowZ g xs 0 z) b → Ring g xs 0 z next
+  ring-first z b next long e some v l h i =
+      let d : v ≡ 0 = omega arith in
+      rw d (added 0 z b next long (subst (λ (k : ℕ). next ≡ placed k w (rowZ g xs 0 z) b) (sym (mul-zero w)) e))
+
+  -- ---- row y and its neighbours
+
+  module _ {y z : ℕ} {n : Neighbours} (beside : Beside (g .cy) y n) where
+    read : {v k : ℕ} {b : List ℤ} → Stands g xs v z b k → Read b k w
+    read {v} s = record { inside = s .inside; small = λ t l. rw (s .same t l) (le-trans (row-z-size g xs v z t ok) (omega arith)) }
+
+    pub reads : {low mid high : ℕ} {b : List ℤ} → Three g xs y z n b low mid high → Read b low w × Read b mid w × Read b high w
+    reads s = (read (s .below), read (s .here), read (s .above))
+
+    -- a pass along y over the three
+    pub made : {low mid high : ℕ} {b next : List ℤ} → Three g xs y z n b low mid high → (r : List ℤ) → length r ≡ 576 → next ≡ placed 0 (g .my * w) (passOf (g .my) (since b low) (since b mid) (since b high)) r
+        → (t : ℕ) → t < g .my * w → at next t ≡ rowYZ g xs y z t
+    unfolding rowYZ grouped
+    made {low} {mid} {high} {b} s r long e t i =
+        let q : t / g .my < w = high-below (ok .grid .my-low) i in
+        ap (λ (b : List ℤ). at b t) e
+        ∙ placed-front (g .my * w) (passOf (g .my) (since b low) (since b mid) (since b high)) r t i (omega (arith, row-yz-high g (ok .grid)))
+        ∙ rw (s .below .same (t / g .my) q, s .here .same (t / g .my) q, s .above .same (t / g .my) q, beside .low-is, beside .high-is)
+
+    -- they stand in samples that have no orders along z
+    pub plain-three : y < g .cy → z < g .cz → g .mz ≡ 1 → Three g xs y z n xs (rowStart g (n .low) z) (rowStart g y z) (rowStart g (n .high) z)
+    plain-three in-y in-z e = record { below = plain e (n .low) z (beside .low-in) in-z; here = plain e y z in-y in-z; above = plain e (n .high) z (beside .high-in) in-z }
+
+    -- in the ring they stand once the upper one is added
+    module _ (in-y : y < g .cy) (some : g .mz ≡ 1 → ⊥) {b next : List ℤ} (long : length b ≡ 576) (ring : Ring g xs y z b) (e : next ≡ placed (slot (n .high)) w (rowZ g xs (n .high) z) b) where
+      stand : (v : ℕ) → NextTo (g .cy) y v → Stands g xs v z next (slot v)
+      stand v near =
+          let h = rw (← beside .high-is) at (near-right (g .cy) y in-y) in
+          ⊎-elim (λ (d : v ≡ n .high). rw d (added (n .high) z b next long e))
+          (λ (d : v < n .high). kept (n .high) z b next long e v d (omega (arith, h .high, near .low)) (ring some v (near .low) (omega (arith, h .high)) (near .there)))
+          (eq-or-lt-of-le (rw (beside .high-is) (right-top near)))
+
+      pub ring-three : Three g xs y z n next (slot (n .low)) (slot y) (slot (n .high))
+      ring-three =
+          record {
+            below = stand (n .low) (rw (beside .low-is) (near-left (g .cy) y in-y));
+            here = stand y (record { low = omega arith; high = omega arith; there = in-y });
+            above = stand (n .high) (rw (beside .high-is) (near-right (g .cy) y in-y));
+          }
+
+      pub ring-next : Ring g xs (y + 1) z next
+      ring-next some v l h i = stand v (record { low = omega arith; high = h; there = i })
