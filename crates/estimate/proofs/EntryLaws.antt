@@ -4,7 +4,7 @@ use mathlib.Core.Path.{_≡_, refl, sym, ap, subst, _∙_, fun-ext}
 use mathlib.Core.Logic.{⊎-elim}
 use mathlib.Core.List.{List, [], _∷_}
 use Prim.Native.Nat.{ℕ, zero, suc, _+_, _*_, _/_, _%_, _^_, _≤_, _<_}
-use native.Mathlib.Nat.{add-comm, mul-add-mod-self-right, mul-add-div-right, mod-one, div-one, zero-mod, zero-div, mod-eq-of-lt, div-eq-of-lt, add-zero, eq-or-lt-of-le}
+use native.Mathlib.Nat.{add-comm, mod-one, div-one, zero-mod, zero-div, mod-lt, mod-eq-of-lt, mul-zero, eq-or-lt-of-le}
 use native.Mathlib.Decide.{decLt}
 use native.Mathlib.Omega.{arith}
 use lib.Dec.{ltb, lit<}
@@ -17,9 +17,9 @@ use Rattle.lattice.specs.Buffer.{at}
 use Rattle.lattice.specs.Digits.{digit}
 use Rattle.lattice.specs.Shape.{count, orders, entries, Shaped}
 use Rattle.lattice.specs.Axes.{Place, Field, Rule, put, along, sweep, axes}
-use Rattle.lattice.specs.Records.{nodeNumber, samplesField, entryPlace}
+use Rattle.lattice.specs.Records.{samplesField, entryPlace}
 use Rattle.lattice.proofs.Along.{each-axes, Linear, sweep-rules, Reordered, under, swapped, andThen, sweep-order, put-same}
-use Rattle.lattice.proofs.DigitsLaws.{digit-number, digit-below, span-power, digit-beyond, digit-same, high-below, high-digit, low-digit}
+use Rattle.lattice.proofs.DigitsLaws.{digit-below, span-power, digit-beyond, digit-same, high-below, high-digit, low-digit}
 use Rattle.lattice.proofs.ShapeLaws.{orders-range, pow-one, pow-two, pow-three, entries-pos}
 use Rattle.lattice.proofs.RecordsLaws.{node-is}
 use Rattle.estimate.specs.declared.Grid.{Grid}
@@ -138,13 +138,6 @@ module _ (s : Shape) (xs : List ℤ) where
 
 -- ---- the index of an entry
 
--- the node of three indices
-node : ℕ → ℕ → ℕ → Place
-node x y z zero = x
-node x y z (suc zero) = y
-node x y z (suc (suc zero)) = z
-node x y z (suc (suc (suc a))) = 0
-
 some-order : (s : Shape) → 0 < orders s
 some-order s = let h = orders-range (s .degree) .0 in omega arith
 
@@ -155,95 +148,59 @@ module _ (s : Shape) (ok : Shaped s) where
 
   pub record-size : recordSize (gridOf s) ≡ entries s
   unfolding gridOf entries
-  record-size = by-n (λ n. s .axes ≡ n → ordersOn s 0 * (ordersOn s 1 * ordersOn s 2) ≡ orders s ^ s .axes) one two three (s .axes) (ok .axes-low) (ok .axes-high) refl
+  record-size = by-n (λ n. s .axes ≡ n → ordersOn s 0 * (ordersOn s 1 * ordersOn s 2) ≡ orders s ^ n) one two three (s .axes) (ok .axes-low) (ok .axes-high) refl
     where
-      one : s .axes ≡ 1 → ordersOn s 0 * (ordersOn s 1 * ordersOn s 2) ≡ orders s ^ s .axes
-      one e = rw (orders-used s 0 (omega arith), orders-unused s 1 (omega arith), orders-unused s 2 (omega arith), e, pow-one) (omega arith)
+      one : s .axes ≡ 1 → ordersOn s 0 * (ordersOn s 1 * ordersOn s 2) ≡ orders s ^ 1
+      one e = rw (orders-used s 0 (omega arith), orders-unused s 1 (omega arith), orders-unused s 2 (omega arith), pow-one) (omega arith)
 
-      two : s .axes ≡ 2 → ordersOn s 0 * (ordersOn s 1 * ordersOn s 2) ≡ orders s ^ s .axes
-      two e = rw (orders-used s 0 (omega arith), orders-used s 1 (omega arith), orders-unused s 2 (omega arith), e, pow-two) (omega arith)
+      two : s .axes ≡ 2 → ordersOn s 0 * (ordersOn s 1 * ordersOn s 2) ≡ orders s ^ 2
+      two e = rw (orders-used s 0 (omega arith), orders-used s 1 (omega arith), orders-unused s 2 (omega arith), pow-two) (omega arith)
 
-      three : s .axes ≡ 3 → ordersOn s 0 * (ordersOn s 1 * ordersOn s 2) ≡ orders s ^ s .axes
-      three e = rw (orders-used s 0 (omega arith), orders-used s 1 (omega arith), orders-used s 2 (omega arith), e, pow-three) (omega arith)
+      three : s .axes ≡ 3 → ordersOn s 0 * (ordersOn s 1 * ordersOn s 2) ≡ orders s ^ 3
+      three e = rw (orders-used s 0 (omega arith), orders-used s 1 (omega arith), orders-used s 2 (omega arith), pow-three) (omega arith)
 
-  module _ (x y z e : ℕ) (in-x : x < count s 0) (in-y : y < count s 1) (in-z : z < count s 2) (l : e < entries s) where
-    inside : (a : ℕ) → a < 3 → node x y z a < count s a
-    unfolding node
-    inside zero l = in-x
-    inside (suc zero) l = in-y
-    inside (suc (suc zero)) l = in-z
-    inside (suc (suc (suc a))) l = absurd (omega arith)
+  module _ (i : ℕ) where
+    -- the node's number, and the entry's in its record
+    abbrev v : ℕ
+    v = i / recordSize (gridOf s)
 
-    none : (a : ℕ) → 3 ≤ a → node x y z a ≡ 0
-    unfolding node
-    none zero l = absurd (omega arith)
-    none (suc zero) l = absurd (omega arith)
-    none (suc (suc zero)) l = absurd (omega arith)
-    none (suc (suc (suc a))) l = refl
+    abbrev e : ℕ
+    e = i % recordSize (gridOf s)
 
-    abbrev i : ℕ
-    i = (x + count s 0 * (y + count s 1 * z)) * entries s + e
+    below : e < recordSize (gridOf s)
+    unfolding gridOf
+    below = rw record-size (mod-lt i (entries-pos s))
 
-    node-digit : (a : ℕ) → digit (count s) (i / entries s) a ≡ node x y z a
-    unfolding nodeNumber node
-    node-digit a =
-        ap (λ (v : ℕ). digit (count s) v a) (mul-add-div-right (entries-pos s) (x + count s 0 * (y + count s 1 * z)) e ∙ ap (λ (k : ℕ). x + count s 0 * (y + count s 1 * z) + k) (div-eq-of-lt l) ∙ add-zero (x + count s 0 * (y + count s 1 * z)) ∙ sym (node-is s (node x y z)))
-        ∙ digit-number 3 (count s) (node x y z) inside none a
-
-    order-digit : i % entries s ≡ e
-    order-digit = mul-add-mod-self-right (x + count s 0 * (y + count s 1 * z)) (entries s) e ∙ mod-eq-of-lt l
-
-    place-is : (a : ℕ) → entryPlace s i a ≡ orders s * node x y z a + digit (λ b. orders s) e a
+    place-is : (a : ℕ) → entryPlace s i a ≡ orders s * digit (count s) v a + digit (λ b. orders s) e a
     unfolding entryPlace
-    place-is a = rw (node-digit a, order-digit)
+    place-is a = rw record-size
 
-    module _ (a : ℕ) (l3 : a < 3) where
-      used-node : a < s .axes → entryPlace s i a / ordersOn s a ≡ node x y z a
-      used-node k = rw (place-is a, orders-used s a k) (high-digit (orders s) (node x y z a) (digit (λ b. orders s) e a) (digit-below (λ b. orders s) e a (some-order s)))
+    place-on : (a : ℕ) → a < 3 → (entryPlace s i a / ordersOn s a ≡ digit (count s) v a) × (entryPlace s i a % ordersOn s a ≡ digit (ordersOn s) e a)
+    unfolding entries
+    place-on a l3 = go (decLt a (s .axes))
+      where
+        o : ℕ
+        o = digit (λ b. orders s) e a
 
-      used-order : a < s .axes → entryPlace s i a % ordersOn s a ≡ digit (ordersOn s) e a
-      used-order k =
-          rw (place-is a, orders-used s a k) (low-digit (orders s) (node x y z a) (digit (λ b. orders s) e a) (digit-below (λ b. orders s) e a (some-order s)))
-          ∙ digit-same (λ b. orders s) (ordersOn s) e a (λ b h. sym (orders-used s b (omega arith)))
-
-      unused-place : s .axes ≤ a → (node x y z a ≡ 0) × (entryPlace s i a ≡ 0)
-      unfolding entries
-      unused-place k =
-          let h = inside a l3 in
-          let c = ok .unused a l3 k in
-          let v : node x y z a ≡ 0 = omega arith in
-          (v, place-is a ∙ rw (v, digit-beyond (s .axes) (λ b. orders s) e (rw (span-power (orders s) (s .axes)) l) a k) (omega arith))
-
-      unused-order : s .axes ≤ a → digit (ordersOn s) e a ≡ 0
-      unused-order k = let h = digit-below (ordersOn s) e a (orders-some a) in let u = orders-unused s a k in omega arith
-
-      place-node : entryPlace s i a / ordersOn s a ≡ node x y z a
-      place-node = go (decLt a (s .axes))
-        where
-          go : Dec (a < s .axes) → entryPlace s i a / ordersOn s a ≡ node x y z a
-          go (yes k) = used-node k
-          go (no k) = let h = unused-place (omega (arith, k)) in rw (h .0, h .1) (zero-div (ordersOn s a))
-
-      place-order : entryPlace s i a % ordersOn s a ≡ digit (ordersOn s) e a
-      place-order = go (decLt a (s .axes))
-        where
-          go : Dec (a < s .axes) → entryPlace s i a % ordersOn s a ≡ digit (ordersOn s) e a
-          go (yes k) = used-order k
-          go (no k) = let h = unused-place (omega (arith, k)) in rw (unused-order (omega (arith, k)), h .1) (zero-mod (ordersOn s a))
+        go : Dec (a < s .axes) → (entryPlace s i a / ordersOn s a ≡ digit (count s) v a) × (entryPlace s i a % ordersOn s a ≡ digit (ordersOn s) e a)
+        go (yes k) =
+            let h : o < orders s = digit-below (λ b. orders s) e a (some-order s) in
+            rw (place-is a, orders-used s a k) (high-digit (orders s) (digit (count s) v a) o h, low-digit (orders s) (digit (count s) v a) o h ∙ digit-same (λ b. orders s) (ordersOn s) e a (λ b h. sym (orders-used s b (omega arith))))
+        go (no k) =
+            let u : s .axes ≤ a = omega (arith, k) in
+            let n : digit (count s) v a ≡ 0 = omega (arith, digit-below (count s) v a (ok .low a l3), ok .unused a l3 u) in
+            let d : digit (ordersOn s) e a ≡ 0 = omega (arith, digit-below (ordersOn s) e a (orders-some a), orders-unused s a u) in
+            let z : o ≡ 0 = digit-beyond (s .axes) (λ b. orders s) e (rw (span-power (orders s) (s .axes), ← record-size) below) a u in
+            rw (place-is a, n, d, z, mul-zero (orders s)) (zero-div (ordersOn s a), zero-mod (ordersOn s a))
 
     -- the entry at its index is what the passes give
-    pub entry-is : (xs : List ℤ) → tableRecords s xs (entryPlace s i) ≡ rowOf (gridOf s) (rowYZ (gridOf s) xs y z) (recordSize (gridOf s) * x + e)
-    unfolding node digit gridOf
+    pub entry-is : (xs : List ℤ) → let g : Grid = gridOf s in tableRecords s xs (entryPlace s i) ≡ rowOf g (rowYZ g xs (v / g .cx % g .cy) (v / g .cx / g .cy % g .cz)) (recordSize g * (v % g .cx) + e)
+    unfolding digit gridOf
     entry-is xs =
-        let h : e < ordersOn s 0 * (ordersOn s 1 * ordersOn s 2) = rw record-size l in
-        let k : e / ordersOn s 0 / ordersOn s 1 < ordersOn s 2 = high-below (orders-some 1) (high-below (orders-some 0) h) in
+        let k : e / ordersOn s 0 / ordersOn s 1 < ordersOn s 2 = high-below (orders-some 1) (high-below (orders-some 0) below) in
+        let x = place-on 0 (lit< tt) in
+        let y = place-on 1 (lit< tt) in
+        let z = place-on 2 (lit< tt) in
         defined s xs (ok .axes-high) (entryPlace s i)
-        ∙ rw (
-          place-node 0 (lit< tt),
-          place-node 1 (lit< tt),
-          place-node 2 (lit< tt),
-          place-order 0 (lit< tt),
-          place-order 1 (lit< tt),
-          place-order 2 (lit< tt),
-          mod-eq-of-lt k,
-        ) (sym (passed s xs orders-some x y z e in-x h))
+        ∙ rw (x .0, y .0, z .0, x .1, y .1, z .1, mod-eq-of-lt k)
+        (sym (passed s xs orders-some (v % count s 0) (v / count s 0 % count s 1) (v / count s 0 / count s 1 % count s 2) e (mod-lt v (ok .low 0 (lit< tt))) below))

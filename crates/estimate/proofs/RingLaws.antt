@@ -13,9 +13,8 @@ use Rattle.arith.proofs.Choices.{on-pick}
 use Rattle.lattice.specs.Buffer.{at}
 use Rattle.lattice.proofs.DigitsLaws.{high-below, high-digit}
 use Rattle.estimate.specs.declared.Grid.{Grid}
-use Rattle.estimate.specs.declared.Neighbours.{Neighbours}
 use Rattle.estimate.specs.Estimate.{left, right, NextTo}
-use Rattle.estimate.specs.Passes.{placed, since, grouped, passOf, rowStart, rowZ, rowYZ, Beside, Read, Samples, Stands, Ring}
+use Rattle.estimate.specs.Passes.{placed, since, grouped, passOf, rowStart, rowZ, rowYZ, Read, Samples, Stands, Ring}
 use Rattle.estimate.proofs.EstimateLaws.{near-left, near-right}
 use Rattle.estimate.proofs.PlacedLaws.{placed-length, placed-off, placed-at, placed-front}
 use Rattle.estimate.proofs.PassesLaws.{row-read, row-z-high, row-yz-high, row-z-size, one-pass}
@@ -24,11 +23,11 @@ right-top : {count i v : ℕ} → NextTo count i v → v ≤ right count i
 unfolding right
 right-top {count} {i} {v} near = on-pick (λ k. v ≤ k) (ltb (suc i) count) (suc i) i (λ e. omega (arith, near .high)) (λ e. omega (arith, near .there, ltb-false (suc i) count e))
 
--- row y and its neighbours n stand in a list
-pub record Three (g : Grid) (xs : List ℤ) (y z : ℕ) (n : Neighbours) (b : List ℤ) (low mid high : ℕ) : Type 0 where
-  pub below : Stands g xs (n .low) z b low
+-- rows u, y and v stand in a list
+pub record Three (g : Grid) (xs : List ℤ) (u y v z : ℕ) (b : List ℤ) (low mid high : ℕ) : Type 0 where
+  pub below : Stands g xs u z b low
   pub here : Stands g xs y z b mid
-  pub above : Stands g xs (n .high) z b high
+  pub above : Stands g xs v z b high
 
 module _ {g : Grid} {xs : List ℤ} (ok : Samples g xs) where
   abbrev w : ℕ
@@ -76,43 +75,43 @@ module _ {g : Grid} {xs : List ℤ} (ok : Samples g xs) where
 
   -- ---- row y and its neighbours
 
-  module _ {y z : ℕ} {n : Neighbours} (beside : Beside (g .cy) y n) where
-    read : {v k : ℕ} {b : List ℤ} → Stands g xs v z b k → Read b k w
-    read {v} s = record { inside = s .inside; small = λ t l. rw (s .same t l) (le-trans (row-z-size g xs v z t ok) (omega arith)) }
+  read : {i z k : ℕ} {b : List ℤ} → Stands g xs i z b k → Read b k w
+  read {i} {z} s = record { inside = s .inside; small = λ t l. rw (s .same t l) (le-trans (row-z-size g xs i z t ok) (omega arith)) }
 
-    pub reads : {low mid high : ℕ} {b : List ℤ} → Three g xs y z n b low mid high → Read b low w × Read b mid w × Read b high w
-    reads s = (read (s .below), read (s .here), read (s .above))
+  pub reads : {u y v z low mid high : ℕ} {b : List ℤ} → Three g xs u y v z b low mid high → Read b low w × Read b mid w × Read b high w
+  reads s = (read (s .below), read (s .here), read (s .above))
 
+  -- they stand in samples that have no orders along z
+  pub plain-three : (u y v z : ℕ) → u < g .cy → y < g .cy → v < g .cy → z < g .cz → g .mz ≡ 1 → Three g xs u y v z xs (rowStart g u z) (rowStart g y z) (rowStart g v z)
+  plain-three u y v z in-u in-y in-v in-z e = record { below = plain e u z in-u in-z; here = plain e y z in-y in-z; above = plain e v z in-v in-z }
+
+  module _ (u y v : ℕ) {z : ℕ} (low-is : u ≡ left y) (high-is : v ≡ right (g .cy) y) where
     -- a pass along y over the three
-    pub made : {low mid high : ℕ} {b next : List ℤ} → Three g xs y z n b low mid high → (r : List ℤ) → length r ≡ 576 → next ≡ placed 0 (g .my * w) (passOf (g .my) (since b low) (since b mid) (since b high)) r
+    pub made : {low mid high : ℕ} {b next : List ℤ} → Three g xs u y v z b low mid high → (r : List ℤ) → length r ≡ 576 → next ≡ placed 0 (g .my * w) (passOf (g .my) (since b low) (since b mid) (since b high)) r
         → (t : ℕ) → t < g .my * w → at next t ≡ rowYZ g xs y z t
     unfolding rowYZ grouped
     made {low} {mid} {high} {b} s r long e t i =
         let q : t / g .my < w = high-below (ok .grid .my-low) i in
         ap (λ (b : List ℤ). at b t) e
         ∙ placed-front (g .my * w) (passOf (g .my) (since b low) (since b mid) (since b high)) r t i (omega (arith, row-yz-high g (ok .grid)))
-        ∙ rw (s .below .same (t / g .my) q, s .here .same (t / g .my) q, s .above .same (t / g .my) q, beside .low-is, beside .high-is)
-
-    -- they stand in samples that have no orders along z
-    pub plain-three : y < g .cy → z < g .cz → g .mz ≡ 1 → Three g xs y z n xs (rowStart g (n .low) z) (rowStart g y z) (rowStart g (n .high) z)
-    plain-three in-y in-z e = record { below = plain e (n .low) z (beside .low-in) in-z; here = plain e y z in-y in-z; above = plain e (n .high) z (beside .high-in) in-z }
+        ∙ rw (s .below .same (t / g .my) q, s .here .same (t / g .my) q, s .above .same (t / g .my) q, low-is, high-is)
 
     -- in the ring they stand once the upper one is added
-    module _ (in-y : y < g .cy) (some : g .mz ≡ 1 → ⊥) {b next : List ℤ} (long : length b ≡ 576) (ring : Ring g xs y z b) (e : next ≡ placed (slot (n .high)) w (rowZ g xs (n .high) z) b) where
-      stand : (v : ℕ) → NextTo (g .cy) y v → Stands g xs v z next (slot v)
-      stand v near =
-          let h = rw (← beside .high-is) at (near-right (g .cy) y in-y) in
-          ⊎-elim (λ (d : v ≡ n .high). rw d (added (n .high) z b next long e))
-          (λ (d : v < n .high). kept (n .high) z b next long e v d (omega (arith, h .high, near .low)) (ring some v (near .low) (omega (arith, h .high)) (near .there)))
-          (eq-or-lt-of-le (rw (beside .high-is) (right-top near)))
+    module _ (in-y : y < g .cy) (some : g .mz ≡ 1 → ⊥) {b next : List ℤ} (long : length b ≡ 576) (ring : Ring g xs y z b) (e : next ≡ placed (slot v) w (rowZ g xs v z) b) where
+      stand : (i : ℕ) → NextTo (g .cy) y i → Stands g xs i z next (slot i)
+      stand i near =
+          let h = rw (← high-is) at (near-right (g .cy) y in-y) in
+          ⊎-elim (λ (d : i ≡ v). rw d (added v z b next long e))
+          (λ (d : i < v). kept v z b next long e i d (omega (arith, h .high, near .low)) (ring some i (near .low) (omega (arith, h .high)) (near .there)))
+          (eq-or-lt-of-le (rw high-is (right-top near)))
 
-      pub ring-three : Three g xs y z n next (slot (n .low)) (slot y) (slot (n .high))
+      pub ring-three : Three g xs u y v z next (slot u) (slot y) (slot v)
       ring-three =
           record {
-            below = stand (n .low) (rw (beside .low-is) (near-left (g .cy) y in-y));
+            below = stand u (rw low-is (near-left (g .cy) y in-y));
             here = stand y (record { low = omega arith; high = omega arith; there = in-y });
-            above = stand (n .high) (rw (beside .high-is) (near-right (g .cy) y in-y));
+            above = stand v (rw high-is (near-right (g .cy) y in-y));
           }
 
       pub ring-next : Ring g xs (y + 1) z next
-      ring-next some v l h i = stand v (record { low = omega arith; high = h; there = i })
+      ring-next some j l h i = stand j (record { low = omega arith; high = h; there = i })

@@ -2,7 +2,7 @@
 use mathlib.Core.Path.{_≡_, sym, ap, subst, _∙_}
 use mathlib.Core.List.{List}
 use Prim.Native.Nat.{ℕ, _+_, _*_, _/_, _%_, _≤_, _<_}
-use native.Mathlib.Nat.{mul-zero, zero-add, mul-le-mul, mul-le-mul-left, mod-lt, div-add-mod, mod-eq-of-lt, div-eq-of-lt, lt-of-le-of-lt}
+use native.Mathlib.Nat.{mul-zero, zero-add, mul-le-mul, mul-le-mul-left, mod-lt, div-add-mod, mod-eq-of-lt, div-eq-of-lt, lt-of-le-of-lt, div-div-eq-div-mul}
 use native.Mathlib.Omega.{arith}
 use lib.IntN.{ℤ}
 use Rattle.lattice.specs.declared.Shape.{Shape}
@@ -10,7 +10,7 @@ use Rattle.lattice.specs.Shape.{count, size, Shaped}
 use Rattle.lattice.specs.Buffer.{at}
 use Rattle.lattice.specs.Records.{entryPlace}
 use Rattle.lattice.proofs.ShapeLaws.{nodes-is}
-use Rattle.lattice.proofs.DigitsLaws.{high-below}
+use Rattle.lattice.proofs.DigitsLaws.{high-below, high-digit, low-digit}
 use Rattle.estimate.specs.declared.Grid.{Grid}
 use Rattle.estimate.specs.Estimate.{left, right, tableRecords}
 use Rattle.estimate.specs.Passes.{since, grouped, gridOf, rowStart, rowZ, rowYZ, lower, upper, nodeSize, recordSize, rowSize, rowOf, planeSize, planeOf, planesOf, Grids}
@@ -65,25 +65,20 @@ module _ (s : Shape) (ok : Shaped s) (grid : Grids (gridOf s)) (xs : List ℤ) w
   plane-some : 0 < planeSize g
   plane-some = mul-le-mul row-some (grid .y-low)
 
-  -- entry e of node (x, y, z)
-  entry : (x y z e i : ℕ) → x < g .cx → y < g .cy → z < g .cz → e < recordSize g → planeSize g * z + (rowSize g * y + (recordSize g * x + e)) ≡ i
-      → rowOf g (rowYZ g xs y z) (recordSize g * x + e) ≡ tableRecords s xs (entryPlace s i)
-  unfolding gridOf
-  entry x y z e i in-x in-y in-z in-e h =
-      let n = record-size s ok in
-      sym (entry-is s ok x y z e in-x in-y in-z (subst (λ (k : ℕ). e < k) n in-e) xs)
-      ∙ ap (λ (k : ℕ). tableRecords s xs (entryPlace s k)) (subst (λ (k : ℕ). (x + count s 0 * (y + count s 1 * z)) * k + e ≡ i) n (together (recordSize g) (count s 0) (count s 1) x y z e ∙ h))
-    where
-      together : (a b c x y z e : ℕ) → (x + b * (y + c * z)) * a + e ≡ a * b * c * z + (a * b * y + (a * x + e))
-      together a b c x y z e = omega arith
+  -- a digit of i counted from below, and from above
+  parts : (r c i : ℕ) → 0 < r → 0 < c → (i % (r * c) / r ≡ i / r % c) × (i % (r * c) % r ≡ i % r)
+  parts r c i some-r some-c =
+      let j : ℕ = i % (r * c) in
+      let q : ℕ = c * (i / (r * c)) + j / r in
+      let in-y : j / r < c = high-below some-r (mod-lt i (mul-le-mul some-r some-c)) in
+      let in-o : j % r < r = mod-lt j some-r in
+      let e : i ≡ r * q + j % r = omega (arith, div-add-mod i (r * c), div-add-mod j r) in
+      (sym (ap (λ (k : ℕ). k / r % c) e ∙ ap (λ (k : ℕ). k % c) (high-digit r q (j % r) in-o) ∙ low-digit c (i / (r * c)) (j / r) in-y), sym (ap (λ (k : ℕ). k % r) e ∙ low-digit r q (j % r) in-o))
 
   pub planes-are : (i : ℕ) → i < size s → planesOf g xs i ≡ tableRecords s xs (entryPlace s i)
   unfolding planesOf planeOf grouped
   planes-are i l =
-      let j : ℕ = i % planeSize g in
-      let o : ℕ = j % rowSize g in
-      let in-j : j < planeSize g = mod-lt i plane-some in
-      let in-o : o < rowSize g = mod-lt j row-some in
-      ap (rowOf g (rowYZ g xs (j / rowSize g) (i / planeSize g))) (sym (div-add-mod o (recordSize g)))
-      ∙ entry (o / recordSize g) (j / rowSize g) (i / planeSize g) (o % recordSize g) i (high-below record-some in-o) (high-below row-some in-j) (high-below plane-some (rw planes-size l)) (mod-lt o record-some)
-      (rw (div-add-mod o (recordSize g), div-add-mod j (rowSize g)) (div-add-mod i (planeSize g)))
+      let y = parts (rowSize g) (g .cy) i row-some (grid .y-low) in
+      let x = parts (recordSize g) (g .cx) i record-some (omega (arith, grid .x-low)) in
+      let z : i / planeSize g ≡ i / recordSize g / g .cx / g .cy % g .cz = sym (mod-eq-of-lt (high-below plane-some (rw planes-size l))) ∙ ap (λ (k : ℕ). k % g .cz) (sym (ap (λ (k : ℕ). k / g .cy) (div-div-eq-div-mul i (recordSize g) (g .cx)) ∙ div-div-eq-div-mul i (rowSize g) (g .cy))) in
+      rw (y .0, y .1, z, ← div-div-eq-div-mul i (recordSize g) (g .cx), ← div-add-mod (i % rowSize g) (recordSize g), x .0, x .1) (sym (entry-is s ok i xs))

@@ -13,7 +13,6 @@ use Rattle.lattice.specs.Buffer.{at}
 use Rattle.lattice.specs.Shape.{count, orders}
 use Rattle.lattice.specs.Records.{sampleLimit}
 use Rattle.estimate.specs.declared.Grid.{Grid}
-use Rattle.estimate.specs.declared.Neighbours.{Neighbours}
 use Rattle.estimate.specs.Estimate.{left, right, byOrder}
 
 -- a list with h 0, h 1, .., h (n - 1) from index k on
@@ -90,13 +89,6 @@ planesOf g xs = grouped (planeSize g) (planeOf g xs)
 -- samples, and entries of total order up to 4, lie within ±32768·2^4
 abbrev pub passLimit : ℕ
 passLimit = 524288
-
--- the neighbours of a node
-pub record Beside (count i : ℕ) (n : Neighbours) : Type 0 where
-  pub low-is : n .low ≡ left i
-  pub high-is : n .high ≡ right count i
-  pub low-in : n .low < count
-  pub high-in : n .high < count
 
 -- what a pass reads lies in its list and within the limit
 pub record Read (xs : List ℤ) (low count : ℕ) : Type 0 where

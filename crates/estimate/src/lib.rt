@@ -5,8 +5,8 @@ ghost use lib.IntN.{natAbs};
 ghost use lib.ListN.{length};
 ghost use Rattle.lattice.specs.Answer.{meaning};
 ghost use Rattle.lattice.specs.Buffer.{at, overwrite};
-ghost use Rattle.estimate.specs.Estimate.{byOrder, recordsOf, estimateOutcome, estimateWrites, Estimable};
-ghost use Rattle.estimate.specs.Passes.{passLimit, placed, since, passOf, ordersOn, gridOf, rowStart, rowZ, rowYZ, rowSize, rowOf, planeSize, planeOf, planesOf, Beside, Read, Grids, Samples, Ring};
+ghost use Rattle.estimate.specs.Estimate.{left, right, byOrder, recordsOf, estimateOutcome, estimateWrites, Estimable};
+ghost use Rattle.estimate.specs.Passes.{passLimit, placed, since, passOf, ordersOn, gridOf, rowStart, rowZ, rowYZ, rowSize, rowOf, planeSize, planeOf, planesOf, Read, Grids, Samples, Ring};
 use lattice::Answer;
 use lattice::Shape;
 
@@ -20,22 +20,26 @@ struct Grid {
     mz: usize,
 }
 
-// The neighbours of a node along an axis.
-struct Neighbours {
-    low: usize,
-    high: usize,
+// The lower neighbour of node i along an axis: the node itself where there is none.
+fn left_of(i: usize) -> usize
+    ensures { λ r. ⌜ (r ≡ left i) × (r ≤ i) ⌝ }
+{
+    if i == 0 {
+        i
+    } else {
+        i - 1
+    }
 }
 
-// A neighbour missing at a border is the node itself.
-fn neighbours_of(count: usize, i: usize) -> Neighbours
+// The upper neighbour.
+fn right_of(count: usize, i: usize) -> usize
     requires { ⌜ i < count ⌝ }
-    ensures { λ r. ⌜ Beside count i r ⌝ }
+    ensures { λ r. ⌜ (r ≡ right count i) × (r < count) ⌝ }
 {
-    let low = if i == 0 { i } else { i - 1 };
-    let high = if i + 1 < count { i + 1 } else { i };
-    Neighbours {
-        low: low,
-        high: high,
+    if i + 1 < count {
+        i + 1
+    } else {
+        i
     }
 }
 
@@ -116,10 +120,9 @@ fn row_z(g: Grid, xs: &[i32], y: usize, z: usize, out: &mut [i32], k: usize)
     requires { ⌜ (y < g .cy) × (z < g .cz) × (k + g .mz * g .cx ≤ length (now out)) ⌝ }
     ensures { λ _. ⌜ now (out .exit) ≡ placed k (g .mz * g .cx) (rowZ g (now (xs .entry)) y z) (now (out .entry)) ⌝ }
 {
-    let n = neighbours_of(g.cz, z);
-    let low = row_start(g, y, n.low);
+    let low = row_start(g, y, left_of(z));
     let mid = row_start(g, y, z);
-    let high = row_start(g, y, n.high);
+    let high = row_start(g, y, right_of(g.cz, z));
     pass(g.mz, xs, low, mid, high, g.cx, out, k)
 }
 
@@ -130,17 +133,18 @@ fn row_yz(g: Grid, xs: &[i32], y: usize, z: usize, ring: &mut [i32], row: &mut [
     ensures { λ _. ⌜ Ring g (now (xs .entry)) (y + 1) z (now (ring .exit)) ⌝ }
     ensures { λ _. ⌜ ((t : ℕ) → t < g .my * (g .mz * g .cx) → at (now (row .exit)) t ≡ rowYZ g (now (xs .entry)) y z t) ⌝ }
 {
-    let n = neighbours_of(g.cy, y);
+    let below = left_of(y);
+    let above = right_of(g.cy, y);
     let w = g.mz * g.cx;
     if g.mz == 1 {
-        let low = row_start(g, n.low, z);
+        let low = row_start(g, below, z);
         let mid = row_start(g, y, z);
-        let high = row_start(g, n.high, z);
+        let high = row_start(g, above, z);
         pass(g.my, xs, low, mid, high, w, row, 0)
     } else {
-        let high = w * (n.high % 3);
-        row_z(g, xs, n.high, z, ring, high);
-        pass(g.my, ring, w * (n.low % 3), w * (y % 3), high, w, row, 0)
+        let high = w * (above % 3);
+        row_z(g, xs, above, z, ring, high);
+        pass(g.my, ring, w * (below % 3), w * (y % 3), high, w, row, 0)
     }
 }
 
