@@ -18,7 +18,7 @@ use Rattle.arith.proofs.Choices.{on-pick, pick-true, pick-false}
 use Rattle.lattice.specs.Buffer.{at}
 use Rattle.estimate.specs.declared.Grid.{Grid}
 use Rattle.estimate.specs.Estimate.{left, right, byOrder}
-use Rattle.estimate.specs.Passes.{passLimit, grouped, passOf, rowStart, rowZ, rowYZ, lower, upper, nodeSize, recordSize, rowSize, planeSize, Read, Grids, Samples}
+use Rattle.estimate.specs.Passes.{passLimit, since, grouped, passOf, rowStart, rowZ, rowYZ, lower, upper, nodeSize, recordSize, rowSize, planeSize, Read, Grids, Samples}
 use Rattle.lattice.proofs.DigitsLaws.{group-room, pair-in}
 
 -- a number read from its bits
@@ -103,12 +103,15 @@ pub one-pass : (m : ℕ) → m ≡ 1 → (l f r : ℕ → ℤ) (t : ℕ) → pas
 unfolding grouped byOrder
 one-pass m e l f r t = rw (e, mod-one t, div-one t) refl
 
--- what an order of numbers within B is within
-pub order-size : (o : ℕ) (l f r : ℤ) (B : ℕ) → natAbs l ≤ B → natAbs f ≤ B → natAbs r ≤ B → natAbs (byOrder o l f r) ≤ 4 * B
-unfolding byOrder
-order-size zero l f r B a b c = omega arith
-order-size (suc zero) l f r B a b c = omega (arith, abs-minus r l)
-order-size (suc (suc o)) l f r B a b c = omega (arith, abs-add (l -ℤ pos 2 *ℤ f) r, abs-minus l (pos 2 *ℤ f), abs-mul (pos 2) f)
+-- what the orders of numbers within B are within
+pass-size : (m : ℕ) (l f r : ℕ → ℤ) {B : ℕ} → ((i : ℕ) → natAbs (l i) ≤ B) → ((i : ℕ) → natAbs (f i) ≤ B) → ((i : ℕ) → natAbs (r i) ≤ B) → (t : ℕ) → natAbs (passOf m l f r t) ≤ 4 * B
+unfolding grouped byOrder
+pass-size m l f r {B} a b c t = order (t % m) (l (t / m)) (f (t / m)) (r (t / m)) (a (t / m)) (b (t / m)) (c (t / m))
+  where
+    order : (o : ℕ) (l f r : ℤ) → natAbs l ≤ B → natAbs f ≤ B → natAbs r ≤ B → natAbs (byOrder o l f r) ≤ 4 * B
+    order zero l f r a b c = omega arith
+    order (suc zero) l f r a b c = omega (arith, abs-minus r l)
+    order (suc (suc o)) l f r a b c = omega (arith, abs-add (l -ℤ pos 2 *ℤ f) r, abs-minus l (pos 2 *ℤ f), abs-mul (pos 2) f)
 
 -- ---- rows
 
@@ -140,19 +143,9 @@ row-read g xs y z ok h k = record { inside = row-in g xs y z ok h k; small = λ 
 
 -- what a row, worked off along z, and along z and y, is within
 pub row-z-size : (g : Grid) (xs : List ℤ) (y z t : ℕ) → Samples g xs → natAbs (rowZ g xs y z t) ≤ 131072
-unfolding rowZ grouped
-row-z-size g xs y z t ok =
-    order-size (t % g .mz) (at xs (rowStart g y (left z) + i)) (at xs (rowStart g y z + i)) (at xs (rowStart g y (right (g .cz) z) + i)) 32768
-    (ok .small (rowStart g y (left z) + i)) (ok .small (rowStart g y z + i)) (ok .small (rowStart g y (right (g .cz) z) + i))
-  where
-    i : ℕ
-    i = t / g .mz
+unfolding rowZ
+row-z-size g xs y z t ok = pass-size (g .mz) (since xs (rowStart g y (left z))) (since xs (rowStart g y z)) (since xs (rowStart g y (right (g .cz) z))) (λ i. ok .small _) (λ i. ok .small _) (λ i. ok .small _) t
 
 pub row-yz-size : (g : Grid) (xs : List ℤ) (y z t : ℕ) → Samples g xs → natAbs (rowYZ g xs y z t) ≤ passLimit
-unfolding rowYZ grouped
-row-yz-size g xs y z t ok =
-    order-size (t % g .my) (rowZ g xs (left y) z i) (rowZ g xs y z i) (rowZ g xs (right (g .cy) y) z i) 131072
-    (row-z-size g xs (left y) z i ok) (row-z-size g xs y z i ok) (row-z-size g xs (right (g .cy) y) z i ok)
-  where
-    i : ℕ
-    i = t / g .my
+unfolding rowYZ
+row-yz-size g xs y z t ok = pass-size (g .my) (rowZ g xs (left y) z) (rowZ g xs y z) (rowZ g xs (right (g .cy) y) z) (λ i. row-z-size g xs (left y) z i ok) (λ i. row-z-size g xs y z i ok) (λ i. row-z-size g xs (right (g .cy) y) z i ok) t

@@ -1,8 +1,8 @@
 -- The records of a row depend on the numbers of that row only; plane after plane, row after row, they are the records of the definition.
-use mathlib.Core.Path.{_≡_, sym, ap, subst, _∙_}
+use mathlib.Core.Path.{_≡_, sym, ap, _∙_}
 use mathlib.Core.List.{List}
-use Prim.Native.Nat.{ℕ, _+_, _*_, _/_, _%_, _≤_, _<_}
-use native.Mathlib.Nat.{mul-zero, zero-add, mul-le-mul, mul-le-mul-left, mod-lt, div-add-mod, mod-eq-of-lt, div-eq-of-lt, lt-of-le-of-lt, div-div-eq-div-mul}
+use Prim.Native.Nat.{ℕ, _+_, _*_, _/_, _%_, _<_}
+use native.Mathlib.Nat.{mul-le-mul, mul-le-mul-left, mod-lt, div-add-mod, mod-eq-of-lt, div-eq-of-lt, lt-of-le-of-lt, div-div-eq-div-mul}
 use native.Mathlib.Omega.{arith}
 use lib.IntN.{ℤ}
 use Rattle.lattice.specs.declared.Shape.{Shape}

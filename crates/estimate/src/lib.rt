@@ -24,11 +24,7 @@ struct Grid {
 fn left_of(i: usize) -> usize
     ensures { λ r. ⌜ (r ≡ left i) × (r ≤ i) ⌝ }
 {
-    if i == 0 {
-        i
-    } else {
-        i - 1
-    }
+    if i == 0 { i } else { i - 1 }
 }
 
 // The upper neighbour.
@@ -36,11 +32,7 @@ fn right_of(count: usize, i: usize) -> usize
     requires { ⌜ i < count ⌝ }
     ensures { λ r. ⌜ (r ≡ right count i) × (r < count) ⌝ }
 {
-    if i + 1 < count {
-        i + 1
-    } else {
-        i
-    }
+    if i + 1 < count { i + 1 } else { i }
 }
 
 // The numbers that a record holds along one axis.

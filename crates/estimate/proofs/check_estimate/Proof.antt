@@ -3,7 +3,6 @@ use mathlib.Core.Path.{_≡_, sym, ap, ap₂, _∙_}
 use Prim.Native.Nat.{ℕ}
 use lib.Dec.{leb, eqb}
 use lib.ListN.{length}
-use denote.Ref.{now}
 use borrow.Author.Needs.{needs}
 use Rattle.lattice.specs.Outcome.{Check, refuseUnless, first}
 use Rattle.lattice.specs.Answer.{meaning}
@@ -51,9 +50,6 @@ check-estimate-spec =
     (λ c κs. told c)
     (λ c κs. search needs)
     (λ c κs. told (c .before .before))
-    (λ c κs. search needs)
-    (λ c κs. search needs)
-    (λ c κs. search needs)
-    (λ c κs. search needs)
+    (λ c κs. search needs) (λ c κs. search needs) (λ c κs. search needs) (λ c κs. search needs)
     returns
     returns-2)

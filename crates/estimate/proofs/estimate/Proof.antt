@@ -1,7 +1,6 @@
 -- `estimate::estimate` meets its contract: where the gate passes, its facts are what the body asks for; where it refuses, nothing is written.
 use mathlib.Core.Path.{sym, ap, _∙_}
 use lib.ListN.{length}
-use denote.Ref.{now}
 use borrow.Author.Needs.{needs}
 use Rattle.lattice.proofs.OutcomeLaws.{when-done, when-refused}
 use Rattle.lattice.specs.Answer.{meaning}
@@ -39,7 +38,6 @@ estimate-spec =
     (λ c κs. search needs)
     enum-told
     fill-records-requires
-    (λ c. search needs)
-    (λ c. search needs)
+    (λ c. search needs) (λ c. search needs)
     returns
     returns-2)

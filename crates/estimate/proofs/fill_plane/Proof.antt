@@ -1,17 +1,16 @@
 -- `estimate::fill_plane` meets its contract. The loop's invariant: the records of the rows before row y are written, and the ring holds what row y asks for.
 use mathlib.Core.List.{List}
-use mathlib.Core.Path.{_≡_, refl, sym, subst, _∙_}
-use Prim.Native.Nat.{ℕ, _≤_, _<_, _+_, _-_, _*_}
+use mathlib.Core.Path.{_≡_, refl}
+use Prim.Native.Nat.{ℕ, _≤_, _<_, _-_, _*_}
 use native.Mathlib.Nat.{zero-add}
 use native.Mathlib.Omega.{arith}
 use lib.ListN.{length}
-use lib.IntN.{ℤ, natAbs}
-use denote.Ref.{now}
+use lib.IntN.{ℤ}
 use borrow.Author.Needs.{needs}
 use Rattle.lattice.specs.Buffer.{at}
 use Rattle.lattice.proofs.DigitsLaws.{group-room}
 use Rattle.estimate.specs.declared.Grid.{Grid}
-use Rattle.estimate.specs.Passes.{passLimit, rowYZ, nodeSize, rowSize, rowOf, planeOf, Read, Samples, Ring}
+use Rattle.estimate.specs.Passes.{rowYZ, nodeSize, rowSize, rowOf, planeOf, Read, Samples, Ring}
 use Rattle.estimate.proofs.PassesLaws.{node-high, record-high, row-high, row-z-high, row-yz-high, row-yz-size}
 use Rattle.estimate.proofs.RowsLaws.{row-same}
 use Rattle.estimate.proofs.RingLaws.{ring-first}
@@ -31,9 +30,6 @@ Inv-loop g xs z out₀ k step ring₀ row₀ p₀ y₀ out ring row p y = (y ≤
 abbrev μ-loop : tie.MeasureT-loop
 μ-loop g xs z out₀ k step ring₀ row₀ p₀ y₀ out ring row p y = g .cy - y
 
-row-z-requires : tie.Need-row-z-requires Inv-loop μ-loop
-row-z-requires c κs = let s = c .before .before .before .before in (s .pre .0, (s .pre .0 .grid .y-low, s .pre .1, omega (arith, row-z-high (s .args .g) (s .pre .0 .grid))))
-
 loop-holds : tie.Need-loop-holds Inv-loop μ-loop
 loop-holds c =
     let s = c .before .before .before .before .before .before in
@@ -51,12 +47,6 @@ fill-row-requires c κs =
     let l = c .before .before .before .before .before .before .before .before .before .loop in
     let q = c .before .before .before .before .row-yz in
     ((s .pre .0 .grid, stored-room (l .inv .1) (s .args .g .cy) (omega arith) (s .pre .2)), row-seen (s .pre .0) (l .y) (s .args .z) (q .ensures .1) (omega (arith, q .kept, l .inv .3)))
-
-add-p : tie.Need-add-p Inv-loop μ-loop
-add-p c =
-    let s = c .before .before .before .before .before .before .before .before .before .before .before .before .before .before .before .before .before .before in
-    let l = c .before .before .before .before .before .before .before .before .before .before .before .loop in
-    omega (arith, group-room (rowSize (s .args .g)) (l .y) (s .args .g .cy) (omega arith), s .pre .2, s .good, l .inv .1 .place)
 
 loop-again : tie.Need-loop-again Inv-loop μ-loop
 loop-again c =
@@ -79,16 +69,14 @@ fill-plane-spec =
     (λ c. omega (arith, record-high (c .before .before .args .g) (c .before .before .pre .0 .grid)))
     (λ c. omega (arith, row-high (c .before .before .before .args .g) (c .before .before .before .pre .0 .grid)))
     (λ c. search needs)
-    row-z-requires
+    (λ c κs. let s = c .before .before .before .before in (s .pre .0, (s .pre .0 .grid .y-low, s .pre .1, omega (arith, row-z-high (s .args .g) (s .pre .0 .grid)))))
     loop-holds
-    (λ c. search needs)
-    (λ c. search needs)
+    (λ c. search needs) (λ c. search needs)
     row-yz-requires
     (λ c. search needs)
     fill-row-requires
-    add-p
-    (λ c. omega arith)
-    (λ c. omega arith)
+    (λ c. let s = c .before .before .before .before .before .before .before .before .before .before .before .before .before .before .before .before .before .before in let l = c .before .before .before .before .before .before .before .before .before .before .before .loop in omega (arith, group-room (rowSize (s .args .g)) (l .y) (s .args .g .cy) (omega arith), s .pre .2, s .good, l .inv .1 .place))
+    (λ c. omega arith) (λ c. omega arith)
     loop-again
     (λ c. stored-length (c .before .before .loop .inv .1))
     returns)

@@ -1,8 +1,7 @@
 -- `estimate::fill_planes` meets its contract. The loop's invariant: the records of the planes before plane z are written.
 use mathlib.Core.Path.{refl}
-use Prim.Native.Nat.{_≤_, _<_, _-_, _*_}
+use Prim.Native.Nat.{_≤_, _-_}
 use native.Mathlib.Omega.{arith}
-use borrow.Author.Needs.{needs}
 use Rattle.lattice.proofs.DigitsLaws.{group-room}
 use Rattle.estimate.specs.Passes.{planeSize, planeOf, planesOf}
 use Rattle.estimate.proofs.PassesLaws.{node-high, record-high, row-high, plane-high}
@@ -15,20 +14,6 @@ Inv-loop g xs out₀ step p₀ z₀ out p z = (z ≤ g .cz) × Stored 0 (planeSi
 
 abbrev μ-loop : tie.MeasureT-loop
 μ-loop g xs out₀ step p₀ z₀ out p z = g .cz - z
-
-fill-plane-requires : tie.Need-fill-plane-requires Inv-loop μ-loop
-fill-plane-requires c κs =
-    let s = c .before .before .before .before .before .before .before .before in
-    (s .pre .0, omega arith, stored-room (c .before .before .before .loop .inv .1) (s .args .g .cz) (omega arith) (omega (arith, s .pre .1)))
-
-add-p : tie.Need-add-p Inv-loop μ-loop
-add-p c =
-    let s = c .before .before .before .before .before .before .before .before .before .before in
-    let l = c .before .before .before .before .before .loop in
-    omega (arith, group-room (planeSize (s .args .g)) (l .z) (s .args .g .cz) (omega arith), s .pre .1, s .good, l .inv .1 .place)
-
-loop-again : tie.Need-loop-again Inv-loop μ-loop
-loop-again c = (omega arith, stored-more (c .before .before .before .before .before .loop .inv .1) (c .before .fill-plane .ensures) (λ o i. refl))
 
 returns : tie.Need-returns Inv-loop μ-loop
 unfolding planesOf
@@ -45,10 +30,9 @@ fill-planes-spec =
     (λ c. omega (arith, row-high (c .before .before .before .args .g) (c .before .before .before .pre .0 .grid)))
     (λ c. omega (arith, plane-high (c .before .before .before .before .args .g) (c .before .before .before .before .pre .0 .grid)))
     (λ c. (omega arith, stored-none))
-    fill-plane-requires
-    add-p
-    (λ c. omega arith)
-    (λ c. omega arith)
-    loop-again
+    (λ c κs. let s = c .before .before .before .before .before .before .before .before in (s .pre .0, omega arith, stored-room (c .before .before .before .loop .inv .1) (s .args .g .cz) (omega arith) (omega (arith, s .pre .1))))
+    (λ c. let s = c .before .before .before .before .before .before .before .before .before .before in let l = c .before .before .before .before .before .loop in omega (arith, group-room (planeSize (s .args .g)) (l .z) (s .args .g .cz) (omega arith), s .pre .1, s .good, l .inv .1 .place))
+    (λ c. omega arith) (λ c. omega arith)
+    (λ c. (omega arith, stored-more (c .before .before .before .before .before .loop .inv .1) (c .before .fill-plane .ensures) (λ o i. refl)))
     (λ c. stored-length (c .before .before .loop .inv .1))
     returns)

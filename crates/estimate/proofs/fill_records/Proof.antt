@@ -7,7 +7,6 @@ use native.Mathlib.Omega.{arith}
 use lib.Dec.{lit<, lit≤}
 use lib.ListN.{length}
 use lib.IntN.{ℤ}
-use denote.Ref.{now}
 use borrow.Author.Needs.{needs}
 use Rattle.lattice.specs.declared.Shape.{Shape}
 use Rattle.lattice.specs.Buffer.{at, overwrite}

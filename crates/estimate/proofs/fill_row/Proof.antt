@@ -1,7 +1,7 @@
 -- `estimate::fill_row` meets its contract: the first node, the nodes between and the last node, one behind the other.
 use mathlib.Core.List.{List}
-use mathlib.Core.Path.{_≡_, refl, sym, ap, subst, _∙_}
-use Prim.Native.Nat.{ℕ, _≤_, _<_, _+_, _-_, _*_, _/_, _%_}
+use mathlib.Core.Path.{_≡_, refl, ap, subst, _∙_}
+use Prim.Native.Nat.{ℕ, _≤_, _<_, _+_, _-_, _*_, _/_}
 use native.Mathlib.Nat.{mul-le-mul, zero-add, mul-add-div, mul-add-mod-self-left}
 use native.Mathlib.Omega.{arith}
 use lib.IntN.{ℤ, natAbs}
@@ -85,33 +85,12 @@ module _ {g : Grid} (ok : Grids g) where
           (λ j l. part inner (inner + size) (inner + size) size last-near j l ∙ ap h (omega arith))
           ∙ ap (λ (m : ℕ). placed k m h b) entries
 
-mul-inner : tie.Need-mul-inner
-mul-inner c = let s = c .before .before in omega (arith, numbers-high (s .pre .0 .0))
-
-add-last : tie.Need-add-last
-add-last c = let s = c .before .before in omega (arith, numbers-high (s .pre .0 .0))
-
-mul-p : tie.Need-mul-p
-mul-p c = let s = c .before .before .before in omega (arith, record-high (s .args .g) (s .pre .0 .0))
-
-add-p : tie.Need-add-p
-add-p c = let s = c .before .before .before in omega (arith, entries (s .pre .0 .0), s .pre .0 .1, s .good)
-
-mul-q : tie.Need-mul-q
-mul-q c = let s = c .before .before .before .before in omega (arith, entries (s .pre .0 .0), row-high (s .args .g) (s .pre .0 .0))
-
-add-q : tie.Need-add-q
-add-q c = let s = c .before .before .before .before in omega (arith, entries (s .pre .0 .0), s .pre .0 .1, s .good)
-
 pass-requires : tie.Need-pass-requires
 pass-requires c κs =
     let s = c .before .before .before .before .before in
     let ok = s .pre .0 .0 in
     let r = read ok (s .pre .1) in
     ((ok .mx-low, ok .mx-high, omega (arith, entries ok, s .pre .0 .1)), (r _ _ (omega arith), r _ _ (omega arith), r _ _ (omega arith)))
-
-mul-pass : tie.Need-mul-pass
-mul-pass c = let s = c .before .before .before .before .before .before .before in omega (arith, node-high (s .args .g) (s .pre .0 .0))
 
 pass-requires-2 : tie.Need-pass-requires-2
 pass-requires-2 c κs =
@@ -127,26 +106,21 @@ pass-requires-3 c κs =
     let r = read ok (s .pre .1) in
     ((ok .mx-low, ok .mx-high, omega (arith, entries ok, s .pre .0 .1, c .before .before .pass2 .kept, c .before .before .before .before .before .pass .kept)), (r _ _ (omega arith), r _ _ (omega arith), r _ _ (omega arith)))
 
-returns : tie.Need-returns
-returns c =
-    let s = c .before .before .before .before .before .before .before .before .before .before .before .before .before in
-    result (s .pre .0 .0) (s .args .row .now) (s .args .k) (s .args .out .now) _ _ _ (c .before .before .before .before .before .before .before .pass .ensures) (c .before .before .before .before .pass2 .ensures) (c .before .pass3 .ensures)
-
 pub fill-row-spec : {M : Type 1} → statement M
 fill-row-spec =
     tie.close
     (tie.spec
     (λ c. omega (arith, node-high (c .before .args .g) (c .before .pre .0 .0)))
     (λ c. search needs)
-    mul-inner
-    add-last
-    mul-p
-    add-p
-    mul-q
-    add-q
+    (λ c. let s = c .before .before in omega (arith, numbers-high (s .pre .0 .0)))
+    (λ c. let s = c .before .before in omega (arith, numbers-high (s .pre .0 .0)))
+    (λ c. let s = c .before .before .before in omega (arith, record-high (s .args .g) (s .pre .0 .0)))
+    (λ c. let s = c .before .before .before in omega (arith, entries (s .pre .0 .0), s .pre .0 .1, s .good))
+    (λ c. let s = c .before .before .before .before in omega (arith, entries (s .pre .0 .0), row-high (s .args .g) (s .pre .0 .0)))
+    (λ c. let s = c .before .before .before .before in omega (arith, entries (s .pre .0 .0), s .pre .0 .1, s .good))
     pass-requires
-    mul-pass
+    (λ c. let s = c .before .before .before .before .before .before .before in omega (arith, node-high (s .args .g) (s .pre .0 .0)))
     pass-requires-2
     pass-requires-3
     (λ c. search needs)
-    returns)
+    (λ c. let s = c .before .before .before .before .before .before .before .before .before .before .before .before .before in result (s .pre .0 .0) (s .args .row .now) (s .args .k) (s .args .out .now) _ _ _ (c .before .before .before .before .before .before .before .pass .ensures) (c .before .before .before .before .pass2 .ensures) (c .before .pass3 .ensures)))

@@ -1,12 +1,11 @@
 -- `estimate::pass` meets its contract. The loop's invariant: the orders of the first t numbers are written.
 use mathlib.Core.List.{List}
-use mathlib.Core.Path.{_≡_, ap, _∙_}
-use Prim.Native.Nat.{ℕ, _≤_, _<_, _+_, _-_, _*_}
+use mathlib.Core.Path.{_≡_}
+use Prim.Native.Nat.{ℕ, _≤_, _<_, _+_, _-_}
 use native.Mathlib.Omega.{arith}
 use lib.IntN.{ℤ, natAbs}
 use mir.Syntax.{w32}
 use mir.Val.{toZ, ofZ}
-use denote.Ref.{now}
 use Rattle.lattice.specs.Buffer.{at}
 use Rattle.lattice.proofs.DigitsLaws.{group-room}
 use Rattle.estimate.specs.Estimate.{byOrder}
@@ -37,12 +36,6 @@ put-orders-requires c κs =
     let h : l .t < s .args .count = omega arith in
     ((s .pre .0 .0, s .pre .0 .1, stored-room (l .inv .1) (s .args .count) h (s .pre .0 .2)), (small (s .pre .1 .0) h, small (s .pre .1 .1) h, small (s .pre .1 .2) h))
 
-add-p : tie.Need-add-p Inv-loop μ-loop
-add-p c =
-    let s = c .before .before .before .before .before .before .before .before in
-    let l = c .before .before .before .before .before .before .before .loop in
-    omega (arith, group-room (s .args .m) (l .t) (s .args .count) (omega arith), s .pre .0 .2, s .good, l .inv .1 .place)
-
 loop-again : tie.Need-loop-again Inv-loop μ-loop
 loop-again c =
     let s = c .before .before .before .before .before .before .before .before in
@@ -57,19 +50,11 @@ pass-spec =
     Inv-loop
     μ-loop
     (λ c. (omega arith, stored-none))
-    (λ c. omega arith)
-    (λ c. omega arith)
-    (λ c. omega arith)
-    (λ c. omega arith)
-    (λ c. omega arith)
-    (λ c. omega arith)
-    (λ c. omega arith)
-    (λ c. omega arith)
-    (λ c. omega arith)
+    (λ c. omega arith) (λ c. omega arith) (λ c. omega arith) (λ c. omega arith) (λ c. omega arith) (λ c. omega arith) (λ c. omega arith)
+    (λ c. omega arith) (λ c. omega arith)
     put-orders-requires
-    add-p
-    (λ c. omega arith)
-    (λ c. omega arith)
+    (λ c. let s = c .before .before .before .before .before .before .before .before in let l = c .before .before .before .before .before .before .before .loop in omega (arith, group-room (s .args .m) (l .t) (s .args .count) (omega arith), s .pre .0 .2, s .good, l .inv .1 .place))
+    (λ c. omega arith) (λ c. omega arith)
     loop-again
     (λ c. stored-length (c .before .loop .inv .1))
     (λ c. stored-all (c .before .loop .inv .1) (c .before .before .args .count) (omega arith)))

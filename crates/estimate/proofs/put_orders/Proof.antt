@@ -8,14 +8,11 @@ use lib.ListN.{set, length-set}
 use lib.IntN.{ℤ, pos, natAbs, _+ℤ_, _-ℤ_, _*ℤ_}
 use mir.Syntax.{w32}
 use mir.Val.{SFits, toZ, ofZ}
-use mir.Facts.{toZ-ofZ}
 use denote.Ref.{now}
 use borrow.Author.Needs.{needs}
-use Rattle.arith.proofs.Abs.{abs-add, abs-minus, abs-mul, sfits-abs}
 use Rattle.arith.proofs.Machine.{Size, sizes, sized, s-bits, fits?, value?}
 use Rattle.estimate.specs.Estimate.{byOrder}
 use Rattle.estimate.specs.Passes.{passLimit, placed}
-use Rattle.estimate.proofs.PassesLaws.{bits}
 use Rattle.estimate.proofs.put_orders.Statement.{statement}
 use Rattle.estimate.proofs.put_orders.Tie as tie
 
@@ -75,34 +72,22 @@ module _ (l f r : ℤ) (small : (natAbs l ≤ passLimit) × (natAbs f ≤ passLi
     unfolding placed byOrder
     three e = rw (e, S, D, value, add-zero k)
 
-returns : tie.Need-returns
-returns c = let s = c .before .before in three (s .args .l) (s .args .f) (s .args .r) (s .pre .1) (s .args .k) (now (s .args .out)) (s .args .m) (omega arith)
-
-returns-2 : tie.Need-returns-2
-returns-2 c = let s = c .before .before in two (s .args .l) (s .args .f) (s .args .r) (s .pre .1) (s .args .k) (now (s .args .out)) (s .args .m) (omega arith)
-
-returns-3 : tie.Need-returns-3
-returns-3 c = let s = c .before in one (s .args .l) (s .args .f) (s .args .r) (s .pre .1) (s .args .k) (now (s .args .out)) (s .args .m) (omega arith)
-
 pub put-orders-spec : {M : Type 1} → statement M
 put-orders-spec =
     tie.close
     (tie.spec
-    (λ c. search needs)
-    (λ c. search needs)
+    (λ c. search needs) (λ c. search needs)
     (λ c. less (c .before .args .l) (c .before .args .f) (c .before .args .r) (c .before .pre .1))
-    (λ c. search needs)
-    (λ c. search needs)
+    (λ c. search needs) (λ c. search needs)
     (λ c. simp length-set (omega arith))
     (λ c. let s = c .before .before in twice (s .args .l) (s .args .f) (s .args .r) (s .pre .1))
     (λ c. let s = c .before .before in less-twice (s .args .l) (s .args .f) (s .args .r) (s .pre .1))
     (λ c. let s = c .before .before in all-three (s .args .l) (s .args .f) (s .args .r) (s .pre .1))
-    (λ c. search needs)
-    (λ c. search needs)
+    (λ c. search needs) (λ c. search needs)
     (λ c. simp length-set (omega arith))
     (λ c. search needs)
-    returns
+    (λ c. let s = c .before .before in three (s .args .l) (s .args .f) (s .args .r) (s .pre .1) (s .args .k) (now (s .args .out)) (s .args .m) (omega arith))
     (λ c. search needs)
-    returns-2
+    (λ c. let s = c .before .before in two (s .args .l) (s .args .f) (s .args .r) (s .pre .1) (s .args .k) (now (s .args .out)) (s .args .m) (omega arith))
     (λ c. search needs)
-    returns-3)
+    (λ c. let s = c .before in one (s .args .l) (s .args .f) (s .args .r) (s .pre .1) (s .args .k) (now (s .args .out)) (s .args .m) (omega arith)))

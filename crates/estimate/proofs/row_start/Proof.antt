@@ -8,28 +8,16 @@ use Rattle.estimate.specs.Passes.{rowStart, Grids}
 use Rattle.estimate.proofs.row_start.Statement.{statement}
 use Rattle.estimate.proofs.row_start.Tie as tie
 
-module _ (g : Grid) (y z : ℕ) (pre : Grids g × (y < g .cy) × (z < g .cz)) where
-  plane : g .cy * z ≤ 4096
-  plane = let b = pre .0 .z-high in let l : z ≤ 64 = omega arith in mul-le-mul (pre .0 .y-high) l
+module _ {g : Grid} (y z : ℕ) (pre : Grids g × (y < g .cy) × (z < g .cz)) where
+  number : y + g .cy * z ≤ 4160
+  number = let l : z ≤ 64 = omega (arith, pre .0 .z-high) in omega (arith, mul-le-mul (pre .0 .y-high) l, pre .0 .y-high)
 
-  row : y + g .cy * z ≤ 4160
-  row = let h = plane in let b = pre .0 .y-high in omega arith
-
-  whole : g .cx * (y + g .cy * z) ≤ 266240
-  whole = mul-le-mul (pre .0 .x-high) row
-
-mul-result : tie.Need-mul-result
-mul-result c = let a = c .before .args in omega (arith, plane (a .g) (a .y) (a .z) (c .before .pre))
-
-add-result : tie.Need-add-result
-add-result c = let a = c .before .args in omega (arith, row (a .g) (a .y) (a .z) (c .before .pre))
-
-mul-result-2 : tie.Need-mul-result-2
-mul-result-2 c = let a = c .before .before .args in omega (arith, whole (a .g) (a .y) (a .z) (c .before .before .pre))
+  start : g .cx * (y + g .cy * z) ≤ 266240
+  start = mul-le-mul (pre .0 .x-high) number
 
 returns : tie.Need-returns
 unfolding rowStart
 returns c = refl
 
 pub row-start-spec : {M : Type 1} → statement M
-row-start-spec = tie.close (tie.spec mul-result add-result mul-result-2 returns)
+row-start-spec = tie.close (tie.spec (λ c. omega (arith, number _ _ (c .before .pre))) (λ c. omega (arith, number _ _ (c .before .pre))) (λ c. omega (arith, start _ _ (c .before .before .pre))) returns)

@@ -1,10 +1,6 @@
 -- `estimate::row_yz` meets its contract: a pass along y over three rows, which stand in the samples on two axes and in the ring on three.
-use mathlib.Core.Path.{_≡_}
-use Prim.Native.Nat.{ℕ, _≤_, _<_, _+_, _*_, _%_}
 use native.Mathlib.Omega.{arith}
-use denote.Ref.{now}
 use borrow.Author.Needs.{needs}
-use Rattle.estimate.specs.Passes.{Ring}
 use Rattle.estimate.proofs.PassesLaws.{row-z-high, row-yz-high}
 use Rattle.estimate.proofs.RingLaws.{Three, plain-three, slot-in, reads, made, ring-three, ring-next}
 use Rattle.estimate.proofs.row_yz.Statement.{statement}
@@ -23,20 +19,15 @@ pass-requires c κs =
     let g = s .pre .0 .0 .grid in
     ((g .my-low, g .my-high, omega (arith, row-yz-high (s .args .g) g, s .pre .1 .1)), reads (s .pre .0 .0) (in-samples (c .before)))
 
-row-z-requires : tie.Need-row-z-requires
-row-z-requires c κs =
-    let n = c .before .before .before .before in
-    let s = n .before .before in
-    (s .pre .0 .0, (n .right-of .ensures .1, s .pre .0 .2, omega (arith, slot-in (s .pre .0 .0) (n .right-of .result), s .pre .1 .0)))
-
 pass-requires-2 : tie.Need-pass-requires-2
 pass-requires-2 c κs =
     let r = c .before .before .before in
     let n = r .before .before .before .before .before in
     let s = n .before .before in
-    let ok = s .pre .0 .0 in
-    ((ok .grid .my-low, ok .grid .my-high, omega (arith, row-yz-high (s .args .g) (ok .grid), s .pre .1 .1)),
-    reads ok (ring-three ok _ _ _ (n .before .left-of .ensures .0) (n .right-of .ensures .0) (s .pre .0 .1) (r .before .before .if1 .left) (s .pre .1 .0) (s .pre .1 .2) (r .row-z .ensures)))
+    let ok = s .pre .0 .0 in (
+      (ok .grid .my-low, ok .grid .my-high, omega (arith, row-yz-high (s .args .g) (ok .grid), s .pre .1 .1)),
+      reads ok (ring-three ok _ _ _ (n .before .left-of .ensures .0) (n .right-of .ensures .0) (s .pre .0 .1) (r .before .before .if1 .left) (s .pre .1 .0) (s .pre .1 .2) (r .row-z .ensures)),
+    )
 
 returns : tie.Need-returns
 returns c =
@@ -51,28 +42,25 @@ returns-2 c =
     let s = n .before .before in
     let ok = s .pre .0 .0 in
     let below = n .before .left-of .ensures .0 in
-    let above = n .right-of .ensures .0 in
-    (ring-next ok _ _ _ below above (s .pre .0 .1) (r .before .before .if1 .left) (s .pre .1 .0) (s .pre .1 .2) (r .row-z .ensures),
-    made ok _ _ _ below above (ring-three ok _ _ _ below above (s .pre .0 .1) (r .before .before .if1 .left) (s .pre .1 .0) (s .pre .1 .2) (r .row-z .ensures)) (s .args .row .now) (s .pre .1 .1) (c .before .pass2 .ensures))
+    let above = n .right-of .ensures .0 in (
+      ring-next ok _ _ _ below above (s .pre .0 .1) (r .before .before .if1 .left) (s .pre .1 .0) (s .pre .1 .2) (r .row-z .ensures),
+      made ok _ _ _ below above (ring-three ok _ _ _ below above (s .pre .0 .1) (r .before .before .if1 .left) (s .pre .1 .0) (s .pre .1 .2) (r .row-z .ensures)) (s .args .row .now) (s .pre .1 .1) (c .before .pass2 .ensures),
+    )
 
 pub row-yz-spec : {M : Type 1} → statement M
 row-yz-spec =
     tie.close
     (tie.spec
-    (λ c κs. search needs)
-    (λ c κs. search needs)
+    (λ c κs. search needs) (λ c κs. search needs)
     (λ c. omega (arith, row-z-high (c .before .before .before .args .g) (c .before .before .before .pre .0 .0 .grid)))
-    (λ c κs. search needs)
-    (λ c κs. search needs)
-    (λ c κs. search needs)
+    (λ c κs. search needs) (λ c κs. search needs) (λ c κs. search needs)
     pass-requires
     (λ c. omega (arith, slot-in (c .before .before .before .before .before .pre .0 .0) (c .before .before .before .right-of .result)))
-    row-z-requires
+    (λ c κs. let n = c .before .before .before .before in let s = n .before .before in (s .pre .0 .0, (n .right-of .ensures .1, s .pre .0 .2, omega (arith, slot-in (s .pre .0 .0) (n .right-of .result), s .pre .1 .0))))
     (λ c. omega (arith, slot-in (c .before .before .before .before .before .before .before .before .before .pre .0 .0) (c .before .before .before .before .before .before .before .before .left-of .result)))
     (λ c. omega (arith, slot-in (c .before .before .before .before .before .before .before .before .before .pre .0 .0) (c .before .before .before .before .before .before .before .before .before .args .y)))
     pass-requires-2
     (λ c. search needs)
     returns
-    (λ c. search needs)
-    (λ c. search needs)
+    (λ c. search needs) (λ c. search needs)
     returns-2)
