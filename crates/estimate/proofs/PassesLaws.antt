@@ -15,7 +15,6 @@ use mir.Facts.{toZ-ofZ}
 use borrow.Author.Tests.{ltb-true, lt-ltb, le-ltb}
 use Rattle.arith.proofs.Abs.{abs-add, abs-minus, abs-mul, sfits-abs}
 use Rattle.arith.proofs.Choices.{on-pick, pick-true, pick-false}
-use Rattle.lattice.specs.Buffer.{at}
 use Rattle.estimate.specs.declared.Grid.{Grid}
 use Rattle.estimate.specs.Estimate.{left, right, byOrder}
 use Rattle.estimate.specs.Passes.{passLimit, since, grouped, passOf, rowStart, rowZ, rowYZ, lower, upper, nodeSize, recordSize, rowSize, planeSize, Read, Grids, Samples}

@@ -2,7 +2,7 @@
 use mathlib.Core.Path.{_≡_, refl, sym, ap, _∙_}
 use mathlib.Core.Logic.{⊎-elim}
 use mathlib.Core.List.{List}
-use Prim.Native.Nat.{ℕ, zero, suc, _+_, _*_, _≤_, _<_}
+use Prim.Native.Nat.{ℕ, zero, suc, _+_, _-_, _*_, _≤_, _<_}
 use native.Mathlib.Nat.{add-zero, zero-add, mul-zero, add-suc, add-assoc, eq-or-lt-of-le}
 use native.Mathlib.Numerals.{add-one}
 use native.Mathlib.Omega.{arith}
@@ -64,34 +64,44 @@ placed-filled (suc n) h b l =
 
 -- ---- groups
 
-module _ (m : ℕ) (f : ℕ → ℕ → ℤ) where
-  pub grouped-at : (t o : ℕ) → o < m → grouped m f (m * t + o) ≡ f t o
-  unfolding grouped
-  grouped-at t o l = rw (high-digit m t o l, low-digit m t o l)
+pub grouped-at : (m : ℕ) (f : ℕ → ℕ → ℤ) (t o : ℕ) → o < m → grouped m f (m * t + o) ≡ f t o
+unfolding grouped
+grouped-at m f t o l = rw (high-digit m t o l, low-digit m t o l)
 
--- the state of a loop that stores m numbers in each turn: t turns are done, the next one stores from index p on
-pub record Stored (k m : ℕ) (f : ℕ → ℕ → ℤ) (b : List ℤ) (t p : ℕ) (out : List ℤ) : Type 0 where
+-- the state of a loop that stores m numbers in each of `count` turns: t turns are done, the next one stores from index p on
+pub record Stored (k m : ℕ) (f : ℕ → ℕ → ℤ) (b : List ℤ) (count t p : ℕ) (out : List ℤ) : Type 0 where
+  pub done : t ≤ count
   pub place : p ≡ k + m * t
   pub is : out ≡ placed k (m * t) (grouped m f) b
 
-pub stored-none : {k m : ℕ} {f : ℕ → ℕ → ℤ} {b : List ℤ} → Stored k m f b 0 k b
+pub stored-none : {k m : ℕ} {f : ℕ → ℕ → ℤ} {b : List ℤ} {count : ℕ} → Stored k m f b count 0 k b
 unfolding placed
-stored-none {k} {m} = record { place = omega arith; is = rw (mul-zero m) }
+stored-none {k} {m} = record { done = omega arith; place = omega arith; is = rw (mul-zero m) }
 
-module _ {k m : ℕ} {f : ℕ → ℕ → ℤ} {b : List ℤ} {t p : ℕ} {out : List ℤ} (s : Stored k m f b t p out) where
+module _ {k m : ℕ} {f : ℕ → ℕ → ℤ} {b : List ℤ} {count t p : ℕ} {out : List ℤ} (s : Stored k m f b count t p out) where
   pub stored-length : length out ≡ length b
   stored-length = ap length (s .is) ∙ placed-length k (m * t) (grouped m f) b
 
-  pub stored-room : (count : ℕ) → t < count → k + m * count ≤ length b → p + m ≤ length out
-  stored-room count l room = omega (arith, s .place, group-room m t count l, stored-length)
+  pub stored-all : count ≤ t → out ≡ placed k (m * count) (grouped m f) b
+  stored-all l = let e : t ≡ count = omega (arith, s .done) in rw e at (s .is)
 
-  pub stored-more : {g : ℕ → ℤ} {next : List ℤ} → next ≡ placed p m g out → ((o : ℕ) → o < m → g o ≡ f t o) → Stored k m f b (t + 1) (p + m) next
-  stored-more {g} {next} e same =
-      let turn : m * t + m ≡ m * (t + 1) = omega arith in
-      record {
-        place = omega (arith, s .place);
-        is = rw turn at (placed-next k (m * t) m p (grouped m f) g b out next (s .place) (s .is) e (λ o l. same o l ∙ sym (grouped-at m f t o l)));
-      }
+  -- one turn more
+  module _ (l : t < count) where
+    pub stored-fits : k + m * count ≤ length b → p + m ≤ length b
+    stored-fits room = omega (arith, s .place, group-room m t count l)
 
-  pub stored-all : (count : ℕ) → t ≡ count → out ≡ placed k (m * count) (grouped m f) b
-  stored-all count e = rw e at (s .is)
+    pub stored-room : k + m * count ≤ length b → p + m ≤ length out
+    stored-room room = rw stored-length (stored-fits room)
+
+    pub stored-more : {g : ℕ → ℤ} {next : List ℤ} → next ≡ placed p m g out → ((o : ℕ) → o < m → g o ≡ f t o) → Stored k m f b count (t + 1) (p + m) next
+    stored-more {g} {next} e same =
+        let turn : m * t + m ≡ m * (t + 1) = omega arith in
+        record {
+          done = omega arith;
+          place = omega (arith, s .place);
+          is = rw turn at (placed-next k (m * t) m p (grouped m f) g b out next (s .place) (s .is) e (λ o l. same o l ∙ sym (grouped-at m f t o l)));
+        }
+
+-- what is left of a loop
+pub less-left : {t count : ℕ} → t < count → count - (t + 1) < count - t
+less-left l = omega arith

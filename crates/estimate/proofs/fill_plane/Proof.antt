@@ -1,20 +1,19 @@
 -- `estimate::fill_plane` meets its contract. The loop's invariant: the records of the rows before row y are written, and the ring holds what row y asks for.
 use mathlib.Core.List.{List}
 use mathlib.Core.Path.{_≡_, refl}
-use Prim.Native.Nat.{ℕ, _≤_, _<_, _-_, _*_}
+use Prim.Native.Nat.{ℕ, _<_, _-_, _*_}
 use native.Mathlib.Nat.{zero-add}
 use native.Mathlib.Omega.{arith}
 use lib.ListN.{length}
 use lib.IntN.{ℤ}
 use borrow.Author.Needs.{needs}
 use Rattle.lattice.specs.Buffer.{at}
-use Rattle.lattice.proofs.DigitsLaws.{group-room}
 use Rattle.estimate.specs.declared.Grid.{Grid}
 use Rattle.estimate.specs.Passes.{rowYZ, nodeSize, rowSize, rowOf, planeOf, Read, Samples, Ring}
 use Rattle.estimate.proofs.PassesLaws.{node-high, record-high, row-high, row-z-high, row-yz-high, row-yz-size}
 use Rattle.estimate.proofs.RowsLaws.{row-same}
 use Rattle.estimate.proofs.RingLaws.{ring-first}
-use Rattle.estimate.proofs.PlacedLaws.{Stored, stored-none, stored-length, stored-room, stored-more, stored-all}
+use Rattle.estimate.proofs.PlacedLaws.{Stored, stored-none, stored-length, stored-all, stored-fits, stored-room, stored-more, less-left}
 use Rattle.estimate.proofs.fill_plane.Statement.{statement}
 use Rattle.estimate.proofs.fill_plane.Tie as tie
 
@@ -25,7 +24,7 @@ row-seen {g} {xs} ok y z {row} is l =
     record { inside = omega arith; small = λ t i. rw (zero-add t) (rw (is t (omega arith)) (row-yz-size g xs y z t ok)) }
 
 abbrev Inv-loop : tie.InvT-loop
-Inv-loop g xs z out₀ k step ring₀ row₀ p₀ y₀ out ring row p y = (y ≤ g .cy) × Stored k (rowSize g) (λ v. rowOf g (rowYZ g xs v z)) out₀ y p out × (length ring ≡ 576) × (length row ≡ 576) × Ring g xs y z ring
+Inv-loop g xs z out₀ k step ring₀ row₀ p₀ y₀ out ring row p y = Stored k (rowSize g) (λ v. rowOf g (rowYZ g xs v z)) out₀ (g .cy) y p out × (length ring ≡ 576) × (length row ≡ 576) × Ring g xs y z ring
 
 abbrev μ-loop : tie.MeasureT-loop
 μ-loop g xs z out₀ k step ring₀ row₀ p₀ y₀ out ring row p y = g .cy - y
@@ -33,31 +32,25 @@ abbrev μ-loop : tie.MeasureT-loop
 loop-holds : tie.Need-loop-holds Inv-loop μ-loop
 loop-holds c =
     let s = c .before .before .before .before .before .before in
-    (omega arith, stored-none, omega (arith, c .before .row-z .kept), refl, ring-first (s .pre .0) (s .args .z) _ _ refl (c .before .row-z .ensures))
-
-row-yz-requires : tie.Need-row-yz-requires Inv-loop μ-loop
-row-yz-requires c κs =
-    let s = c .before .before .before .before .before .before .before .before .before .before .before in
-    let l = c .before .before .before .before .loop in
-    ((s .pre .0, omega arith, s .pre .1), (l .inv .2, l .inv .3, l .inv .4))
+    (stored-none, omega (arith, c .before .row-z .kept), refl, ring-first (s .pre .0) (s .args .z) _ _ refl (c .before .row-z .ensures))
 
 fill-row-requires : tie.Need-fill-row-requires Inv-loop μ-loop
 fill-row-requires c κs =
     let s = c .before .before .before .before .before .before .before .before .before .before .before .before .before .before .before .before in
     let l = c .before .before .before .before .before .before .before .before .before .loop in
     let q = c .before .before .before .before .row-yz in
-    ((s .pre .0 .grid, stored-room (l .inv .1) (s .args .g .cy) (omega arith) (s .pre .2)), row-seen (s .pre .0) (l .y) (s .args .z) (q .ensures .1) (omega (arith, q .kept, l .inv .3)))
+    ((s .pre .0 .grid, stored-room (l .inv .0) (c .before .before .before .before .before .before .before .if1 .taken) (s .pre .2)), row-seen (s .pre .0) (l .y) (s .args .z) (q .ensures .1) (omega (arith, q .kept, l .inv .2)))
 
 loop-again : tie.Need-loop-again Inv-loop μ-loop
 loop-again c =
     let s = c .before .before .before .before .before .before .before .before .before .before .before .before .before .before .before .before .before .before in
     let l = c .before .before .before .before .before .before .before .before .before .before .before .loop in
     let q = c .before .before .before .before .before .before .row-yz in
-    (omega arith, stored-more (l .inv .1) (c .before .fill-row .ensures) (λ o i. row-same (s .args .g) (s .pre .0 .grid) _ (rowYZ (s .args .g) (s .args .xs .now) (l .y) (s .args .z)) (q .ensures .1) o i), omega (arith, q .kept, l .inv .2), omega (arith, q .kept, l .inv .3), q .ensures .0)
+    (stored-more (l .inv .0) (c .before .before .before .before .before .before .before .before .before .if1 .taken) (c .before .fill-row .ensures) (row-same (s .args .g) (s .pre .0 .grid) _ (rowYZ (s .args .g) (s .args .xs .now) (l .y) (s .args .z)) (q .ensures .1)), omega (arith, q .kept, l .inv .1), omega (arith, q .kept, l .inv .2), q .ensures .0)
 
 returns : tie.Need-returns Inv-loop μ-loop
 unfolding planeOf
-returns c = stored-all (c .before .before .loop .inv .1) _ (omega arith)
+returns c = stored-all (c .before .before .loop .inv .0) (c .if1 .left)
 
 pub fill-plane-spec : {M : Type 1} → statement M
 fill-plane-spec =
@@ -72,11 +65,12 @@ fill-plane-spec =
     (λ c κs. let s = c .before .before .before .before in (s .pre .0, (s .pre .0 .grid .y-low, s .pre .1, omega (arith, row-z-high (s .args .g) (s .pre .0 .grid)))))
     loop-holds
     (λ c. search needs) (λ c. search needs)
-    row-yz-requires
+    (λ c κs. let s = c .before .before .before .before .before .before .before .before .before .before .before in let i = c .before .before .before .before .loop .inv in ((s .pre .0, c .before .before .if1 .taken, s .pre .1), (i .1, i .2, i .3)))
     (λ c. search needs)
     fill-row-requires
-    (λ c. let s = c .before .before .before .before .before .before .before .before .before .before .before .before .before .before .before .before .before .before in let l = c .before .before .before .before .before .before .before .before .before .before .before .loop in omega (arith, group-room (rowSize (s .args .g)) (l .y) (s .args .g .cy) (omega arith), s .pre .2, s .good, l .inv .1 .place))
-    (λ c. omega arith) (λ c. omega arith)
+    (λ c. let s = c .before .before .before .before .before .before .before .before .before .before .before .before .before .before .before .before .before .before in omega (arith, stored-fits (c .before .before .before .before .before .before .before .before .before .before .before .loop .inv .0) (c .before .before .before .before .before .before .before .before .before .if1 .taken) (s .pre .2), s .good))
+    (λ c. omega arith)
+    (λ c. less-left (c .before .before .before .before .before .before .before .before .before .if1 .taken))
     loop-again
-    (λ c. stored-length (c .before .before .loop .inv .1))
+    (λ c. stored-length (c .before .before .loop .inv .0))
     returns)

@@ -7,11 +7,10 @@ use lib.IntN.{ℤ, natAbs}
 use mir.Syntax.{w32}
 use mir.Val.{toZ, ofZ}
 use Rattle.lattice.specs.Buffer.{at}
-use Rattle.lattice.proofs.DigitsLaws.{group-room}
 use Rattle.estimate.specs.Estimate.{byOrder}
 use Rattle.estimate.specs.Passes.{passLimit, since, Read}
 use Rattle.estimate.proofs.PassesLaws.{bits}
-use Rattle.estimate.proofs.PlacedLaws.{Stored, stored-none, stored-length, stored-room, stored-more, stored-all}
+use Rattle.estimate.proofs.PlacedLaws.{Stored, stored-none, stored-length, stored-all, stored-fits, stored-room, stored-more, less-left}
 use Rattle.estimate.proofs.pass.Statement.{statement}
 use Rattle.estimate.proofs.pass.Tie as tie
 
@@ -24,7 +23,7 @@ module _ {xs : List ℤ} {low count : ℕ} (r : Read xs low count) {t : ℕ} (l 
   small = rw value (r .small t l)
 
 abbrev Inv-loop : tie.InvT-loop
-Inv-loop m xs low mid high count out₀ k t₀ p₀ out t p = (t ≤ count) × Stored k m (λ i o. byOrder o (since xs low i) (since xs mid i) (since xs high i)) out₀ t p out
+Inv-loop m xs low mid high count out₀ k t₀ p₀ out t p = Stored k m (λ i o. byOrder o (since xs low i) (since xs mid i) (since xs high i)) out₀ count t p out
 
 abbrev μ-loop : tie.MeasureT-loop
 μ-loop m xs low mid high count out₀ k t₀ p₀ out t p = count - t
@@ -32,16 +31,14 @@ abbrev μ-loop : tie.MeasureT-loop
 put-orders-requires : tie.Need-put-orders-requires Inv-loop μ-loop
 put-orders-requires c κs =
     let s = c .before .before .before .before .before .before in
-    let l = c .before .before .before .before .before .loop in
-    let h : l .t < s .args .count = omega arith in
-    ((s .pre .0 .0, s .pre .0 .1, stored-room (l .inv .1) (s .args .count) h (s .pre .0 .2)), (small (s .pre .1 .0) h, small (s .pre .1 .1) h, small (s .pre .1 .2) h))
+    let h = c .before .before .before .before .loop-test .taken in
+    ((s .pre .0 .0, s .pre .0 .1, stored-room (c .before .before .before .before .before .loop .inv) h (s .pre .0 .2)), (small (s .pre .1 .0) h, small (s .pre .1 .1) h, small (s .pre .1 .2) h))
 
 loop-again : tie.Need-loop-again Inv-loop μ-loop
 loop-again c =
     let s = c .before .before .before .before .before .before .before .before in
-    let l = c .before .before .before .before .before .before .before .loop in
-    let h : l .t < s .args .count = omega arith in
-    (omega arith, stored-more (l .inv .1) (c .before .put-orders .ensures) (λ o i. rw (value (s .pre .1 .0) h, value (s .pre .1 .1) h, value (s .pre .1 .2) h)))
+    let h = c .before .before .before .before .before .before .loop-test .taken in
+    stored-more (c .before .before .before .before .before .before .before .loop .inv) h (c .before .put-orders .ensures) (λ o i. rw (value (s .pre .1 .0) h, value (s .pre .1 .1) h, value (s .pre .1 .2) h))
 
 pub pass-spec : {M : Type 1} → statement M
 pass-spec =
@@ -49,12 +46,13 @@ pass-spec =
     (tie.spec
     Inv-loop
     μ-loop
-    (λ c. (omega arith, stored-none))
-    (λ c. omega arith) (λ c. omega arith) (λ c. omega arith) (λ c. omega arith) (λ c. omega arith) (λ c. omega arith) (λ c. omega arith)
-    (λ c. omega arith) (λ c. omega arith)
+    (λ c. stored-none)
+    (λ c. omega arith) (λ c. omega arith) (λ c. omega arith) (λ c. omega arith) (λ c. omega arith) (λ c. omega arith) (λ c. omega arith) (λ c. omega arith)
+    (λ c. omega arith)
     put-orders-requires
-    (λ c. let s = c .before .before .before .before .before .before .before .before in let l = c .before .before .before .before .before .before .before .loop in omega (arith, group-room (s .args .m) (l .t) (s .args .count) (omega arith), s .pre .0 .2, s .good, l .inv .1 .place))
-    (λ c. omega arith) (λ c. omega arith)
+    (λ c. let s = c .before .before .before .before .before .before .before .before in omega (arith, stored-fits (c .before .before .before .before .before .before .before .loop .inv) (c .before .before .before .before .before .before .loop-test .taken) (s .pre .0 .2), s .good))
+    (λ c. omega arith)
+    (λ c. less-left (c .before .before .before .before .before .before .loop-test .taken))
     loop-again
-    (λ c. stored-length (c .before .loop .inv .1))
-    (λ c. stored-all (c .before .loop .inv .1) (c .before .before .args .count) (omega arith)))
+    (λ c. stored-length (c .before .loop .inv))
+    (λ c. stored-all (c .before .loop .inv) (c .loop-test .left)))
