@@ -2,25 +2,23 @@
 use mathlib.Core.Path.{_≡_, ap, _∙_}
 use mathlib.Core.List.{List}
 use Prim.Native.Nat.{ℕ, _/_, _≤_}
-use native.Mathlib.Omega.{arith}
-use lib.Dec.{leb, eqb, ltb, lit<}
+use lib.Dec.{leb, eqb}
 use lib.IntN.{ℤ, pos, natAbs}
 use lib.ListN.{length}
 use borrow.Author.Tests.{leb-true, eqb-true}
-use Rattle.arith.proofs.Choices.{on-pick}
 use Rattle.lattice.specs.declared.Shape.{Shape}
 use Rattle.lattice.specs.Outcome.{Check, done, refuseUnless, first}
-use Rattle.lattice.specs.Shape.{count, orders, nodes, size, shapeOutcome, Shaped}
+use Rattle.lattice.specs.Shape.{count, orders, nodes, size, shapeOutcome}
 use Rattle.lattice.specs.Axes.{Place}
 use Rattle.lattice.specs.Records.{samplesField, recordsField, entryIndex, entryPlace, sampleLimit, entryLimit, limitOutcome}
 use Rattle.lattice.proofs.OutcomeLaws.{first-done, refuse-done}
 use Rattle.lattice.proofs.BufferLaws.{length-tabulate, getD-tabulate}
-use Rattle.lattice.proofs.ShapeLaws.{shaped, orders-range, nodes-is}
+use Rattle.lattice.proofs.ShapeLaws.{shaped, nodes-is}
 use Rattle.lattice.proofs.RecordsLaws.{InTable, index-below, place-back, limit-each}
 use Rattle.estimate.specs.Estimate.{tableRecords, recordsOf, estimateOutcome, Estimable}
-use Rattle.estimate.specs.Passes.{ordersOn, gridOf, Grids, Samples}
+use Rattle.estimate.specs.Passes.{gridOf, Samples}
 use Rattle.estimate.proofs.EstimateLaws.{limits}
-use Rattle.estimate.proofs.EntryLaws.{orders-some}
+use Rattle.estimate.proofs.RowsLaws.{grids}
 
 -- ---- a table that estimation takes
 
@@ -38,27 +36,6 @@ estimated s xs room h =
       whole = eqb-true (length xs) (nodes s) (refuse-done (eqb (length xs) (nodes s)) 4 0 (b .0));
       small = limit-each sampleLimit xs (c .1);
       fits = leb-true (size s) room (refuse-done (leb (size s) room) 9 0 (c .0));
-    }
-
-orders-high : (s : Shape) (a : ℕ) → ordersOn s a ≤ 3
-unfolding ordersOn
-orders-high s a = on-pick (λ m. m ≤ 3) (ltb a (s .axes)) (orders s) 1 (λ e. orders-range (s .degree) .1) (λ e. omega arith)
-
-pub grids : (s : Shape) → Shaped s → Grids (gridOf s)
-unfolding gridOf
-grids s ok =
-    record {
-      x-low = ok .used 0 (ok .axes-low);
-      y-low = ok .low 1 (lit< tt);
-      x-high = ok .high 0 (lit< tt);
-      y-high = ok .high 1 (lit< tt);
-      z-high = ok .high 2 (lit< tt);
-      mx-low = orders-some s ok 0;
-      my-low = orders-some s ok 1;
-      mz-low = orders-some s ok 2;
-      mx-high = orders-high s 0;
-      my-high = orders-high s 1;
-      mz-high = orders-high s 2;
     }
 
 pub grid-samples : (s : Shape) (xs : List ℤ) (room : ℕ) → Estimable s xs room → Samples (gridOf s) xs

@@ -114,27 +114,13 @@ module _ (s : Shape) (xs : List ℤ) where
     unfolding rowYZ grouped gridOf along-y
     passed-y x y z h l =
         let k : h / ordersOn s 1 < ordersOn s 2 = high-below (some 1) l in
-        rw (
-          group-of (some 1) (ordersOn s 2) x h,
-          member-of (ordersOn s 1) (ordersOn s 2) x h,
-          passed-z x (left y) z (h / ordersOn s 1) k,
-          passed-z x y z (h / ordersOn s 1) k,
-          passed-z x (right (count s 1) y) z (h / ordersOn s 1) k,
-        )
+        rw (group-of (some 1) (ordersOn s 2) x h, member-of (ordersOn s 1) (ordersOn s 2) x h, passed-z x (left y) z (h / ordersOn s 1) k, passed-z x y z (h / ordersOn s 1) k, passed-z x (right (count s 1) y) z (h / ordersOn s 1) k)
 
     passed : (x y z e : ℕ) → x < g .cx → e < recordSize g → rowOf g (rowYZ g xs y z) (recordSize g * x + e) ≡ along-x (e % g .mx) (e / g .mx % g .my) (e / g .mx / g .my) x y z
     unfolding rowOf grouped gridOf along-x
     passed x y z e i l =
         let k : e / ordersOn s 0 < ordersOn s 1 * ordersOn s 2 = high-below (some 0) l in
-        rw (
-          group-of (some 0) (ordersOn s 1 * ordersOn s 2) x e,
-          member-of (ordersOn s 0) (ordersOn s 1 * ordersOn s 2) x e,
-          lower-at (ordersOn s 1 * ordersOn s 2) x (e / ordersOn s 0) k,
-          upper-at (ordersOn s 1 * ordersOn s 2) x (e / ordersOn s 0) k (count s 0) i,
-          passed-y (left x) y z (e / ordersOn s 0) k,
-          passed-y x y z (e / ordersOn s 0) k,
-          passed-y (right (count s 0) x) y z (e / ordersOn s 0) k,
-        )
+        rw (group-of (some 0) (ordersOn s 1 * ordersOn s 2) x e, member-of (ordersOn s 0) (ordersOn s 1 * ordersOn s 2) x e, lower-at (ordersOn s 1 * ordersOn s 2) x (e / ordersOn s 0) k, upper-at (ordersOn s 1 * ordersOn s 2) x (e / ordersOn s 0) k (count s 0) i, passed-y (left x) y z (e / ordersOn s 0) k, passed-y x y z (e / ordersOn s 0) k, passed-y (right (count s 0) x) y z (e / ordersOn s 0) k)
 
 -- ---- the index of an entry
 
@@ -148,16 +134,12 @@ module _ (s : Shape) (ok : Shaped s) where
 
   pub record-size : recordSize (gridOf s) ≡ entries s
   unfolding gridOf entries
-  record-size = by-n (λ n. s .axes ≡ n → ordersOn s 0 * (ordersOn s 1 * ordersOn s 2) ≡ orders s ^ n) one two three (s .axes) (ok .axes-low) (ok .axes-high) refl
-    where
-      one : s .axes ≡ 1 → ordersOn s 0 * (ordersOn s 1 * ordersOn s 2) ≡ orders s ^ 1
-      one e = rw (orders-used s 0 (omega arith), orders-unused s 1 (omega arith), orders-unused s 2 (omega arith), pow-one) (omega arith)
-
-      two : s .axes ≡ 2 → ordersOn s 0 * (ordersOn s 1 * ordersOn s 2) ≡ orders s ^ 2
-      two e = rw (orders-used s 0 (omega arith), orders-used s 1 (omega arith), orders-unused s 2 (omega arith), pow-two) (omega arith)
-
-      three : s .axes ≡ 3 → ordersOn s 0 * (ordersOn s 1 * ordersOn s 2) ≡ orders s ^ 3
-      three e = rw (orders-used s 0 (omega arith), orders-used s 1 (omega arith), orders-used s 2 (omega arith), pow-three) (omega arith)
+  record-size =
+      by-n (λ n. s .axes ≡ n → ordersOn s 0 * (ordersOn s 1 * ordersOn s 2) ≡ orders s ^ n)
+      (λ e. rw (orders-used s 0 (omega arith), orders-unused s 1 (omega arith), orders-unused s 2 (omega arith), pow-one) (omega arith))
+      (λ e. rw (orders-used s 0 (omega arith), orders-used s 1 (omega arith), orders-unused s 2 (omega arith), pow-two) (omega arith))
+      (λ e. rw (orders-used s 0 (omega arith), orders-used s 1 (omega arith), orders-used s 2 (omega arith), pow-three) (omega arith))
+      (s .axes) (ok .axes-low) (ok .axes-high) refl
 
   module _ (i : ℕ) where
     -- the node's number, and the entry's in its record

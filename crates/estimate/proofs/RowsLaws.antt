@@ -1,21 +1,23 @@
 -- The records of a row depend on the numbers of that row only; plane after plane, row after row, they are the records of the definition.
 use mathlib.Core.Path.{_≡_, sym, ap, _∙_}
 use mathlib.Core.List.{List}
-use Prim.Native.Nat.{ℕ, _+_, _*_, _/_, _%_, _<_}
+use Prim.Native.Nat.{ℕ, _+_, _*_, _/_, _%_, _≤_, _<_}
 use native.Mathlib.Nat.{mul-le-mul, mul-le-mul-left, mod-lt, div-add-mod, mod-eq-of-lt, div-eq-of-lt, lt-of-le-of-lt, div-div-eq-div-mul}
 use native.Mathlib.Omega.{arith}
+use lib.Dec.{ltb, lit<}
 use lib.IntN.{ℤ}
+use Rattle.arith.proofs.Choices.{on-pick}
 use Rattle.lattice.specs.declared.Shape.{Shape}
-use Rattle.lattice.specs.Shape.{count, size, Shaped}
+use Rattle.lattice.specs.Shape.{count, orders, size, Shaped}
 use Rattle.lattice.specs.Buffer.{at}
 use Rattle.lattice.specs.Records.{entryPlace}
-use Rattle.lattice.proofs.ShapeLaws.{nodes-is}
+use Rattle.lattice.proofs.ShapeLaws.{orders-range, nodes-is}
 use Rattle.lattice.proofs.DigitsLaws.{high-below, high-digit, low-digit}
 use Rattle.estimate.specs.declared.Grid.{Grid}
 use Rattle.estimate.specs.Estimate.{left, right, tableRecords}
-use Rattle.estimate.specs.Passes.{since, grouped, gridOf, rowStart, rowZ, rowYZ, lower, upper, nodeSize, recordSize, rowSize, rowOf, planeSize, planeOf, planesOf, Grids}
+use Rattle.estimate.specs.Passes.{since, grouped, ordersOn, gridOf, rowStart, rowZ, rowYZ, lower, upper, nodeSize, recordSize, rowSize, rowOf, planeSize, planeOf, planesOf, Grids}
 use Rattle.estimate.proofs.PassesLaws.{one-pass, lower-low, upper-in}
-use Rattle.estimate.proofs.EntryLaws.{record-size, entry-is}
+use Rattle.estimate.proofs.EntryLaws.{orders-some, record-size, entry-is}
 
 -- ---- one row
 
@@ -45,9 +47,33 @@ module _ (g : Grid) (xs : List ℤ) (my : g .my ≡ 1) (mz : g .mz ≡ 1) where
 
 -- ---- the records of the definition
 
-module _ (s : Shape) (ok : Shaped s) (grid : Grids (gridOf s)) (xs : List ℤ) where
+orders-high : (s : Shape) (a : ℕ) → ordersOn s a ≤ 3
+unfolding ordersOn
+orders-high s a = on-pick (λ m. m ≤ 3) (ltb a (s .axes)) (orders s) 1 (λ e. orders-range (s .degree) .1) (λ e. omega arith)
+
+pub grids : (s : Shape) → Shaped s → Grids (gridOf s)
+unfolding gridOf
+grids s ok =
+    record {
+      x-low = ok .used 0 (ok .axes-low);
+      y-low = ok .low 1 (lit< tt);
+      x-high = ok .high 0 (lit< tt);
+      y-high = ok .high 1 (lit< tt);
+      z-high = ok .high 2 (lit< tt);
+      mx-low = orders-some s ok 0;
+      my-low = orders-some s ok 1;
+      mz-low = orders-some s ok 2;
+      mx-high = orders-high s 0;
+      my-high = orders-high s 1;
+      mz-high = orders-high s 2;
+    }
+
+module _ (s : Shape) (ok : Shaped s) (xs : List ℤ) where
   abbrev g : Grid
   g = gridOf s
+
+  grid : Grids g
+  grid = grids s ok
 
   pub planes-size : planeSize g * g .cz ≡ size s
   unfolding size gridOf

@@ -18,9 +18,6 @@ use Rattle.estimate.proofs.check_estimate.Tie as tie
 told : (c : tie.After-enum-told2) → Shaped (c .before .before .before .args .s)
 told c = shaped (c .before .before .before .args .s) (sym (c .before .before .check-shape .ensures) ∙ ap meaning (c .enum-told2 .given .1))
 
-enum-told : tie.Need-enum-told
-enum-told c = search needs
-
 returns : tie.Need-returns
 unfolding estimateOutcome
 returns c =
@@ -44,8 +41,7 @@ pub check-estimate-spec : {M : Type 1} → statement M
 check-estimate-spec =
     tie.close
     (tie.spec
-    (λ c κs. search needs)
-    enum-told
+    (λ c κs. search needs) (λ c. search needs)
     (λ c. search needs)
     (λ c κs. told c)
     (λ c κs. search needs)

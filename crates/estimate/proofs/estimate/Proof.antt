@@ -9,9 +9,6 @@ use Rattle.estimate.proofs.CallLaws.{estimated}
 use Rattle.estimate.proofs.estimate.Statement.{statement}
 use Rattle.estimate.proofs.estimate.Tie as tie
 
-enum-told : tie.Need-enum-told
-enum-told c = search needs
-
 fill-records-requires : tie.Need-fill-records-requires
 fill-records-requires c κs =
     let a = c .before .before .before .before .args in
@@ -35,8 +32,7 @@ pub estimate-spec : {M : Type 1} → statement M
 estimate-spec =
     tie.close
     (tie.spec
-    (λ c κs. search needs)
-    enum-told
+    (λ c κs. search needs) (λ c. search needs)
     fill-records-requires
     (λ c. search needs) (λ c. search needs)
     returns

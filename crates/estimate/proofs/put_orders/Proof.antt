@@ -54,21 +54,15 @@ module _ (l f r : ℤ) (small : (natAbs l ≤ passLimit) × (natAbs f ≤ passLi
 
   -- one, two and three orders
   module _ (k : ℕ) (b : List ℤ) (m : ℕ) where
-    abbrev b₁ : List ℤ
-    b₁ = set b k (held f)
-
-    abbrev b₂ : List ℤ
-    b₂ = set b₁ (k + 1) (held (held r -ℤ held l))
-
-    one : m ≡ 1 → b₁ ≡ placed k m (λ o. byOrder o l f r) b
+    one : m ≡ 1 → set b k (held f) ≡ placed k m (λ o. byOrder o l f r) b
     unfolding placed byOrder
     one e = rw (e, value, add-zero k)
 
-    two : m ≡ 2 → b₂ ≡ placed k m (λ o. byOrder o l f r) b
+    two : m ≡ 2 → set (set b k (held f)) (k + 1) (held (held r -ℤ held l)) ≡ placed k m (λ o. byOrder o l f r) b
     unfolding placed byOrder
     two e = rw (e, D, value, add-zero k)
 
-    three : m ≡ 3 → set b₂ (k + 2) (held (held (held l -ℤ held (pos 2 *ℤ held f)) +ℤ held r)) ≡ placed k m (λ o. byOrder o l f r) b
+    three : m ≡ 3 → set (set (set b k (held f)) (k + 1) (held (held r -ℤ held l))) (k + 2) (held (held (held l -ℤ held (pos 2 *ℤ held f)) +ℤ held r)) ≡ placed k m (λ o. byOrder o l f r) b
     unfolding placed byOrder
     three e = rw (e, S, D, value, add-zero k)
 
