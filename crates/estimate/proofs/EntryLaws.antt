@@ -24,7 +24,7 @@ use Rattle.lattice.proofs.ShapeLaws.{orders-range, pow-one, pow-two, pow-three,
 use Rattle.lattice.proofs.RecordsLaws.{node-is}
 use Rattle.estimate.specs.declared.Grid.{Grid}
 use Rattle.estimate.specs.Estimate.{left, right, byOrder, estimate, records, tableRecords}
-use Rattle.estimate.specs.Passes.{grouped, ordersOn, gridOf, rowStart, rowZ, rowYZ, rowOf, recordSize}
+use Rattle.estimate.specs.Passes.{grouped, ordersOn, gridOf, OrderCount, rowStart, rowZ, rowYZ, rowOf, recordSize}
 use Rattle.estimate.proofs.EstimateLaws.{estimate-linear}
 use Rattle.estimate.proofs.PassesLaws.{group-of, member-of, lower-at, upper-at}
 
@@ -127,10 +127,13 @@ module _ (s : Shape) (xs : List ℤ) where
 some-order : (s : Shape) → 0 < orders s
 some-order s = let h = orders-range (s .degree) .0 in omega arith
 
+pub order-count : (s : Shape) (a : ℕ) → OrderCount (ordersOn s a)
+unfolding ordersOn
+order-count s a = on-pick OrderCount (ltb a (s .axes)) (orders s) 1 (λ e. (some-order s, orders-range (s .degree) .1)) (λ e. (omega arith, omega arith))
+
 module _ (s : Shape) (ok : Shaped s) where
-  pub orders-some : (a : ℕ) → 0 < ordersOn s a
-  unfolding ordersOn
-  orders-some a = on-pick (λ m. 0 < m) (ltb a (s .axes)) (orders s) 1 (λ e. some-order s) (λ e. omega arith)
+  orders-some : (a : ℕ) → 0 < ordersOn s a
+  orders-some a = order-count s a .0
 
   pub record-size : recordSize (gridOf s) ≡ entries s
   unfolding gridOf entries

@@ -116,10 +116,10 @@ pass-size m l f r {B} a b c t = order (t % m) (l (t / m)) (f (t / m)) (r (t / m)
 
 module _ (g : Grid) (ok : Grids g) where
   pub node-high : nodeSize g ≤ 9
-  node-high = mul-le-mul (ok .my-high) (ok .mz-high)
+  node-high = mul-le-mul (ok .my .1) (ok .mz .1)
 
   pub record-high : recordSize g ≤ 27
-  record-high = mul-le-mul (ok .mx-high) node-high
+  record-high = mul-le-mul (ok .mx .1) node-high
 
   pub row-high : rowSize g ≤ 1728
   row-high = mul-le-mul record-high (ok .x-high)
@@ -128,10 +128,10 @@ module _ (g : Grid) (ok : Grids g) where
   plane-high = mul-le-mul row-high (ok .y-high)
 
   pub row-z-high : g .mz * g .cx ≤ 192
-  row-z-high = mul-le-mul (ok .mz-high) (ok .x-high)
+  row-z-high = mul-le-mul (ok .mz .1) (ok .x-high)
 
   pub row-yz-high : g .my * (g .mz * g .cx) ≤ 576
-  row-yz-high = mul-le-mul (ok .my-high) row-z-high
+  row-yz-high = mul-le-mul (ok .my .1) row-z-high
 
 row-in : (g : Grid) (xs : List ℤ) (y z : ℕ) → Samples g xs → y < g .cy → z < g .cz → rowStart g y z + g .cx ≤ length xs
 unfolding rowStart

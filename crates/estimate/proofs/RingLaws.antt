@@ -91,7 +91,7 @@ module _ {g : Grid} {xs : List ℤ} (ok : Samples g xs) where
         → (t : ℕ) → t < g .my * w → at next t ≡ rowYZ g xs y z t
     unfolding rowYZ grouped
     made {low} {mid} {high} {b} s r long e t i =
-        let q : t / g .my < w = high-below (ok .grid .my-low) i in
+        let q : t / g .my < w = high-below (ok .grid .my .0) i in
         ap (λ (b : List ℤ). at b t) e
         ∙ placed-front (g .my * w) (passOf (g .my) (since b low) (since b mid) (since b high)) r t i (omega (arith, row-yz-high g (ok .grid)))
         ∙ rw (s .below .same (t / g .my) q, s .here .same (t / g .my) q, s .above .same (t / g .my) q, low-is, high-is)

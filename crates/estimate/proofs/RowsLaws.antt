@@ -1,23 +1,22 @@
 -- The records of a row depend on the numbers of that row only; plane after plane, row after row, they are the records of the definition.
 use mathlib.Core.Path.{_≡_, sym, ap, _∙_}
 use mathlib.Core.List.{List}
-use Prim.Native.Nat.{ℕ, _+_, _*_, _/_, _%_, _≤_, _<_}
+use Prim.Native.Nat.{ℕ, _+_, _*_, _/_, _%_, _<_}
 use native.Mathlib.Nat.{mul-le-mul, mul-le-mul-left, mod-lt, div-add-mod, mod-eq-of-lt, div-eq-of-lt, lt-of-le-of-lt, div-div-eq-div-mul}
 use native.Mathlib.Omega.{arith}
-use lib.Dec.{ltb, lit<}
+use lib.Dec.{lit<}
 use lib.IntN.{ℤ}
-use Rattle.arith.proofs.Choices.{on-pick}
 use Rattle.lattice.specs.declared.Shape.{Shape}
-use Rattle.lattice.specs.Shape.{count, orders, size, Shaped}
+use Rattle.lattice.specs.Shape.{count, size, Shaped}
 use Rattle.lattice.specs.Buffer.{at}
 use Rattle.lattice.specs.Records.{entryPlace}
-use Rattle.lattice.proofs.ShapeLaws.{orders-range, nodes-is}
+use Rattle.lattice.proofs.ShapeLaws.{nodes-is}
 use Rattle.lattice.proofs.DigitsLaws.{high-below, high-digit, low-digit}
 use Rattle.estimate.specs.declared.Grid.{Grid}
 use Rattle.estimate.specs.Estimate.{left, right, tableRecords}
-use Rattle.estimate.specs.Passes.{since, grouped, ordersOn, gridOf, rowStart, rowZ, rowYZ, lower, upper, nodeSize, recordSize, rowSize, rowOf, planeSize, planeOf, planesOf, Grids}
+use Rattle.estimate.specs.Passes.{since, grouped, gridOf, rowStart, rowZ, rowYZ, lower, upper, nodeSize, recordSize, rowSize, rowOf, planeSize, planeOf, planesOf, Grids}
 use Rattle.estimate.proofs.PassesLaws.{one-pass, lower-low, upper-in}
-use Rattle.estimate.proofs.EntryLaws.{orders-some, record-size, entry-is}
+use Rattle.estimate.proofs.EntryLaws.{order-count, record-size, entry-is}
 
 -- ---- one row
 
@@ -26,7 +25,7 @@ unfolding rowOf grouped
 row-same g ok row other same t l =
     let n : ℕ = nodeSize g * g .cx in
     let q : ℕ = t / g .mx in
-    let in-q : q < n = high-below (ok .mx-low) (omega arith) in
+    let in-q : q < n = high-below (ok .mx .0) (omega arith) in
     let each : (i : ℕ) → i < n → row i ≡ other i = λ i h. same i (omega arith) in
     rw (each (lower (nodeSize g) q) (lt-of-le-of-lt (lower-low (nodeSize g) q) in-q), each q in-q, each (upper (nodeSize g) n q) (upper-in (nodeSize g) q n in-q))
 
@@ -47,10 +46,6 @@ module _ (g : Grid) (xs : List ℤ) (my : g .my ≡ 1) (mz : g .mz ≡ 1) where
 
 -- ---- the records of the definition
 
-orders-high : (s : Shape) (a : ℕ) → ordersOn s a ≤ 3
-unfolding ordersOn
-orders-high s a = on-pick (λ m. m ≤ 3) (ltb a (s .axes)) (orders s) 1 (λ e. orders-range (s .degree) .1) (λ e. omega arith)
-
 pub grids : (s : Shape) → Shaped s → Grids (gridOf s)
 unfolding gridOf
 grids s ok =
@@ -60,12 +55,9 @@ grids s ok =
       x-high = ok .high 0 (lit< tt);
       y-high = ok .high 1 (lit< tt);
       z-high = ok .high 2 (lit< tt);
-      mx-low = orders-some s ok 0;
-      my-low = orders-some s ok 1;
-      mz-low = orders-some s ok 2;
-      mx-high = orders-high s 0;
-      my-high = orders-high s 1;
-      mz-high = orders-high s 2;
+      mx = order-count s 0;
+      my = order-count s 1;
+      mz = order-count s 2;
     }
 
 module _ (s : Shape) (ok : Shaped s) (xs : List ℤ) where
@@ -83,7 +75,7 @@ module _ (s : Shape) (ok : Shaped s) (xs : List ℤ) where
       turn a b c d = omega arith
 
   record-some : 0 < recordSize g
-  record-some = mul-le-mul (grid .mx-low) (mul-le-mul (grid .my-low) (grid .mz-low))
+  record-some = mul-le-mul (grid .mx .0) (mul-le-mul (grid .my .0) (grid .mz .0))
 
   row-some : 0 < rowSize g
   row-some = mul-le-mul {m₁ = 1} record-some (omega (arith, grid .x-low))

@@ -90,6 +90,10 @@ planesOf g xs = grouped (planeSize g) (planeOf g xs)
 abbrev pub passLimit : ℕ
 passLimit = 524288
 
+-- how many orders there may be along an axis
+abbrev pub OrderCount : ℕ → Type 0
+OrderCount m = (1 ≤ m) × (m ≤ 3)
+
 -- what a pass reads lies in its list and within the limit
 pub record Read (xs : List ℤ) (low count : ℕ) : Type 0 where
   pub inside : low + count ≤ length xs
@@ -102,12 +106,9 @@ pub record Grids (g : Grid) : Type 0 where
   pub x-high : g .cx ≤ 64
   pub y-high : g .cy ≤ 64
   pub z-high : g .cz ≤ 64
-  pub mx-low : 1 ≤ g .mx
-  pub my-low : 1 ≤ g .my
-  pub mz-low : 1 ≤ g .mz
-  pub mx-high : g .mx ≤ 3
-  pub my-high : g .my ≤ 3
-  pub mz-high : g .mz ≤ 3
+  pub mx : OrderCount (g .mx)
+  pub my : OrderCount (g .my)
+  pub mz : OrderCount (g .mz)
 
 -- the samples of a grid
 pub record Samples (g : Grid) (xs : List ℤ) : Type 0 where

@@ -6,7 +6,7 @@ ghost use lib.ListN.{length};
 ghost use Rattle.lattice.specs.Answer.{meaning};
 ghost use Rattle.lattice.specs.Buffer.{at, overwrite};
 ghost use Rattle.estimate.specs.Estimate.{left, right, byOrder, recordsOf, estimateOutcome, estimateWrites, Estimable};
-ghost use Rattle.estimate.specs.Passes.{passLimit, placed, since, passOf, ordersOn, gridOf, rowStart, rowZ, rowYZ, rowSize, rowOf, planeSize, planeOf, planesOf, Read, Grids, Samples, Ring};
+ghost use Rattle.estimate.specs.Passes.{passLimit, placed, since, passOf, ordersOn, gridOf, rowStart, rowZ, rowYZ, rowSize, rowOf, planeSize, planeOf, planesOf, OrderCount, Read, Grids, Samples, Ring};
 use lattice::Answer;
 use lattice::Shape;
 
@@ -61,7 +61,7 @@ fn grid_of(s: Shape) -> Grid
 
 // The first m of the value f, D = r − l and S = l − 2f + r.
 fn put_orders(m: usize, l: i32, f: i32, r: i32, out: &mut [i32], k: usize)
-    requires { ⌜ (1 ≤ m) × (m ≤ 3) × (k + m ≤ length (now out)) ⌝ }
+    requires { ⌜ OrderCount m × (k + m ≤ length (now out)) ⌝ }
     requires { ⌜ (natAbs l ≤ passLimit) × (natAbs f ≤ passLimit) × (natAbs r ≤ passLimit) ⌝ }
     ensures { λ _. ⌜ now (out .exit) ≡ placed k m (λ o. byOrder o l f r) (now (out .entry)) ⌝ }
 {
@@ -85,7 +85,7 @@ fn pass(
     out: &mut [i32],
     k: usize,
 )
-    requires { ⌜ (1 ≤ m) × (m ≤ 3) × (k + m * count ≤ length (now out)) ⌝ }
+    requires { ⌜ OrderCount m × (k + m * count ≤ length (now out)) ⌝ }
     requires { ⌜ Read (now xs) low count × Read (now xs) mid count × Read (now xs) high count ⌝ }
     ensures { λ _. ⌜ now (out .exit) ≡ placed k (m * count) (passOf m (since (now (xs .entry)) low) (since (now (xs .entry)) mid) (since (now (xs .entry)) high)) (now (out .entry)) ⌝ }
 {

@@ -63,8 +63,8 @@ module _ {g : Grid} (ok : Grids g) where
     part : (low mid high n : ℕ) → Near low mid high n → (j : ℕ) → j < g .mx * n → run low mid high j ≡ rowOf g (at row) (g .mx * mid + j)
     unfolding rowOf grouped
     part low mid high n near j l =
-        let h = near (j / g .mx) (high-below (ok .mx-low) l) in
-        rw (mul-add-div (ok .mx-low) mid j, mul-add-mod-self-left (g .mx) mid j, h .0, h .1)
+        let h = near (j / g .mx) (high-below (ok .mx .0) l) in
+        rw (mul-add-div (ok .mx .0) mid j, mul-add-mod-self-left (g .mx) mid j, h .0, h .1)
 
     module _ (k : ℕ) (b b₁ b₂ b₃ : List ℤ) (e₁ : b₁ ≡ placed k (g .mx * size) (run 0 0 size) b) (e₂ : b₂ ≡ placed (k + g .mx * size) (g .mx * inner) (run 0 size (2 * size)) b₁)
         (e₃ : b₃ ≡ placed (k + g .mx * size + g .mx * inner) (g .mx * size) (run inner (inner + size) (inner + size)) b₂) where
@@ -85,27 +85,6 @@ module _ {g : Grid} (ok : Grids g) where
           (λ j l. part inner (inner + size) (inner + size) size last-near j l ∙ ap h (omega arith))
           ∙ ap (λ (m : ℕ). placed k m h b) entries
 
-pass-requires : tie.Need-pass-requires
-pass-requires c κs =
-    let s = c .before .before .before .before .before in
-    let ok = s .pre .0 .0 in
-    let r = read ok (s .pre .1) in
-    ((ok .mx-low, ok .mx-high, omega (arith, entries ok, s .pre .0 .1)), (r _ _ (omega arith), r _ _ (omega arith), r _ _ (omega arith)))
-
-pass-requires-2 : tie.Need-pass-requires-2
-pass-requires-2 c κs =
-    let s = c .before .before .before .before .before .before .before .before in
-    let ok = s .pre .0 .0 in
-    let r = read ok (s .pre .1) in
-    ((ok .mx-low, ok .mx-high, omega (arith, entries ok, s .pre .0 .1, c .before .before .pass .kept)), (r _ _ (omega arith), r _ _ (omega arith), r _ _ (omega arith)))
-
-pass-requires-3 : tie.Need-pass-requires-3
-pass-requires-3 c κs =
-    let s = c .before .before .before .before .before .before .before .before .before .before .before in
-    let ok = s .pre .0 .0 in
-    let r = read ok (s .pre .1) in
-    ((ok .mx-low, ok .mx-high, omega (arith, entries ok, s .pre .0 .1, c .before .before .pass2 .kept, c .before .before .before .before .before .pass .kept)), (r _ _ (omega arith), r _ _ (omega arith), r _ _ (omega arith)))
-
 pub fill-row-spec : {M : Type 1} → statement M
 fill-row-spec =
     tie.close
@@ -118,9 +97,9 @@ fill-row-spec =
     (λ c. let s = c .before .before .before in omega (arith, entries (s .pre .0 .0), s .pre .0 .1, s .good))
     (λ c. let s = c .before .before .before .before in omega (arith, entries (s .pre .0 .0), row-high (s .args .g) (s .pre .0 .0)))
     (λ c. let s = c .before .before .before .before in omega (arith, entries (s .pre .0 .0), s .pre .0 .1, s .good))
-    pass-requires
+    (λ c κs. let s = c .before .before .before .before .before in let ok = s .pre .0 .0 in let r = read ok (s .pre .1) in ((ok .mx, omega (arith, entries ok, s .pre .0 .1)), (r _ _ (omega arith), r _ _ (omega arith), r _ _ (omega arith))))
     (λ c. let s = c .before .before .before .before .before .before .before in omega (arith, node-high (s .args .g) (s .pre .0 .0)))
-    pass-requires-2
-    pass-requires-3
+    (λ c κs. let s = c .before .before .before .before .before .before .before .before in let ok = s .pre .0 .0 in let r = read ok (s .pre .1) in ((ok .mx, omega (arith, entries ok, s .pre .0 .1, c .before .before .pass .kept)), (r _ _ (omega arith), r _ _ (omega arith), r _ _ (omega arith))))
+    (λ c κs. let s = c .before .before .before .before .before .before .before .before .before .before .before in let ok = s .pre .0 .0 in let r = read ok (s .pre .1) in ((ok .mx, omega (arith, entries ok, s .pre .0 .1, c .before .before .pass2 .kept, c .before .before .before .before .before .pass .kept)), (r _ _ (omega arith), r _ _ (omega arith), r _ _ (omega arith))))
     (λ c. search needs)
     (λ c. let s = c .before .before .before .before .before .before .before .before .before .before .before .before .before in result (s .pre .0 .0) (s .args .row .now) (s .args .k) (s .args .out .now) _ _ _ (c .before .before .before .before .before .before .before .pass .ensures) (c .before .before .before .before .pass2 .ensures) (c .before .pass3 .ensures)))

@@ -32,7 +32,7 @@ put-orders-requires : tie.Need-put-orders-requires Inv-loop μ-loop
 put-orders-requires c κs =
     let s = c .before .before .before .before .before .before in
     let h = c .before .before .before .before .loop-test .taken in
-    ((s .pre .0 .0, s .pre .0 .1, stored-room (c .before .before .before .before .before .loop .inv) h (s .pre .0 .2)), (small (s .pre .1 .0) h, small (s .pre .1 .1) h, small (s .pre .1 .2) h))
+    ((s .pre .0 .0, stored-room (c .before .before .before .before .before .loop .inv) h (s .pre .0 .1)), (small (s .pre .1 .0) h, small (s .pre .1 .1) h, small (s .pre .1 .2) h))
 
 loop-again : tie.Need-loop-again Inv-loop μ-loop
 loop-again c =
@@ -50,7 +50,7 @@ pass-spec =
     (λ c. omega arith) (λ c. omega arith) (λ c. omega arith) (λ c. omega arith) (λ c. omega arith) (λ c. omega arith) (λ c. omega arith) (λ c. omega arith)
     (λ c. omega arith)
     put-orders-requires
-    (λ c. let s = c .before .before .before .before .before .before .before .before in omega (arith, stored-fits (c .before .before .before .before .before .before .before .loop .inv) (c .before .before .before .before .before .before .loop-test .taken) (s .pre .0 .2), s .good))
+    (λ c. let s = c .before .before .before .before .before .before .before .before in omega (arith, stored-fits (c .before .before .before .before .before .before .before .loop .inv) (c .before .before .before .before .before .before .loop-test .taken) (s .pre .0 .1), s .good))
     (λ c. omega arith)
     (λ c. less-left (c .before .before .before .before .before .before .loop-test .taken))
     loop-again

@@ -17,7 +17,7 @@ pass-requires : tie.Need-pass-requires
 pass-requires c κs =
     let s = c .before .before .before .before .before .before .before .before .before in
     let g = s .pre .0 .0 .grid in
-    ((g .my-low, g .my-high, omega (arith, row-yz-high (s .args .g) g, s .pre .1 .1)), reads (s .pre .0 .0) (in-samples (c .before)))
+    ((g .my, omega (arith, row-yz-high (s .args .g) g, s .pre .1 .1)), reads (s .pre .0 .0) (in-samples (c .before)))
 
 pass-requires-2 : tie.Need-pass-requires-2
 pass-requires-2 c κs =
@@ -25,7 +25,7 @@ pass-requires-2 c κs =
     let n = r .before .before .before .before .before in
     let s = n .before .before in
     let ok = s .pre .0 .0 in (
-      (ok .grid .my-low, ok .grid .my-high, omega (arith, row-yz-high (s .args .g) (ok .grid), s .pre .1 .1)),
+      (ok .grid .my, omega (arith, row-yz-high (s .args .g) (ok .grid), s .pre .1 .1)),
       reads ok (ring-three ok _ _ _ (n .before .left-of .ensures .0) (n .right-of .ensures .0) (s .pre .0 .1) (r .before .before .if1 .left) (s .pre .1 .0) (s .pre .1 .2) (r .row-z .ensures)),
     )
 

@@ -13,7 +13,7 @@ pass-requires c κs =
     let s = n .before .before .before .before in
     let a = s .args in
     let read : (k : ℕ) → k < a .g .cz → Read (a .xs .now) (rowStart (a .g) (a .y) k) (a .g .cx) = λ k l. row-read (a .g) (a .xs .now) (a .y) k (s .pre .0) (s .pre .1 .0) l in (
-      (s .pre .0 .grid .mz-low, s .pre .0 .grid .mz-high, s .pre .1 .2),
+      (s .pre .0 .grid .mz, s .pre .1 .2),
       rw (n .before .before .row-start .ensures, n .before .row-start2 .ensures, c .before .row-start3 .ensures) (read _ (omega arith), read _ (s .pre .1 .1), read _ (n .right-of .ensures .1)),
     )
 
