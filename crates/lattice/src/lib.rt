@@ -85,7 +85,7 @@ pub fn refuse_on_axis(n: u32, axis: u32, used: bool, unused: bool, number: u32) 
     }
 }
 
-fn check_count(n: u32, count: u32, axis: u32) -> Answer
+pub fn check_count(n: u32, count: u32, axis: u32) -> Answer
     ensures { λ r. ⌜ meaning r ≡ refuseUnless (countAllowed n count axis) 3 axis ⌝ }
 {
     refuse_on_axis(n, axis, 2 <= count && count <= 64, count == 1, 3)

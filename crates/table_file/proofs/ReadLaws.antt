@@ -1,155 +1,169 @@
--- What the parser's parts say of the outcome of reading: a number at a cursor, a node count, and what comes after section one.
-use mathlib.Core.Path.{_≡_, refl, ap, fun-ext, _∙_}
-use mathlib.Core.Bool.{Bool, _&&_}
-use mathlib.Core.List.{List}
-use Prim.Native.Nat.{ℕ, _+_, _*_, _≤_, _<_}
+-- What the tests of reading say of a file, section by section, and what passes them.
+use mathlib.Core.Path.{_≡_, refl, sym, ap, _∙_}
+use mathlib.Core.List.{List, [], _∷_}
+use Prim.Native.Nat.{ℕ, _+_, _*_, _-_, _≤_, _<_}
 use native.Mathlib.Omega.{arith}
-use borrow.Author.Tests.{le-leb, lt-leb, leb-true, lt-ltb, le-ltb, eq-eqb, eqb-true}
+use borrow.Author.Tests.{le-leb, leb-true, lt-ltb, le-ltb, ltb-true, ltb-false, eq-eqb, eqb-true}
 use lib.Dec.{leb, ltb, eqb}
-use lib.IntN.{ℤ, pos}
-use lib.ListN.{length}
-use Rattle.arith.proofs.Choices.{pick-true, pick-false, on-pick}
-use Rattle.lattice.specs.Outcome.{Outcome, Check, done, refused, refuseUnless, first, firstOf}
+use lib.IntN.{pos}
+use lib.ListN.{length, getD}
+use Rattle.arith.proofs.Choices.{pick-true, pick-false, split}
+use Rattle.lattice.specs.Outcome.{Check, done, refuseUnless, first, firstOf}
 use Rattle.lattice.specs.Buffer.{at, tabulate}
-use Rattle.lattice.specs.Shape.{axesOutcome, countAllowed}
+use Rattle.lattice.specs.Digits.{span}
+use Rattle.lattice.specs.Shape.{count, nodes, axesOutcome, countAllowed, countsOutcome, Shaped}
 use Rattle.lattice.specs.Records.{sampleLimit, limitOutcome}
-use Rattle.lattice.proofs.OutcomeLaws.{first-done, first-passed, refused-first, refuse-done, passes, first-assoc}
+use Rattle.lattice.specs.declared.Shape.{Shape}
+use Rattle.lattice.proofs.OutcomeLaws.{first-done, first-passed, refuse-done, passes, firstOf-each, firstOf-passes}
+use Rattle.lattice.proofs.ShapeLaws.{axes-range, counts-each, nodes-high, allowed-unused}
 use Rattle.lattice.proofs.BufferLaws.{length-tabulate, getD-tabulate}
-use Rattle.table_file.specs.Numbers.{numberAt, signedOf}
-use Rattle.table_file.specs.File.{Header, complete, axesIn, countIn, headerIn, nodesIn, samplesIn, countOutcome, oneOutcome, nothingAfter, twoOutcome}
-use Rattle.table_file.specs.Parser.{numberFrom, samplesFrom, lengthsOutcome, restOutcome}
-use Rattle.table_file.specs.declared.Number.the-variants.{Whole, Refused}
-use Rattle.table_file.specs.declared.Cursor.{Cursor}
-use Rattle.lattice.specs.declared.Refusal.{Refusal}
-use Rattle.lattice.proofs.ShapeLaws.{allowed-is}
-
--- ---- a number at a cursor
-
-module _ (bytes : List ℕ) (at : ℕ) where
-  pub from-whole : at + 4 ≤ length bytes → numberFrom bytes at ≡ Whole (numberAt bytes at) (record { at = at + 4 })
-  unfolding numberFrom
-  from-whole h = pick-true (leb (at + 4) (length bytes)) _ _ (le-leb (at + 4) (length bytes) h)
-
-  pub from-short : length bytes < at + 4 → numberFrom bytes at ≡ Refused (record { number = 6; place = length bytes })
-  unfolding numberFrom
-  from-short h = pick-false (leb (at + 4) (length bytes)) _ _ (lt-leb (at + 4) (length bytes) h)
-
-  module _ (m : ℕ) (e : at + 4 ≡ 4 * m) where
-    pub whole-is : (v : ℕ) (after : Cursor) → numberFrom bytes at ≡ Whole v after → (complete bytes m ≡ done tt) × (v ≡ numberAt bytes at) × (after .at ≡ at + 4)
-    unfolding numberFrom complete
-    whole-is v after = on-pick (λ x. x ≡ Whole v after → (refuseUnless (leb (4 * m) (length bytes)) 6 (length bytes) ≡ done tt) × (v ≡ numberAt bytes at) × (after .at ≡ at + 4)) (leb (at + 4) (length bytes)) _ _
-        (λ t q. (rw (← e) (passes (leb (at + 4) (length bytes)) 6 (length bytes) t), cc, cc))
-        (λ t q. let z : _≡_ {A = ℕ} 0 1 = cc in absurd (omega arith))
-
-    pub refused-is : (r : Refusal) → numberFrom bytes at ≡ Refused r → complete bytes m ≡ refused (r .number) (r .place)
-    unfolding numberFrom complete
-    refused-is r = on-pick (λ x. x ≡ Refused r → refuseUnless (leb (4 * m) (length bytes)) 6 (length bytes) ≡ refused (r .number) (r .place)) (leb (at + 4) (length bytes)) _ _
-        (λ t q. let z : _≡_ {A = ℕ} 0 1 = cc in absurd (omega arith))
-        (λ t (q : Refused (record { number = 6; place = length bytes }) ≡ Refused r). rw (← e, t) (cc))
-
--- ---- section one
+use Rattle.table_file.specs.Numbers.{signedOf}
+use Rattle.table_file.specs.File.{header, headerIn, countOf, fileNumber, complete, axesIn, countIn, nodesIn, samplesIn, countOutcome, oneOutcome, nothingAfter, twoOutcome}
+use Rattle.table_file.specs.Parser.{samplesFrom, shapeIn, restOutcome, AfterOne}
+use Rattle.table_file.proofs.WriteLaws.{shaped-of}
 
 module _ (bytes : List ℕ) where
-  abbrev answer : Outcome Header
-  answer = first (oneOutcome bytes) (done (headerIn bytes))
+  -- ---- k numbers are complete
 
-  one-is : answer ≡ first (complete bytes 1) (first (axesOutcome (axesIn bytes)) (first (firstOf (axesIn bytes) (countOutcome bytes)) (done (headerIn bytes))))
-  unfolding oneOutcome
-  one-is =
-      first-assoc (complete bytes 1) (first (axesOutcome (axesIn bytes)) (firstOf (axesIn bytes) (countOutcome bytes))) (done (headerIn bytes))
-      ∙ ap (first (complete bytes 1)) (first-assoc (axesOutcome (axesIn bytes)) (firstOf (axesIn bytes) (countOutcome bytes)) (done (headerIn bytes)))
+  pub complete-holds : (k : ℕ) → complete bytes k ≡ done tt → 4 * k ≤ length bytes
+  unfolding complete
+  complete-holds k e = leb-true (4 * k) (length bytes) (refuse-done (leb (4 * k) (length bytes)) 6 (length bytes) e)
 
-  pub one-short : (k p : ℕ) → complete bytes 1 ≡ refused k p → answer ≡ refused k p
-  one-short k p e = one-is ∙ refused-first _ e
+  complete-passes : (k : ℕ) → 4 * k ≤ length bytes → complete bytes k ≡ done tt
+  unfolding complete
+  complete-passes k h = passes (leb (4 * k) (length bytes)) 6 (length bytes) (le-leb (4 * k) (length bytes) h)
 
-  pub one-axes : (k p : ℕ) → complete bytes 1 ≡ done tt → axesOutcome (axesIn bytes) ≡ refused k p → answer ≡ refused k p
-  one-axes k p h e = one-is ∙ first-passed (complete bytes 1) _ h ∙ refused-first _ e
+  -- ---- a node count
 
-  pub one-counts : complete bytes 1 ≡ done tt → axesOutcome (axesIn bytes) ≡ done tt → answer ≡ first (firstOf (axesIn bytes) (countOutcome bytes)) (done (headerIn bytes))
-  one-counts h e = one-is ∙ first-passed (complete bytes 1) _ h ∙ first-passed (axesOutcome (axesIn bytes)) _ e
+  pub count-read : (a : ℕ) → a < axesIn bytes → countIn bytes a ≡ fileNumber bytes (1 + a)
+  unfolding countIn
+  count-read a l = pick-true (ltb a (axesIn bytes)) (fileNumber bytes (1 + a)) 1 (lt-ltb a (axesIn bytes) l)
 
-pub count-read : (bytes : List ℕ) (a : ℕ) → a < axesIn bytes → countIn bytes a ≡ numberAt bytes (4 * (1 + a))
-unfolding countIn
-count-read bytes a l = pick-true (ltb a (axesIn bytes)) (numberAt bytes (4 * (1 + a))) 1 (lt-ltb a (axesIn bytes) l)
+  pub count-absent : (a : ℕ) → axesIn bytes ≤ a → countIn bytes a ≡ 1
+  unfolding countIn
+  count-absent a l = pick-false (ltb a (axesIn bytes)) (fileNumber bytes (1 + a)) 1 (le-ltb a (axesIn bytes) l)
 
-pub count-absent : (bytes : List ℕ) (a : ℕ) → axesIn bytes ≤ a → countIn bytes a ≡ 1
-unfolding countIn
-count-absent bytes a l = pick-false (ltb a (axesIn bytes)) (numberAt bytes (4 * (1 + a))) 1 (le-ltb a (axesIn bytes) l)
-
-module _ (bytes : List ℕ) (a : ℕ) (used : a < axesIn bytes) (here : complete bytes (2 + a) ≡ done tt) where
-  test-is : countOutcome bytes a ≡ refuseUnless (leb 2 (numberAt bytes (4 * (1 + a))) && leb (numberAt bytes (4 * (1 + a))) 64) 3 a
+  -- 3 once 6 is passed
+  pub count-tested : (n a v : ℕ) → n ≡ axesIn bytes → a < n → v ≡ fileNumber bytes (1 + a) → complete bytes (2 + a) ≡ done tt
+      → refuseUnless (countAllowed n v a) 3 a ≡ countOutcome bytes a
   unfolding countOutcome
-  test-is =
-      first-passed (complete bytes (2 + a)) (refuseUnless (countAllowed (axesIn bytes) (countIn bytes a) a) 3 a) here
-      ∙ ap (λ (t : Bool). refuseUnless t 3 a) (allowed-is (axesIn bytes) (countIn bytes a) a used)
-      ∙ ap (λ (c : ℕ). refuseUnless (leb 2 c && leb c 64) 3 a) (count-read bytes a used)
+  count-tested n a v e l f h = rw (e, f ∙ sym (count-read a (omega arith))) (sym (first-passed (complete bytes (2 + a)) _ h))
 
-  pub count-few : numberAt bytes (4 * (1 + a)) < 2 → countOutcome bytes a ≡ refused 3 a
-  count-few h = test-is ∙ rw (lt-leb 2 (numberAt bytes (4 * (1 + a))) h) refl
+  -- ---- section one
 
-  pub count-many : 2 ≤ numberAt bytes (4 * (1 + a)) → 64 < numberAt bytes (4 * (1 + a)) → countOutcome bytes a ≡ refused 3 a
-  count-many l h = test-is ∙ rw (le-leb 2 (numberAt bytes (4 * (1 + a))) l, lt-leb (numberAt bytes (4 * (1 + a))) 64 h) refl
+  pub one-facts : oneOutcome bytes ≡ done tt → (axesOutcome (axesIn bytes) ≡ done tt) × (countsOutcome (axesIn bytes) (countIn bytes) ≡ done tt) × (4 * axesIn bytes + 4 ≤ length bytes)
+  unfolding oneOutcome countsOutcome countOutcome
+  one-facts h =
+      let n = axesIn bytes in
+      let f = first-done (complete bytes 1) _ tt h in
+      let g = first-done (axesOutcome n) _ tt (f .1) in
+      let low = axes-range n (g .0) .0 in
+      let test : ℕ → Check = λ a. refuseUnless (countAllowed n (countIn bytes a) a) 3 a in
+      let used : (a : ℕ) → a < n → (complete bytes (2 + a) ≡ done tt) × (test a ≡ done tt) = λ a l. first-done (complete bytes (2 + a)) (test a) tt (firstOf-each n (countOutcome bytes) (g .1) a l) in (
+        g .0,
+        firstOf-passes 3 test (λ a l. split (ltb a n) (λ t. used a (ltb-true a n t) .1)
+            (λ t. passes (countAllowed n (countIn bytes a) a) 3 a (allowed-unused n (countIn bytes a) a (ltb-false a n t) (count-absent a (ltb-false a n t))))),
+        omega (arith, complete-holds (2 + (n - 1)) (used (n - 1) (omega arith) .0)),
+      )
 
-  pub count-passes : 2 ≤ numberAt bytes (4 * (1 + a)) → numberAt bytes (4 * (1 + a)) ≤ 64 → countOutcome bytes a ≡ done tt
-  count-passes l h = test-is ∙ rw (le-leb 2 (numberAt bytes (4 * (1 + a))) l, le-leb (numberAt bytes (4 * (1 + a))) 64 h) refl
+  -- what the code needs of the node counts that it reads
+  pub one-sizes : oneOutcome bytes ≡ done tt → (n : ℕ) → n ≡ axesIn bytes → (n ≡ axesIn bytes) × (n ≤ 3) × (4 * n + 4 ≤ length bytes)
+  one-sizes h n e = let f = one-facts h in (e, omega (arith, axes-range (axesIn bytes) (f .0) .1), omega (arith, f .2))
 
-pub count-short : (bytes : List ℕ) (a k p : ℕ) → complete bytes (2 + a) ≡ refused k p → countOutcome bytes a ≡ refused k p
-unfolding countOutcome
-count-short bytes a k p e = refused-first (refuseUnless (countAllowed (axesIn bytes) (countIn bytes a) a) 3 a) e
+  pub one-passes : 4 * (2 + axesIn bytes) ≤ length bytes → axesOutcome (axesIn bytes) ≡ done tt → countsOutcome (axesIn bytes) (countIn bytes) ≡ done tt → oneOutcome bytes ≡ done tt
+  unfolding oneOutcome countOutcome
+  one-passes h e f =
+      let n = axesIn bytes in
+      let r = axes-range n e in
+      first-passed (complete bytes 1) _ (complete-passes 1 (omega arith))
+      ∙ first-passed (axesOutcome n) _ e
+      ∙ firstOf-passes n (countOutcome bytes) (λ a l.
+      first-passed (complete bytes (2 + a)) _ (complete-passes (2 + a) (omega arith))
+      ∙ passes (countAllowed n (countIn bytes a) a) 3 a (counts-each n (countIn bytes) f a (omega (arith, r .1))))
 
--- ---- section two
+  -- the shape that it gives
+  pub shaped-in : oneOutcome bytes ≡ done tt → Shaped (shapeIn bytes)
+  unfolding countsOutcome firstOf tabulate countOf
+  shaped-in h = let f = one-facts h in shaped-of (axesIn bytes) (tabulate 3 (countIn bytes)) (f .0) (f .1)
 
-module _ (bytes : List ℕ) (start count : ℕ) where
-  pub length-samples : length (samplesFrom bytes start count) ≡ count
-  unfolding samplesFrom
-  length-samples = length-tabulate count (λ i. signedOf (numberAt bytes (start + 4 * i)))
+  nodes-in : nodes (shapeIn bytes) ≡ nodesIn bytes
+  unfolding nodes nodesIn span count tabulate
+  nodes-in = refl
 
-  pub sample-is : (i : ℕ) → i < count → at (samplesFrom bytes start count) i ≡ signedOf (numberAt bytes (start + 4 * i))
-  unfolding samplesFrom
-  sample-is i l = getD-tabulate count (λ i. signedOf (numberAt bytes (start + 4 * i))) i (pos 0) l
+  pub header-is : (s : Shape) → s ≡ shapeIn bytes → headerIn bytes ≡ header (s .axes) (getD (s .counts) 0 0 ∷ getD (s .counts) 1 0 ∷ getD (s .counts) 2 0 ∷ [])
+  unfolding headerIn tabulate
+  header-is s e = rw e refl
 
--- the lengths of a file that is not refused
-pub lengths-done : (size start count nodes room : ℕ) → lengthsOutcome size start count nodes room ≡ done tt → (count ≡ nodes) × (size ≡ start + 4 * nodes) × (nodes ≤ room)
-unfolding lengthsOutcome
-lengths-done size start count nodes room h =
-    let end = start + 4 * nodes in
-    let f = first-done (refuseUnless (eqb count nodes) 8 0) _ tt h in
-    let g = first-done (refuseUnless (leb end size) 6 size) _ tt (f .1) in
-    let k = first-done (refuseUnless (leb size end) 7 end) (refuseUnless (leb nodes room) 9 0) tt (g .1) in
-    let lo : end ≤ size = leb-true end size (refuse-done (leb end size) 6 size (g .0)) in
-    let hi : size ≤ end = leb-true size end (refuse-done (leb size end) 7 end (k .0)) in
-    (eqb-true count nodes (refuse-done (eqb count nodes) 8 0 (f .0)), omega arith, leb-true nodes room (refuse-done (leb nodes room) 9 0 (k .1)))
+  pub after-one : oneOutcome bytes ≡ done tt → (s : Shape) → s ≡ shapeIn bytes → (k : ℕ) → k ≡ nodes s → AfterOne bytes (s .axes) k
+  after-one h s e k f =
+      let g : k ≡ nodes (shapeIn bytes) = f ∙ ap nodes e in
+      record {
+        axes-is = ap (λ (t : Shape). t .axes) e;
+        few = omega (arith, ap (λ (t : Shape). t .axes) e, shaped-in h .axes-high);
+        nodes-is = g ∙ nodes-in;
+        small = omega (arith, g, nodes-high (shapeIn bytes) (shaped-in h));
+      }
 
-pub lengths-pass : (size start count nodes room : ℕ) → count ≡ nodes → size ≡ start + 4 * nodes → nodes ≤ room → lengthsOutcome size start count nodes room ≡ done tt
-unfolding lengthsOutcome
-lengths-pass size start count nodes room e f h =
-    rw (eq-eqb count nodes e, le-leb (start + 4 * nodes) size (omega arith), le-leb size (start + 4 * nodes) (omega arith), le-leb nodes room h) refl
+  -- ---- section two, and what comes after it
 
-regroup : (a b c d e f : Check) → first (first a (first b (first c d))) (first e f) ≡ first a (first (first b (first c (first d e))) f)
-regroup (refused n p) b c d e f = refl
-regroup (done s) (refused n p) c d e f = refl
-regroup (done s) (done t) (refused n p) d e f = refl
-regroup (done s) (done t) (done u) (refused n p) e f = refl
-regroup (done s) (done t) (done u) (done v) e f = refl
+  abbrev numbers-in : ℕ
+  numbers-in = 2 + axesIn bytes + nodesIn bytes
 
-module _ (bytes : List ℕ) (room : ℕ) where
-  pub samples-are : samplesFrom bytes (4 * axesIn bytes + 8) (nodesIn bytes) ≡ samplesIn bytes
-  unfolding samplesFrom samplesIn
-  samples-are = ap (λ (f : ℕ → ℤ). tabulate (nodesIn bytes) f) (fun-ext (λ i. ap (λ (k : ℕ). signedOf (numberAt bytes k)) (omega arith)))
+  pub two-facts : twoOutcome bytes ≡ done tt → (fileNumber bytes (1 + axesIn bytes) ≡ nodesIn bytes) × (length bytes ≡ 4 * numbers-in)
+  unfolding twoOutcome nothingAfter
+  two-facts h =
+      let many = fileNumber bytes (1 + axesIn bytes) in
+      let f = first-done (complete bytes (2 + axesIn bytes)) _ tt h in
+      let g = first-done (refuseUnless (eqb many (nodesIn bytes)) 8 0) _ tt (f .1) in
+      let k = first-done (complete bytes numbers-in) (nothingAfter bytes numbers-in) tt (g .1) in
+      let low = complete-holds numbers-in (k .0) in
+      let high = leb-true (length bytes) (4 * numbers-in) (refuse-done (leb (length bytes) (4 * numbers-in)) 7 (4 * numbers-in) (k .1)) in
+      (eqb-true many (nodesIn bytes) (refuse-done (eqb many (nodesIn bytes)) 8 0 (g .0)), omega arith)
 
-  pub rest-is : restOutcome bytes room
-      ≡ first (complete bytes (2 + axesIn bytes))
-      (first (lengthsOutcome (length bytes) (4 * axesIn bytes + 8) (numberAt bytes (4 * (1 + axesIn bytes))) (nodesIn bytes) room)
-      (limitOutcome sampleLimit (samplesIn bytes)))
-  unfolding restOutcome twoOutcome lengthsOutcome complete nothingAfter
-  rest-is =
-      let size = length bytes in
-      let k : 4 * (2 + axesIn bytes + nodesIn bytes) ≡ 4 * axesIn bytes + 8 + 4 * nodesIn bytes = omega arith in
-      let rest : ℕ → Check = λ end. first (complete bytes (2 + axesIn bytes))
-      (first (first (refuseUnless (eqb (numberAt bytes (4 * (1 + axesIn bytes))) (nodesIn bytes)) 8 0)
-      (first (refuseUnless (leb end size) 6 size) (first (refuseUnless (leb size end) 7 end) (refuseUnless (leb (nodesIn bytes) room) 9 0))))
-      (limitOutcome sampleLimit (samplesIn bytes))) in
-      regroup (complete bytes (2 + axesIn bytes)) (refuseUnless (eqb (numberAt bytes (4 * (1 + axesIn bytes))) (nodesIn bytes)) 8 0)
-      (complete bytes (2 + axesIn bytes + nodesIn bytes)) (nothingAfter bytes (2 + axesIn bytes + nodesIn bytes))
-      (refuseUnless (leb (nodesIn bytes) room) 9 0) (limitOutcome sampleLimit (samplesIn bytes))
-      ∙ ap rest k
+  pub two-passes : fileNumber bytes (1 + axesIn bytes) ≡ nodesIn bytes → length bytes ≡ 4 * numbers-in → twoOutcome bytes ≡ done tt
+  unfolding twoOutcome nothingAfter
+  two-passes e f =
+      rw (complete-passes (2 + axesIn bytes) (omega arith), eq-eqb (fileNumber bytes (1 + axesIn bytes)) (nodesIn bytes) e, complete-passes numbers-in (omega arith))
+      (passes (leb (length bytes) (4 * numbers-in)) 7 (4 * numbers-in) (le-leb (length bytes) (4 * numbers-in) (omega arith)))
+
+  module _ (start many : ℕ) where
+    pub length-samples : length (samplesFrom bytes start many) ≡ many
+    unfolding samplesFrom
+    length-samples = length-tabulate many (λ i. signedOf (fileNumber bytes (start + i)))
+
+    pub sample-is : (i : ℕ) → i < many → at (samplesFrom bytes start many) i ≡ signedOf (fileNumber bytes (start + i))
+    unfolding samplesFrom
+    sample-is i l = getD-tabulate many (λ i. signedOf (fileNumber bytes (start + i))) i (pos 0) l
+
+  -- with n and the number of nodes as the code holds them
+  module _ (axes nodes : ℕ) (p : AfterOne bytes axes nodes) where
+    pub two-is : twoOutcome bytes
+        ≡ first (complete bytes (2 + axes))
+        (first (refuseUnless (eqb (fileNumber bytes (1 + axes)) nodes) 8 0)
+        (first (complete bytes (2 + axes + nodes)) (refuseUnless (leb (length bytes) (4 * (2 + axes + nodes))) 7 (4 * (2 + axes + nodes)))))
+    unfolding twoOutcome nothingAfter
+    two-is = rw (p .axes-is, p .nodes-is) refl
+
+    pub samples-are : samplesFrom bytes (2 + axes) nodes ≡ samplesIn bytes
+    unfolding samplesFrom samplesIn
+    samples-are = rw (p .axes-is, p .nodes-is) refl
+
+    pub rest-is : (room : ℕ) → restOutcome bytes room
+        ≡ first (twoOutcome bytes) (first (refuseUnless (leb nodes room) 9 0) (limitOutcome sampleLimit (samplesFrom bytes (2 + axes) nodes)))
+    unfolding restOutcome
+    rest-is room = rw (samples-are, p .nodes-is) refl
+
+    pub samples-held : twoOutcome bytes ≡ done tt → 4 * (2 + axes + nodes) ≤ length bytes
+    samples-held h = omega (arith, p .axes-is, p .nodes-is, two-facts h .1)
+
+  module _ (room : ℕ) where
+    pub rest-facts : restOutcome bytes room ≡ done tt → (twoOutcome bytes ≡ done tt) × (nodesIn bytes ≤ room) × (limitOutcome sampleLimit (samplesIn bytes) ≡ done tt)
+    unfolding restOutcome
+    rest-facts h =
+        let f = first-done (twoOutcome bytes) _ tt h in
+        let g = first-done (refuseUnless (leb (nodesIn bytes) room) 9 0) _ tt (f .1) in
+        (f .0, leb-true (nodesIn bytes) room (refuse-done (leb (nodesIn bytes) room) 9 0 (g .0)), g .1)
+
+    pub rest-passes : twoOutcome bytes ≡ done tt → nodesIn bytes ≤ room → limitOutcome sampleLimit (samplesIn bytes) ≡ done tt → restOutcome bytes room ≡ done tt
+    unfolding restOutcome
+    rest-passes e l f = rw (e, le-leb (nodesIn bytes) room l) f

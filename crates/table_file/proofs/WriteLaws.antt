@@ -1,7 +1,7 @@
 -- Numbers written one after the other are the file; what writing tests.
-use mathlib.Core.Path.{_≡_, sym, ap, _∙_}
+use mathlib.Core.Path.{_≡_, refl, sym, ap, _∙_}
 use mathlib.Core.List.{List, [], _∷_, _++_, map, append-assoc}
-use Prim.Native.Nat.{ℕ, _+_, _*_, _≤_, _<_}
+use Prim.Native.Nat.{ℕ, suc, _+_, _*_, _≤_, _<_}
 use native.Mathlib.Numerals.{add-one}
 use native.Mathlib.Omega.{arith}
 use borrow.Author.Tests.{eqb-true, leb-true, le-leb, eq-eqb}
@@ -9,18 +9,30 @@ use lib.Dec.{leb, eqb}
 use lib.IntN.{ℤ, pos}
 use lib.ListN.{length, getD, take, length-append, length-map, List·getD-map}
 use lib.Seq.{sets, take-suc, length-take-le}
-use Rattle.lattice.specs.Outcome.{done, refuseUnless}
-use Rattle.lattice.specs.Buffer.{at, overwrite}
-use Rattle.lattice.specs.Shape.{count, nodes, axesOutcome, countsOutcome}
+use Rattle.lattice.specs.Outcome.{Outcome, done, refused, refuseUnless, first, whenDone}
+use Rattle.lattice.specs.Buffer.{at, tabulate, overwrite}
+use Rattle.lattice.specs.Shape.{count, nodes, axesOutcome, degreeOutcome, countsOutcome, shapeOutcome, Shaped}
+use Rattle.lattice.specs.declared.Shape.{Shape}
 use Rattle.lattice.specs.Records.{sampleLimit, limitOutcome}
-use Rattle.lattice.proofs.OutcomeLaws.{first-done, first-passed, refuse-done, passes}
+use Rattle.lattice.proofs.OutcomeLaws.{first-done, first-passed, first-after, first-assoc, refuse-done, passes, when-done, when-refused}
 use Rattle.arith.specs.Int.{unsignedOf}
 use Rattle.table_file.specs.Numbers.{bytesOf, bytesOfAll}
 use Rattle.table_file.specs.File.{Header, header, sectionOne, sectionTwo, fileOf, countOf, nodesOf, writeCheck, writeOutcome, Permitted}
-use Rattle.lattice.proofs.BufferLaws.{sets-append, sets-front}
-use Rattle.lattice.proofs.ShapeLaws.{nodes-high}
-use Rattle.table_file.proofs.TakenLaws.{shapeOf, shaped-of}
+use Rattle.lattice.proofs.BufferLaws.{tabulate-getD, sets-append, sets-front}
+use Rattle.lattice.proofs.ShapeLaws.{shaped, nodes-high}
 use Rattle.table_file.proofs.NumberLaws.{length-all, all-append, all-one}
+
+-- ---- the answer of a call, and what it leaves in a slice
+
+module _ {A B : Type 0} (o : Outcome A) (new old : B) where
+  abbrev pub Answered : Outcome A → B → Type 0
+  Answered given now = (given ≡ o) × (now ≡ whenDone o new old)
+
+  pub answered-refused : (k p : ℕ) → o ≡ refused k p → Answered (refused k p) old
+  answered-refused k p e = (sym e, when-refused new old e)
+
+  pub answered-done : (v : A) (now : B) → o ≡ done v → now ≡ new → Answered (done v) now
+  answered-done v now e h = (sym e, h ∙ when-done new old e)
 
 -- ---- runs of numbers
 
@@ -52,33 +64,64 @@ sample-number xs i = List·getD-map unsignedOf xs i (pos 0)
 -- ---- the file
 
 module _ (n : ℕ) (cs : List ℕ) (xs : List ℤ) (few : n ≤ length cs) where
-  pub length-file : length (fileOf (header n cs) xs) ≡ 4 * n + 8 + 4 * length xs
+  abbrev us : List ℕ
+  us = map unsignedOf xs
+
+  pub length-file : length (fileOf (header n cs) xs) ≡ 4 * (2 + n + length xs)
   unfolding fileOf sectionOne sectionTwo
   length-file =
-      length-all ((n ∷ take n cs) ++ (length xs ∷ map unsignedOf xs))
-      ∙ omega (arith, length-append (take n cs) (length xs ∷ map unsignedOf xs), length-take-le n cs few, length-map xs unsignedOf)
+      length-all ((n ∷ take n cs) ++ (length xs ∷ us))
+      ∙ omega (arith, length-append (take n cs) (length xs ∷ us), length-take-le n cs few, length-map xs unsignedOf)
 
-  -- n, the node counts, the number of samples and the samples, each after what is before it
-  pub file-put : (l : List ℕ) → 4 * n + 8 + 4 * length xs ≤ length l
-      → sets (sets (sets (sets l 0 (bytesOf n)) 4 (bytesOfAll (take n cs))) (4 * n + 4) (bytesOf (length xs))) (4 * n + 8) (bytesOfAll (map unsignedOf xs))
-      ≡ overwrite (fileOf (header n cs) xs) l
-  unfolding fileOf sectionOne sectionTwo
-  file-put l h =
-      let us = map unsignedOf xs in
+  -- section one, the number of samples and the samples, each after what is before it
+  pub file-put : (l m₁ m₂ m₃ : List ℕ) → length cs ≡ 3 → 4 * (2 + n + length xs) ≤ length l
+      → m₁ ≡ sets l 0 (bytesOfAll (take (1 + n) (n ∷ getD cs 0 0 ∷ getD cs 1 0 ∷ getD cs 2 0 ∷ []))) → m₂ ≡ sets m₁ (4 * (1 + n)) (bytesOf (length xs)) → m₃ ≡ sets m₂ (4 * (2 + n)) (bytesOfAll us)
+      → m₃ ≡ overwrite (fileOf (header n cs) xs) l
+  unfolding fileOf sectionOne sectionTwo tabulate
+  file-put l m₁ m₂ m₃ three h e₁ e₂ e₃ =
       let one : List ℕ = n ∷ take n cs in
-      let e : 4 * n + 4 ≡ 0 + 4 * length one = omega (arith, length-take-le n cs few) in
-      let f : 4 * n + 8 ≡ 0 + 4 * length (one ++ (length xs ∷ [])) = omega (arith, length-append (take n cs) (length xs ∷ []), length-take-le n cs few) in
-      ap (λ (m : List ℕ). sets (sets (sets m 4 (bytesOfAll (take n cs))) (4 * n + 4) (bytesOf (length xs))) (4 * n + 8) (bytesOfAll us)) (sets-one l 0 n)
-      ∙ ap (λ (m : List ℕ). sets (sets m (4 * n + 4) (bytesOf (length xs))) (4 * n + 8) (bytesOfAll us)) (sets-all (n ∷ []) (take n cs) l 0)
-      ∙ ap (λ (m : List ℕ). sets m (4 * n + 8) (bytesOfAll us)) (sets-one (sets l 0 (bytesOfAll one)) (4 * n + 4) (length xs))
-      ∙ ap (λ (k : ℕ). sets (sets (sets l 0 (bytesOfAll one)) k (bytesOfAll (length xs ∷ []))) (4 * n + 8) (bytesOfAll us)) e
-      ∙ ap (λ (m : List ℕ). sets m (4 * n + 8) (bytesOfAll us)) (sets-all one (length xs ∷ []) l 0)
-      ∙ ap (λ (k : ℕ). sets (sets l 0 (bytesOfAll (one ++ (length xs ∷ [])))) k (bytesOfAll us)) f
-      ∙ sets-all (one ++ (length xs ∷ [])) us l 0
-      ∙ ap (λ (m : List ℕ). sets l 0 (bytesOfAll (n ∷ m))) (append-assoc (take n cs) (length xs ∷ []) us)
-      ∙ sets-front (fileOf (header n cs) xs) l (omega (arith, length-file))
+      let d : 1 + n ≡ suc n = omega arith in
+      let e : 4 * (1 + n) ≡ 0 + 4 * length one = omega (arith, length-take-le n cs few) in
+      let f : 4 * (2 + n) ≡ 0 + 4 * length one + 4 * length (length xs ∷ []) = omega (arith, length-take-le n cs few) in
+      rw (e₃, e₂, e₁, tabulate-getD cs 3 0 three, sets-one, f, e, d)
+      (sets-all (length xs ∷ []) us (sets l 0 (bytesOfAll one)) (0 + 4 * length one)
+      ∙ sets-all one (length xs ∷ us) l 0
+      ∙ sets-front (fileOf (header n cs) xs) l (omega (arith, length-file)))
 
 -- ---- the tests
+
+-- a shape of either degree: both have the same nodes
+abbrev pub shapeOf : ℕ → List ℕ → Shape
+shapeOf n cs = record { axes = n; degree = 3; counts = cs }
+
+pub shape-tests : (n : ℕ) (cs : List ℕ) → shapeOutcome (shapeOf n cs) ≡ first (axesOutcome n) (countsOutcome n (countOf (header n cs)))
+unfolding shapeOutcome degreeOutcome count countOf
+shape-tests n cs = refl
+
+pub shaped-of : (n : ℕ) (cs : List ℕ) → axesOutcome n ≡ done tt → countsOutcome n (countOf (header n cs)) ≡ done tt → Shaped (shapeOf n cs)
+shaped-of n cs e f = shaped (shapeOf n cs) (shape-tests n cs ∙ first-passed (axesOutcome n) _ e ∙ f)
+
+module _ (n : ℕ) (cs : List ℕ) (xs : List ℤ) (room : ℕ) where
+  pub write-is : writeCheck (header n cs) xs room
+      ≡ first (shapeOutcome (shapeOf n cs))
+      (first (refuseUnless (eqb (length xs) (nodesOf (header n cs))) 4 0) (first (refuseUnless (leb (length (fileOf (header n cs) xs)) room) 9 0) (limitOutcome sampleLimit xs)))
+  unfolding writeCheck
+  write-is = sym (rw (shape-tests n cs) (first-assoc (axesOutcome n) (countsOutcome n (countOf (header n cs))) _))
+
+  -- with the number of nodes and of bytes as the code finds them
+  module _ (many : ℕ) (three : length cs ≡ 3) (e : shapeOutcome (shapeOf n cs) ≡ done tt) (many-is : many ≡ nodes (shapeOf n cs)) where
+    pub shape-sizes : (n ≤ 3) × (many ≤ 262144)
+    shape-sizes = let s = shaped (shapeOf n cs) e in (s .axes-high, omega (arith, many-is, nodes-high (shapeOf n cs) s))
+
+    pub write-rest : first (refuseUnless (eqb (length xs) many) 4 0) (first (refuseUnless (leb (4 * (2 + n + many)) room) 9 0) (limitOutcome sampleLimit xs)) ≡ writeCheck (header n cs) xs room
+    unfolding nodes nodesOf count countOf
+    write-rest =
+        first-after (refuseUnless (eqb (length xs) many) 4 0) _ _ (λ t.
+        let same : length xs ≡ many = eqb-true (length xs) many (refuse-done (eqb (length xs) many) 4 0 t) in
+        let size : 4 * (2 + n + many) ≡ length (fileOf (header n cs) xs) = omega (arith, length-file n cs xs (omega (arith, shape-sizes .0))) in
+        ap (λ (k : ℕ). first (refuseUnless (leb k room) 9 0) (limitOutcome sampleLimit xs)) size)
+        ∙ ap (λ (k : ℕ). first (refuseUnless (eqb (length xs) k) 4 0) (first (refuseUnless (leb (length (fileOf (header n cs) xs)) room) 9 0) (limitOutcome sampleLimit xs))) many-is
+        ∙ sym (write-is ∙ first-passed (shapeOutcome (shapeOf n cs)) _ e)
 
 -- the facts of a table that writing takes into `room` bytes
 pub record Fit (h : Header) (xs : List ℤ) (room : ℕ) : Type 0 where
@@ -119,7 +162,7 @@ pub fit-of : (h : Header) (xs : List ℤ) (room : ℕ) → Permitted h xs → le
 fit-of h xs room p r = record { axes-ok = p .axes-ok; counts-ok = p .counts-ok; counted = p .counted; roomy = r; limited = p .limited }
 
 -- sizes that the machine holds
-pub fit-size : (n : ℕ) (cs : List ℕ) (xs : List ℤ) (room : ℕ) → length cs ≡ 3 → Fit (header n cs) xs room → (n ≤ 3) × (length xs ≤ 262144) × (4 * n + 8 + 4 * length xs ≤ room)
+pub fit-size : (n : ℕ) (cs : List ℕ) (xs : List ℤ) (room : ℕ) → length cs ≡ 3 → Fit (header n cs) xs room → (n ≤ 3) × (length xs ≤ 262144) × (4 * (2 + n + length xs) ≤ room)
 unfolding nodesOf countOf nodes count
 fit-size n cs xs room three t =
     let s = shaped-of n cs (t .axes-ok) (t .counts-ok) in

@@ -5,14 +5,14 @@ ghost use mathlib.Core.List.{map};
 ghost use lib.ListN.{length, take};
 ghost use lib.Seq.{sets};
 ghost use Rattle.arith.specs.Int.{unsignedOf};
-ghost use Rattle.lattice.specs.Outcome.{done, first, firstOf, whenDone};
+ghost use Rattle.lattice.specs.Outcome.{done, firstOf, whenDone};
 ghost use Rattle.lattice.specs.Answer.{meaning};
 ghost use Rattle.lattice.specs.Buffer.{overwrite};
 ghost use Rattle.lattice.specs.Records.{sampleLimit, limitOutcome};
-ghost use Rattle.table_file.specs.Numbers.{numberAt, bytesOf, bytesOfAll, signedOf};
-ghost use Rattle.table_file.specs.File.{header, fileOf, axesIn, headerIn, samplesIn, countOutcome, oneOutcome, readOutcome, writeCheck, writeOutcome};
+ghost use Rattle.table_file.specs.Numbers.{bytesOf, bytesOfAll, signedOf};
+ghost use Rattle.table_file.specs.File.{header, fileOf, fileNumber, complete, axesIn, countIn, samplesIn, countOutcome, oneOutcome, twoOutcome, readOutcome, writeCheck, writeOutcome};
 ghost use Rattle.table_file.specs.Answers.{tableMeaning, writeMeaning};
-ghost use Rattle.table_file.specs.Parser.{numberFrom, samplesFrom, lengthsOutcome, restOutcome, AfterOne};
+ghost use Rattle.table_file.specs.Parser.{samplesFrom, shapeIn, restOutcome, AfterOne};
 use lattice::Answer;
 use lattice::Refusal;
 use lattice::Shape;
@@ -29,17 +29,6 @@ pub enum WriteAnswer {
     Refused(Refusal),
 }
 
-// A place in the bytes of a file.
-pub struct Cursor {
-    pub at: usize,
-}
-
-// The number at a cursor with the cursor after it, or refusal 6.
-pub enum Number {
-    Whole(u32, Cursor),
-    Refused(Refusal),
-}
-
 const SAMPLE_LIMIT: u64 = 32768;
 
 fn wide(b: u8) -> u32
@@ -48,11 +37,12 @@ fn wide(b: u8) -> u32
     b as u32
 }
 
-// The number whose 4 bytes begin at `at`.
-fn number_at(bytes: &[u8], at: usize) -> u32
-    requires { ⌜ at + 4 ≤ length (now bytes) ⌝ }
-    ensures { λ r. ⌜ r ≡ numberAt (now (bytes .entry)) at ⌝ }
+// Number k of the file.
+fn number_at(bytes: &[u8], k: usize) -> u32
+    requires { ⌜ 4 * k + 4 ≤ length (now bytes) ⌝ }
+    ensures { λ r. ⌜ r ≡ fileNumber (now (bytes .entry)) k ⌝ }
 {
+    let at = 4 * k;
     let a = wide(bytes[at]);
     let b = wide(bytes[at + 1]);
     let c = wide(bytes[at + 2]);
@@ -71,149 +61,155 @@ fn signed(v: u32) -> i32
     }
 }
 
-fn sample_at(bytes: &[u8], at: usize) -> i32
-    requires { ⌜ at + 4 ≤ length (now bytes) ⌝ }
-    ensures { λ r. ⌜ r ≡ signedOf (numberAt (now (bytes .entry)) at) ⌝ }
+// Number k of the file as a sample.
+fn sample_at(bytes: &[u8], k: usize) -> i32
+    requires { ⌜ 4 * k + 4 ≤ length (now bytes) ⌝ }
+    ensures { λ r. ⌜ r ≡ signedOf (fileNumber (now (bytes .entry)) k) ⌝ }
 {
-    signed(number_at(bytes, at))
+    signed(number_at(bytes, k))
 }
 
-impl Cursor {
-    fn number(self, bytes: &[u8]) -> Number
-        requires { ⌜ self .at ≤ 16 ⌝ }
-        ensures { λ r. ⌜ r ≡ numberFrom (now (bytes .entry)) (self .at) ⌝ }
-    {
-        let at = self.at;
-        let after = at + 4;
-        if after <= bytes.len() {
-            Number::Whole(number_at(bytes, at), Cursor { at: after })
-        } else {
-            Number::Refused(Refusal {
-                number: 6,
-                place: bytes.len(),
-            })
-        }
-    }
+// 6 where the first `count` numbers are not complete.
+fn check_complete(bytes: &[u8], count: usize) -> Answer
+    requires { ⌜ count ≤ 262149 ⌝ }
+    ensures { λ r. ⌜ meaning r ≡ complete (now (bytes .entry)) count ⌝ }
+{
+    let end = 4 * count;
+    lattice::refuse_unless(end <= bytes.len(), 6, bytes.len())
 }
 
-// The node counts of section one from a cursor on, 1 on unused axes.
-fn node_counts(bytes: &[u8], axes: u32, start: Cursor) -> TableAnswer
-    requires { ⌜ (axes ≡ axesIn (now bytes)) × (axes ≤ 3) × (start .at ≡ 4) ⌝ }
-    ensures { λ r. ⌜ tableMeaning r ≡ first (firstOf axes (countOutcome (now (bytes .entry)))) (done (headerIn (now (bytes .entry)))) ⌝ }
+// 6, then 3, for the node count of a used axis.
+fn check_count(bytes: &[u8], axes: u32, axis: u32) -> Answer
+    requires { ⌜ (axes ≡ axesIn (now bytes)) × (axis < axes) × (axes ≤ 3) ⌝ }
+    ensures { λ r. ⌜ meaning r ≡ countOutcome (now (bytes .entry)) axis ⌝ }
 {
-    let n = axes as usize;
-    let mut counts = [1u32; 3];
-    let mut cursor = start;
-    let mut a = 0;
-    while a < n {
-        let next = cursor.number(bytes);
-        match next {
-            Number::Refused(r) => {
-                return TableAnswer::Refused(r);
-            }
-            Number::Whole(count, after) => {
-                if count < 2 || 64 < count {
-                    return TableAnswer::Refused(Refusal {
-                        number: 3,
-                        place: a,
-                    });
-                }
-                counts[a] = count;
-                cursor = after;
-            }
+    let a = axis as usize;
+    let whole = check_complete(bytes, 2 + a);
+    if let Answer::Refused(_) = whole {
+        return whole;
+    }
+    lattice::check_count(axes, number_at(bytes, 1 + a), axis)
+}
+
+// 6 and 3 for the node counts, axis by axis.
+fn check_counts(bytes: &[u8], axes: u32) -> Answer
+    requires { ⌜ (axes ≡ axesIn (now bytes)) × (axes ≤ 3) ⌝ }
+    ensures { λ r. ⌜ meaning r ≡ firstOf axes (countOutcome (now (bytes .entry))) ⌝ }
+{
+    let mut axis: u32 = 0;
+    while axis < axes {
+        let counted = check_count(bytes, axes, axis);
+        if let Answer::Refused(_) = counted {
+            return counted;
         }
-        a += 1;
+        axis += 1;
     }
-    TableAnswer::Table {
-        axes: axes,
-        x: counts[0],
-        y: counts[1],
-        z: counts[2],
-    }
+    Answer::Done
 }
 
 // Section one.
-fn section_one(bytes: &[u8]) -> TableAnswer
-    ensures { λ r. ⌜ tableMeaning r ≡ first (oneOutcome (now (bytes .entry))) (done (headerIn (now (bytes .entry)))) ⌝ }
+fn check_one(bytes: &[u8]) -> Answer
+    ensures { λ r. ⌜ meaning r ≡ oneOutcome (now (bytes .entry)) ⌝ }
 {
-    let start = Cursor { at: 0 };
-    let number = start.number(bytes);
-    match number {
-        Number::Refused(r) => TableAnswer::Refused(r),
-        Number::Whole(axes, after) => {
-            let allowed = lattice::check_axes(axes);
-            match allowed {
-                Answer::Refused(r) => TableAnswer::Refused(r),
-                Answer::Done => node_counts(bytes, axes, after),
-            }
-        }
+    let whole = check_complete(bytes, 1);
+    if let Answer::Refused(_) = whole {
+        return whole;
+    }
+    let axes = number_at(bytes, 0);
+    let allowed = lattice::check_axes(axes);
+    if let Answer::Refused(_) = allowed {
+        return allowed;
+    }
+    check_counts(bytes, axes)
+}
+
+// The node count of an axis, 1 on an unused one.
+fn count_in(bytes: &[u8], axes: u32, axis: u32) -> u32
+    requires { ⌜ (axes ≡ axesIn (now bytes)) × (axes ≤ 3) × (4 * axes + 4 ≤ length (now bytes)) ⌝ }
+    ensures { λ r. ⌜ r ≡ countIn (now (bytes .entry)) axis ⌝ }
+{
+    if axis < axes {
+        number_at(bytes, 1 + axis as usize)
+    } else {
+        1
     }
 }
 
-// 8, then 6 and 7 for the samples that begin at `start`, then 9.
-fn check_lengths(bytes: &[u8], start: usize, count: u32, nodes: usize, room: usize) -> Answer
-    requires { ⌜ (start ≤ 20) × (nodes ≤ 262144) ⌝ }
-    ensures { λ r. ⌜ meaning r ≡ lengthsOutcome (length (now (bytes .entry))) start count nodes room ⌝ }
+// The shape in section one, of degree 3: both degrees have the same nodes.
+fn shape_in(bytes: &[u8]) -> Shape
+    requires { ⌜ oneOutcome (now bytes) ≡ done tt ⌝ }
+    ensures { λ r. ⌜ r ≡ shapeIn (now (bytes .entry)) ⌝ }
 {
-    let length = bytes.len();
-    let end = start + 4 * nodes;
-    let counted = lattice::refuse_unless(count as usize == nodes, 8, 0);
-    let whole = lattice::refuse_unless(end <= length, 6, length);
-    let spare = lattice::refuse_unless(length <= end, 7, end);
-    let short = lattice::refuse_unless(nodes <= room, 9, 0);
-    lattice::earlier(
-        counted,
-        lattice::earlier(whole, lattice::earlier(spare, short)),
-    )
+    let axes = number_at(bytes, 0);
+    let x = count_in(bytes, axes, 0);
+    let y = count_in(bytes, axes, 1);
+    let z = count_in(bytes, axes, 2);
+    Shape {
+        axes: axes,
+        degree: 3,
+        counts: [x, y, z],
+    }
 }
 
-// Refusal 5 at the first of `count` samples that is beyond its limit.
+// Section two.
+fn check_two(bytes: &[u8], axes: usize, nodes: usize) -> Answer
+    requires { ⌜ AfterOne (now bytes) axes nodes ⌝ }
+    ensures { λ r. ⌜ meaning r ≡ twoOutcome (now (bytes .entry)) ⌝ }
+{
+    let whole = check_complete(bytes, 2 + axes);
+    if let Answer::Refused(_) = whole {
+        return whole;
+    }
+    let count = number_at(bytes, 1 + axes) as usize;
+    let all = 2 + axes + nodes;
+    let end = 4 * all;
+    let counted = lattice::refuse_unless(count == nodes, 8, 0);
+    let held = check_complete(bytes, all);
+    let spare = lattice::refuse_unless(bytes.len() <= end, 7, end);
+    lattice::earlier(counted, lattice::earlier(held, spare))
+}
+
+// Refusal 5 at the first of `count` samples from number `start` on that is beyond its limit.
 fn check_samples(bytes: &[u8], start: usize, count: usize) -> Answer
-    requires { ⌜ start + 4 * count ≤ length (now bytes) ⌝ }
+    requires { ⌜ 4 * (start + count) ≤ length (now bytes) ⌝ }
     ensures { λ r. ⌜ meaning r ≡ limitOutcome sampleLimit (samplesFrom (now (bytes .entry)) start count) ⌝ }
 {
-    let mut at = start;
     let mut i = 0;
     while i < count {
-        let x = sample_at(bytes, at) as i64;
+        let x = sample_at(bytes, start + i) as i64;
         if SAMPLE_LIMIT < arith::magnitude(x) {
             return lattice::refuse_unless(false, 5, i);
         }
-        at += 4;
         i += 1;
     }
     Answer::Done
 }
 
 // Section two, then 9 and 5.
-fn check_two(bytes: &[u8], start: Cursor, nodes: usize, room: usize) -> Answer
-    requires { ⌜ AfterOne (now bytes) (start .at) nodes ⌝ }
+fn check_rest(bytes: &[u8], axes: usize, nodes: usize, room: usize) -> Answer
+    requires { ⌜ AfterOne (now bytes) axes nodes ⌝ }
     ensures { λ r. ⌜ meaning r ≡ restOutcome (now (bytes .entry)) room ⌝ }
 {
-    let number = start.number(bytes);
-    match number {
-        Number::Refused(r) => Answer::Refused(r),
-        Number::Whole(count, after) => {
-            let lengths = check_lengths(bytes, after.at, count, nodes, room);
-            match lengths {
-                Answer::Refused(r) => Answer::Refused(r),
-                Answer::Done => check_samples(bytes, after.at, nodes),
-            }
-        }
+    let two = check_two(bytes, axes, nodes);
+    if let Answer::Refused(_) = two {
+        return two;
     }
+    let short = lattice::refuse_unless(nodes <= room, 9, 0);
+    if let Answer::Refused(_) = short {
+        return short;
+    }
+    check_samples(bytes, 2 + axes, nodes)
 }
 
-// Puts `count` samples at the front of `samples`.
+// Puts `count` samples from number `start` on at the front of `samples`.
 fn fill(bytes: &[u8], start: usize, count: usize, samples: &mut [i32])
-    requires { ⌜ (start + 4 * count ≤ length (now bytes)) × (count ≤ length (now samples)) ⌝ }
+    requires { ⌜ (4 * (start + count) ≤ length (now bytes)) × (count ≤ length (now samples)) ⌝ }
     ensures { λ _. ⌜ now (samples .exit) ≡ overwrite (samplesFrom (now (bytes .entry)) start count) (now (samples .entry)) ⌝ }
 {
-    let mut at = start;
     let mut i = 0;
     while i < count {
-        let x = sample_at(bytes, at);
+        let x = sample_at(bytes, start + i);
         samples[i] = x;
-        at += 4;
         i += 1;
     }
 }
@@ -223,112 +219,97 @@ pub fn read(bytes: &[u8], samples: &mut [i32]) -> TableAnswer
     ensures { λ r. ⌜ tableMeaning r ≡ readOutcome (now (bytes .entry)) (length (now (samples .entry))) ⌝ }
     ensures { λ _. ⌜ now (samples .exit) ≡ whenDone (readOutcome (now (bytes .entry)) (length (now (samples .entry)))) (overwrite (samplesIn (now (bytes .entry))) (now (samples .entry))) (now (samples .entry)) ⌝ }
 {
-    let table = section_one(bytes);
-    match table {
-        TableAnswer::Refused(r) => TableAnswer::Refused(r),
-        TableAnswer::Table { axes, x, y, z } => {
-            // The number of nodes is the same for both degrees.
-            let nodes = lattice::node_count(Shape {
-                axes: axes,
-                degree: 3,
-                counts: [x, y, z],
-            });
-            let start = 4 * (axes as usize) + 4;
-            let rest = check_two(bytes, Cursor { at: start }, nodes, samples.len());
-            match rest {
-                Answer::Refused(r) => TableAnswer::Refused(r),
-                Answer::Done => {
-                    fill(bytes, start + 4, nodes, samples);
-                    TableAnswer::Table {
-                        axes: axes,
-                        x: x,
-                        y: y,
-                        z: z,
-                    }
-                }
-            }
-        }
+    let one = check_one(bytes);
+    if let Answer::Refused(r) = one {
+        return TableAnswer::Refused(r);
+    }
+    let s = shape_in(bytes);
+    let axes = s.axes as usize;
+    let nodes = lattice::node_count(s);
+    let rest = check_rest(bytes, axes, nodes, samples.len());
+    if let Answer::Refused(r) = rest {
+        return TableAnswer::Refused(r);
+    }
+    fill(bytes, 2 + axes, nodes, samples);
+    TableAnswer::Table {
+        axes: s.axes,
+        x: s.counts[0],
+        y: s.counts[1],
+        z: s.counts[2],
     }
 }
 
-// Puts the 4 bytes of `v` at `at`.
-fn put_number(bytes: &mut [u8], at: usize, v: u32)
-    requires { ⌜ at + 4 ≤ length (now bytes) ⌝ }
-    ensures { λ _. ⌜ now (bytes .exit) ≡ sets (now (bytes .entry)) at (bytesOf v) ⌝ }
+// Puts `v` as number k of the file.
+fn put_number(bytes: &mut [u8], k: usize, v: u32)
+    requires { ⌜ 4 * k + 4 ≤ length (now bytes) ⌝ }
+    ensures { λ _. ⌜ now (bytes .exit) ≡ sets (now (bytes .entry)) (4 * k) (bytesOf v) ⌝ }
 {
+    let at = 4 * k;
     bytes[at] = (v % 256) as u8;
     bytes[at + 1] = (v / 256 % 256) as u8;
     bytes[at + 2] = (v / 65536 % 256) as u8;
     bytes[at + 3] = (v / 16777216 % 256) as u8;
 }
 
-// Puts the first `n` of the node counts at byte 4.
-fn put_counts(bytes: &mut [u8], n: usize, counts: [u32; 3])
-    requires { ⌜ (n ≤ 3) × (4 + 4 * n ≤ length (now bytes)) ⌝ }
-    ensures { λ _. ⌜ now (bytes .exit) ≡ sets (now (bytes .entry)) 4 (bytesOfAll (take n counts)) ⌝ }
+// Puts the first `count` of four numbers at the front.
+fn put_numbers(bytes: &mut [u8], count: usize, numbers: [u32; 4])
+    requires { ⌜ (count ≤ 4) × (4 * count ≤ length (now bytes)) ⌝ }
+    ensures { λ _. ⌜ now (bytes .exit) ≡ sets (now (bytes .entry)) 0 (bytesOfAll (take count numbers)) ⌝ }
 {
-    let mut a = 0;
-    while a < n {
-        put_number(bytes, 4 + 4 * a, counts[a]);
-        a += 1;
+    let mut i = 0;
+    while i < count {
+        put_number(bytes, i, numbers[i]);
+        i += 1;
     }
 }
 
-// Puts the samples at `start`.
+// Puts the samples from number `start` on.
 fn put_samples(bytes: &mut [u8], start: usize, samples: &[i32])
-    requires { ⌜ start + 4 * length (now samples) ≤ length (now bytes) ⌝ }
-    ensures { λ _. ⌜ now (bytes .exit) ≡ sets (now (bytes .entry)) start (bytesOfAll (map unsignedOf (now (samples .entry)))) ⌝ }
+    requires { ⌜ 4 * (start + length (now samples)) ≤ length (now bytes) ⌝ }
+    ensures { λ _. ⌜ now (bytes .exit) ≡ sets (now (bytes .entry)) (4 * start) (bytesOfAll (map unsignedOf (now (samples .entry)))) ⌝ }
 {
-    let mut at = start;
     let mut i = 0;
     while i < samples.len() {
         let x = samples[i];
-        put_number(bytes, at, arith::unsigned(x));
-        at += 4;
+        put_number(bytes, start + i, arith::unsigned(x));
         i += 1;
     }
 }
 
 // Puts the file of a table at the front of `bytes`, and gives its length.
 fn put_file(axes: u32, counts: [u32; 3], samples: &[i32], bytes: &mut [u8]) -> usize
-    requires { ⌜ (axes ≤ 3) × (length (now samples) ≤ 262144) × (4 * axes + 8 + 4 * length (now samples) ≤ length (now bytes)) ⌝ }
+    requires { ⌜ (axes ≤ 3) × (length (now samples) ≤ 262144) × (4 * (2 + axes + length (now samples)) ≤ length (now bytes)) ⌝ }
     ensures { λ r. ⌜ r ≡ length (fileOf (header axes counts) (now (samples .entry))) ⌝ }
     ensures { λ _. ⌜ now (bytes .exit) ≡ overwrite (fileOf (header axes counts) (now (samples .entry))) (now (bytes .entry)) ⌝ }
 {
     let n = axes as usize;
-    let start = 4 * n + 8;
     let nodes = samples.len();
-    put_number(bytes, 0, axes);
-    put_counts(bytes, n, counts);
-    put_number(bytes, 4 * n + 4, nodes as u32);
-    put_samples(bytes, start, samples);
-    start + 4 * nodes
+    put_numbers(bytes, 1 + n, [axes, counts[0], counts[1], counts[2]]);
+    put_number(bytes, 1 + n, nodes as u32);
+    put_samples(bytes, 2 + n, samples);
+    4 * (2 + n + nodes)
 }
 
 // 1, 3, 4, 9, 5.
 fn check_write(axes: u32, counts: [u32; 3], samples: &[i32], room: usize) -> Answer
     ensures { λ r. ⌜ meaning r ≡ writeCheck (header axes counts) (now (samples .entry)) room ⌝ }
 {
-    let shape = lattice::earlier(
-        lattice::check_axes(axes),
-        lattice::check_counts(axes, counts[0], counts[1], counts[2]),
-    );
-    match shape {
-        Answer::Refused(r) => Answer::Refused(r),
-        Answer::Done => {
-            // The number of nodes is the same for both degrees.
-            let nodes = lattice::node_count(Shape {
-                axes: axes,
-                degree: 3,
-                counts: counts,
-            });
-            let needed = 4 * (axes as usize) + 8 + 4 * nodes;
-            let counted = lattice::refuse_unless(samples.len() == nodes, 4, 0);
-            let short = lattice::refuse_unless(needed <= room, 9, 0);
-            let limit = lattice::check_limit(samples, SAMPLE_LIMIT);
-            lattice::earlier(counted, lattice::earlier(short, limit))
-        }
+    // Both degrees have the same nodes.
+    let s = Shape {
+        axes: axes,
+        degree: 3,
+        counts: counts,
+    };
+    let shape = lattice::check_shape(s);
+    if let Answer::Refused(_) = shape {
+        return shape;
     }
+    let nodes = lattice::node_count(s);
+    let needed = 4 * (2 + axes as usize + nodes);
+    let counted = lattice::refuse_unless(samples.len() == nodes, 4, 0);
+    let short = lattice::refuse_unless(needed <= room, 9, 0);
+    let limit = lattice::check_limit(samples, SAMPLE_LIMIT);
+    lattice::earlier(counted, lattice::earlier(short, limit))
 }
 
 // Writes a table file to the front of `bytes`.
@@ -337,8 +318,8 @@ pub fn write(axes: u32, counts: [u32; 3], samples: &[i32], bytes: &mut [u8]) -> 
     ensures { λ _. ⌜ now (bytes .exit) ≡ whenDone (writeOutcome (header axes counts) (now (samples .entry)) (length (now (bytes .entry)))) (overwrite (fileOf (header axes counts) (now (samples .entry))) (now (bytes .entry))) (now (bytes .entry)) ⌝ }
 {
     let allowed = check_write(axes, counts, samples, bytes.len());
-    match allowed {
-        Answer::Refused(r) => WriteAnswer::Refused(r),
-        Answer::Done => WriteAnswer::Written(put_file(axes, counts, samples, bytes)),
+    if let Answer::Refused(r) = allowed {
+        return WriteAnswer::Refused(r);
     }
+    WriteAnswer::Written(put_file(axes, counts, samples, bytes))
 }

@@ -1,49 +1,44 @@
 -- `fill` meets its contract. The invariant: the front of the slice holds the samples below i.
 use mathlib.Core.List.{List}
-use mir.Facts.{toZ-ofZ}
-use borrow.Author.Needs.{sfits-of}
-use Rattle.lattice.proofs.BufferLaws.{Filled, filled-none, filled-more, filled-length, filled-all}
-use Rattle.table_file.specs.Numbers.{numberAt, signedOf}
-use Rattle.table_file.specs.Parser.{samplesFrom}
-use mathlib.Core.Path.{_≡_, ap, subst, _∙_}
-use Prim.Native.Nat.{ℕ, _≤_, _+_, _-_, _*_}
+use mathlib.Core.Path.{_≡_, subst, _∙_}
+use Prim.Native.Nat.{ℕ, _≤_, _+_, _-_}
 use native.Mathlib.Omega.{arith}
 use lib.IntN.{ℤ, pos}
-use mir.Syntax.{w32}
-use mir.Val.{toZ, ofZ}
 use denote.Ref.{now}
+use Rattle.arith.proofs.Machine.{element}
+use Rattle.lattice.proofs.BufferLaws.{Filled, filled-none, filled-more, filled-length, filled-all}
+use Rattle.table_file.specs.Numbers.{signedOf}
+use Rattle.table_file.specs.File.{fileNumber}
+use Rattle.table_file.specs.Parser.{samplesFrom}
 use Rattle.table_file.proofs.fill.Statement.{statement}
 use Rattle.table_file.proofs.fill.Tie as tie
 
 abbrev sample : List ℕ → ℕ → ℕ → ℤ
-sample bytes start i = signedOf (numberAt bytes (start + 4 * i))
+sample bytes start i = signedOf (fileNumber bytes (start + i))
 
 abbrev Inv-loop : tie.InvT-loop
-Inv-loop bytes start count samples₀ at₀ i₀ samples at i =
-    (i ≤ count) × (at ≡ start + 4 * i) × Filled (sample bytes start) samples₀ i samples
+Inv-loop bytes start count samples₀ i₀ samples i = (i ≤ count) × Filled (sample bytes start) samples₀ i samples
 
 abbrev μ-loop : tie.MeasureT-loop
-μ-loop bytes start count samples₀ at₀ i₀ samples at i = count - i
-
-slice-set-from-x : tie.Need-slice-set-from-x Inv-loop μ-loop
-slice-set-from-x c =
-    let a = c .before .before .before .before .args in
-    let l = c .before .before .loop in
-    omega (arith, filled-length (sample (a .bytes .now) (a .start)) (a .samples .now) (l .i) (l .samples) (omega arith) (l .inv .2))
+μ-loop bytes start count samples₀ i₀ samples i = count - i
 
 loop-again : tie.Need-loop-again Inv-loop μ-loop
 loop-again c =
     let a = c .before .before .before .before .args in
     let l = c .before .before .loop in
-    let x : toZ w32 (ofZ w32 (c .sample-at .result)) ≡ sample (a .bytes .now) (a .start) (l .i)
-    = toZ-ofZ {w = w32} (sfits-of (c .sample-at .ok)) ∙ c .sample-at .ensures ∙ ap (λ (k : ℕ). signedOf (numberAt (a .bytes .now) k)) (l .inv .1) in
-    (omega arith, omega arith, filled-more (sample (a .bytes .now) (a .start)) (a .samples .now) (l .i) (l .samples) _ (pos 0) (omega arith) (l .inv .2) x)
+    (omega arith, filled-more (sample (a .bytes .now) (a .start)) (a .samples .now) (l .i) (l .samples) _ (pos 0) (omega arith) (l .inv .1) (element _ (c .sample-at .ok) ∙ c .sample-at .ensures))
 
 same-length : tie.Need-same-length Inv-loop μ-loop
 same-length c =
     let a = c .before .before .before .args in
     let l = c .before .loop in
-    filled-length (sample (a .bytes .now) (a .start)) (a .samples .now) (l .i) (l .samples) (omega arith) (l .inv .2)
+    filled-length (sample (a .bytes .now) (a .start)) (a .samples .now) (l .i) (l .samples) (omega arith) (l .inv .1)
+
+slice-set-from-x : tie.Need-slice-set-from-x Inv-loop μ-loop
+slice-set-from-x c =
+    let a = c .before .before .before .before .args in
+    let l = c .before .before .loop in
+    omega (arith, filled-length (sample (a .bytes .now) (a .start)) (a .samples .now) (l .i) (l .samples) (omega arith) (l .inv .1))
 
 returns : tie.Need-returns Inv-loop μ-loop
 unfolding samplesFrom
@@ -52,7 +47,7 @@ returns c =
     let l = c .before .loop in
     let e : l .i ≡ a .count = omega arith in
     filled-all (sample (a .bytes .now) (a .start)) (a .samples .now) (a .count) (l .samples)
-    (subst (λ (k : ℕ). Filled (sample (a .bytes .now) (a .start)) (a .samples .now) k (l .samples)) e (l .inv .2))
+    (subst (λ (k : ℕ). Filled (sample (a .bytes .now) (a .start)) (a .samples .now) k (l .samples)) e (l .inv .1))
 
 pub fill-spec : {M : Type 1} → statement M
 fill-spec =
@@ -60,11 +55,11 @@ fill-spec =
     (tie.spec
     Inv-loop
     μ-loop
-    (λ c. (omega arith, omega arith, filled-none _ _))
+    (λ c. (omega arith, filled-none _ _))
+    (λ c. omega arith)
     (λ c κs. omega arith)
     (λ c. omega arith)
     slice-set-from-x
-    (λ c. omega arith)
     (λ c. omega arith)
     (λ c. omega arith)
     loop-again

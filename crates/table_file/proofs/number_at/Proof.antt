@@ -21,12 +21,13 @@ returns c =
     let w₁ = w₂ .before .before in
     let w₀ = w₁ .before .before in
     let a = w₀ .before .before .before .args in
-    made (a .bytes .now) (a .at) (w₀ .wide .ensures .0) (w₁ .wide2 .ensures .0) (w₂ .wide3 .ensures .0) (c .wide4 .ensures .0)
+    made (a .bytes .now) (4 * a .k) (w₀ .wide .ensures .0) (w₁ .wide2 .ensures .0) (w₂ .wide3 .ensures .0) (c .wide4 .ensures .0)
 
 pub number-at-spec : {M : Type 1} → statement M
 number-at-spec =
     tie.close
     (tie.spec
+    (λ c. search needs)
     (λ c. search needs)
     (λ c κs. search needs)
     (λ c. search needs)

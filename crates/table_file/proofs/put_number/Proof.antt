@@ -1,5 +1,6 @@
 -- `put_number` meets its contract: four stores are the bytes of a number.
 use Rattle.table_file.proofs.NumberLaws.{stores-are}
+use Prim.Native.Nat.{_*_}
 use native.Mathlib.Omega.{arith}
 use lib.ListN.{length-set}
 use denote.Ref.{now}
@@ -15,12 +16,13 @@ put-number-spec =
     (λ c. search needs)
     (λ c. search needs)
     (λ c. search needs)
-    (λ c. simp length-set (omega arith))
-    (λ c. search needs)
     (λ c. search needs)
     (λ c. simp length-set (omega arith))
     (λ c. search needs)
     (λ c. search needs)
     (λ c. simp length-set (omega arith))
     (λ c. search needs)
-    (λ c. stores-are (c .args .bytes .now) (c .args .at) (c .args .v)))
+    (λ c. search needs)
+    (λ c. simp length-set (omega arith))
+    (λ c. search needs)
+    (λ c. stores-are (c .args .bytes .now) (4 * c .args .k) (c .args .v)))

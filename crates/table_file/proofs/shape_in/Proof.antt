@@ -1,0 +1,23 @@
+-- `shape_in` meets its contract: n and the three node counts.
+use mathlib.Core.Path.{_≡_, refl}
+use native.Mathlib.Omega.{arith}
+use denote.Ref.{now}
+use Rattle.lattice.specs.Buffer.{tabulate}
+use Rattle.table_file.proofs.ReadLaws.{one-sizes}
+use borrow.Author.Needs.{needs}
+use Rattle.table_file.proofs.shape_in.Statement.{statement}
+use Rattle.table_file.proofs.shape_in.Tie as tie
+
+returns : tie.Need-returns
+unfolding tabulate
+returns c = cc
+
+pub shape-in-spec : {M : Type 1} → statement M
+shape-in-spec =
+    tie.close
+    (tie.spec
+    (λ c κs. omega (arith, one-sizes _ (c .before .pre) _ refl .2))
+    (λ c κs. one-sizes _ (c .before .before .pre) _ (c .number-at .ensures))
+    (λ c κs. one-sizes _ (c .before .before .before .pre) _ (c .before .number-at .ensures))
+    (λ c κs. one-sizes _ (c .before .before .before .before .pre) _ (c .before .before .number-at .ensures))
+    returns)
