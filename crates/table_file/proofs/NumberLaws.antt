@@ -16,9 +16,9 @@ use Rattle.table_file.specs.Numbers.{numberAt, bytesOf, bytesOfAll}
 -- ---- one number
 
 pub number-is : (bytes : List ℕ) (at : ℕ)
-    → numberAt bytes at ≡ getD bytes at 0 + 256 * getD bytes (at + 1) 0 + 65536 * getD bytes (at + 2) 0 + 16777216 * getD bytes (at + 3) 0
+    → numberAt bytes at ≡ getD bytes at 0 + 256 * getD bytes (at + 1) 0 + 65536 * (getD bytes (at + 2) 0 + 256 * getD bytes (at + 2 + 1) 0)
 unfolding numberAt number
-number-is bytes at = rw (add-zero at) (omega arith)
+number-is bytes at = let e : at + 3 ≡ at + 2 + 1 = omega arith in rw (add-zero at, e) (omega arith)
 
 pub bytes-are : (v : ℕ) → bytesOf v ≡ v % 256 ∷ v / 256 % 256 ∷ v / 65536 % 256 ∷ v / 16777216 % 256 ∷ []
 unfolding bytesOf tabulate digit
@@ -45,12 +45,10 @@ unfolding numberAt bytesOf number tabulate span
 number-first v rest h = number-digit 4 (λ b. 256) v h
 
 pub number-later : (xs ys : List ℕ) (at : ℕ) → numberAt (xs ++ ys) (length xs + at) ≡ numberAt ys at
-number-later xs ys at =
-    number-is (xs ++ ys) (length xs + at)
-    ∙ omega (arith, getD-append-add xs ys at 0, later 1, later 2, later 3, number-is ys at)
-  where
-    later : (b : ℕ) → getD (xs ++ ys) (length xs + at + b) 0 ≡ getD ys (at + b) 0
-    later b = let e : length xs + at + b ≡ length xs + (at + b) = omega arith in ap (λ (k : ℕ). getD (xs ++ ys) k 0) e ∙ getD-append-add xs ys (at + b) 0
+unfolding numberAt
+number-later xs ys at = ap (number 4 (λ b. 256)) (fun-ext (λ b.
+    let e : length xs + at + b ≡ length xs + (at + b) = omega arith in
+    ap (λ (k : ℕ). getD (xs ++ ys) k 0) e ∙ getD-append-add xs ys (at + b) 0))
 
 -- ---- several numbers
 
@@ -87,7 +85,7 @@ number-of-all (v ∷ vs) h (suc k) =
 
 module _ (bytes : List ℕ) (small : (i : ℕ) → getD bytes i 0 < 256) where
   pub number-below : (at : ℕ) → numberAt bytes at < 4294967296
-  number-below at = omega (arith, number-is bytes at, small at, small (at + 1), small (at + 2), small (at + 3))
+  number-below at = omega (arith, number-is bytes at, small at, small (at + 1), small (at + 2), small (at + 2 + 1))
 
   -- the 4 bytes at a place are those of the number there
   module _ (at : ℕ) (h : at + 4 ≤ length bytes) where

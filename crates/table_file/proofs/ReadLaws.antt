@@ -82,6 +82,11 @@ module _ (bytes : List ℕ) where
       ∙ passes (countAllowed n (countIn bytes a) a) 3 a (counts-each n (countIn bytes) f a (omega (arith, r .1))))
 
   -- the shape that it gives
+  pub shape-is : {n x y z : ℕ} → n ≡ axesIn bytes → x ≡ countIn bytes 0 → y ≡ countIn bytes 1 → z ≡ countIn bytes 2
+      → record { axes = n; degree = 3; counts = x ∷ y ∷ z ∷ [] } ≡ shapeIn bytes
+  unfolding tabulate
+  shape-is e f g h = rw (e, f, g, h) refl
+
   pub shaped-in : oneOutcome bytes ≡ done tt → Shaped (shapeIn bytes)
   unfolding countsOutcome firstOf tabulate countOf
   shaped-in h = let f = one-facts h in shaped-of (axesIn bytes) (tabulate 3 (countIn bytes)) (f .0) (f .1)

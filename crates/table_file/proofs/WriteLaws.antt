@@ -1,7 +1,7 @@
 -- Numbers written one after the other are the file; what writing tests.
 use mathlib.Core.Path.{_≡_, refl, sym, ap, _∙_}
-use mathlib.Core.List.{List, [], _∷_, _++_, map, append-assoc}
-use Prim.Native.Nat.{ℕ, suc, _+_, _*_, _≤_, _<_}
+use mathlib.Core.List.{List, [], _∷_, _++_, map}
+use Prim.Native.Nat.{ℕ, _+_, _*_, _≤_, _<_}
 use native.Mathlib.Numerals.{add-one}
 use native.Mathlib.Omega.{arith}
 use borrow.Author.Tests.{eqb-true, leb-true, le-leb, eq-eqb}
@@ -10,7 +10,7 @@ use lib.IntN.{ℤ, pos}
 use lib.ListN.{length, getD, take, length-append, length-map, List·getD-map}
 use lib.Seq.{sets, take-suc, length-take-le}
 use Rattle.lattice.specs.Outcome.{Outcome, done, refused, refuseUnless, first, whenDone}
-use Rattle.lattice.specs.Buffer.{at, tabulate, overwrite}
+use Rattle.lattice.specs.Buffer.{at, overwrite}
 use Rattle.lattice.specs.Shape.{count, nodes, axesOutcome, degreeOutcome, countsOutcome, shapeOutcome, Shaped}
 use Rattle.lattice.specs.declared.Shape.{Shape}
 use Rattle.lattice.specs.Records.{sampleLimit, limitOutcome}
@@ -18,7 +18,7 @@ use Rattle.lattice.proofs.OutcomeLaws.{first-done, first-passed, first-after, f
 use Rattle.arith.specs.Int.{unsignedOf}
 use Rattle.table_file.specs.Numbers.{bytesOf, bytesOfAll}
 use Rattle.table_file.specs.File.{Header, header, sectionOne, sectionTwo, fileOf, countOf, nodesOf, writeCheck, writeOutcome, Permitted}
-use Rattle.lattice.proofs.BufferLaws.{tabulate-getD, sets-append, sets-front}
+use Rattle.lattice.proofs.BufferLaws.{sets-append, sets-front}
 use Rattle.lattice.proofs.ShapeLaws.{shaped, nodes-high}
 use Rattle.table_file.proofs.NumberLaws.{length-all, all-append, all-one}
 
@@ -43,18 +43,16 @@ sets-all vs ws l at =
     ∙ sym (sets-append (bytesOfAll vs) (bytesOfAll ws) l at)
     ∙ ap (λ (m : List ℕ). sets l at m) (sym (all-append vs ws))
 
-sets-one : (l : List ℕ) (at v : ℕ) → sets l at (bytesOf v) ≡ sets l at (bytesOfAll (v ∷ []))
-sets-one l at v = ap (λ (m : List ℕ). sets l at m) (sym (all-one v))
+-- one number, then others after it
+pub put-first : (v : ℕ) (vs l : List ℕ) (at k : ℕ) {m now : List ℕ} → k ≡ at + 4 → m ≡ sets l at (bytesOf v) → now ≡ sets m k (bytesOfAll vs) → now ≡ sets l at (bytesOfAll (v ∷ vs))
+put-first v vs l at k e p q = rw (q, p, e, ← all-one v) (sets-all (v ∷ []) vs l at)
 
 -- one number more of a list
-pub put-next : (vs l : List ℕ) (at i k : ℕ) → i < length vs → k ≡ at + 4 * i
-    → sets (sets l at (bytesOfAll (take i vs))) k (bytesOf (getD vs i 0)) ≡ sets l at (bytesOfAll (take (i + 1) vs))
-put-next vs l at i k h e =
-    let f : k ≡ at + 4 * length (take i vs) = e ∙ ap (λ (j : ℕ). at + 4 * j) (sym (length-take-le i vs (omega arith))) in
-    sets-one (sets l at (bytesOfAll (take i vs))) k (getD vs i 0)
-    ∙ ap (λ (j : ℕ). sets (sets l at (bytesOfAll (take i vs))) j (bytesOfAll (getD vs i 0 ∷ []))) f
-    ∙ sets-all (take i vs) (getD vs i 0 ∷ []) l at
-    ∙ ap (λ (m : List ℕ). sets l at (bytesOfAll m)) (sym (take-suc vs i 0 h) ∙ ap (λ (j : ℕ). take j vs) (sym (add-one i)))
+pub put-next : (vs l : List ℕ) (at i k v : ℕ) {m now : List ℕ} → i < length vs → k ≡ at + 4 * i → v ≡ getD vs i 0
+    → m ≡ sets l at (bytesOfAll (take i vs)) → now ≡ sets m k (bytesOf v) → now ≡ sets l at (bytesOfAll (take (i + 1) vs))
+put-next vs l at i k v h e f p q =
+    let g : k ≡ at + 4 * length (take i vs) = omega (arith, length-take-le i vs (omega arith)) in
+    rw (q, p, f, g, ← all-one (getD vs i 0), add-one i, take-suc vs i 0 h) (sets-all (take i vs) (getD vs i 0 ∷ []) l at)
 
 -- sample i as a number
 pub sample-number : (xs : List ℤ) (i : ℕ) → getD (map unsignedOf xs) i 0 ≡ unsignedOf (at xs i)
@@ -73,20 +71,13 @@ module _ (n : ℕ) (cs : List ℕ) (xs : List ℤ) (few : n ≤ length cs) where
       length-all ((n ∷ take n cs) ++ (length xs ∷ us))
       ∙ omega (arith, length-append (take n cs) (length xs ∷ us), length-take-le n cs few, length-map xs unsignedOf)
 
-  -- section one, the number of samples and the samples, each after what is before it
-  pub file-put : (l m₁ m₂ m₃ : List ℕ) → length cs ≡ 3 → 4 * (2 + n + length xs) ≤ length l
-      → m₁ ≡ sets l 0 (bytesOfAll (take (1 + n) (n ∷ getD cs 0 0 ∷ getD cs 1 0 ∷ getD cs 2 0 ∷ []))) → m₂ ≡ sets m₁ (4 * (1 + n)) (bytesOf (length xs)) → m₃ ≡ sets m₂ (4 * (2 + n)) (bytesOfAll us)
-      → m₃ ≡ overwrite (fileOf (header n cs) xs) l
-  unfolding fileOf sectionOne sectionTwo tabulate
-  file-put l m₁ m₂ m₃ three h e₁ e₂ e₃ =
-      let one : List ℕ = n ∷ take n cs in
-      let d : 1 + n ≡ suc n = omega arith in
-      let e : 4 * (1 + n) ≡ 0 + 4 * length one = omega (arith, length-take-le n cs few) in
-      let f : 4 * (2 + n) ≡ 0 + 4 * length one + 4 * length (length xs ∷ []) = omega (arith, length-take-le n cs few) in
-      rw (e₃, e₂, e₁, tabulate-getD cs 3 0 three, sets-one, f, e, d)
-      (sets-all (length xs ∷ []) us (sets l 0 (bytesOfAll one)) (0 + 4 * length one)
-      ∙ sets-all one (length xs ∷ us) l 0
-      ∙ sets-front (fileOf (header n cs) xs) l (omega (arith, length-file)))
+  -- section two after section one
+  pub file-put : (l : List ℕ) {m₁ m₂ : List ℕ} → 4 * (2 + n + length xs) ≤ length l → m₁ ≡ sets l 0 (bytesOfAll (sectionOne (header n cs)))
+      → m₂ ≡ sets m₁ (4 * (1 + n)) (bytesOfAll (sectionTwo xs)) → m₂ ≡ overwrite (fileOf (header n cs) xs) l
+  unfolding fileOf sectionOne
+  file-put l h e f =
+      let k : 4 * (1 + n) ≡ 0 + 4 * length (n ∷ take n cs) = omega (arith, length-take-le n cs few) in
+      rw (f, e, k) (sets-all (n ∷ take n cs) (sectionTwo xs) l 0 ∙ sets-front (fileOf (header n cs) xs) l (omega (arith, length-file)))
 
 -- ---- the tests
 

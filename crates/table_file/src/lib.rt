@@ -1,16 +1,14 @@
 // The table file: reading it into a slice of samples, and writing it into a slice of bytes.
 ghost use mathlib.Core.Path.{_≡_};
 ghost use Prim.Native.Nat.{_+_, _*_, _≤_, _<_};
-ghost use mathlib.Core.List.{map};
-ghost use lib.ListN.{length, take};
+ghost use lib.ListN.{length, getD};
 ghost use lib.Seq.{sets};
-ghost use Rattle.arith.specs.Int.{unsignedOf};
 ghost use Rattle.lattice.specs.Outcome.{done, firstOf, whenDone};
 ghost use Rattle.lattice.specs.Answer.{meaning};
 ghost use Rattle.lattice.specs.Buffer.{overwrite};
 ghost use Rattle.lattice.specs.Records.{sampleLimit, limitOutcome};
 ghost use Rattle.table_file.specs.Numbers.{bytesOf, bytesOfAll, signedOf};
-ghost use Rattle.table_file.specs.File.{header, fileOf, fileNumber, complete, axesIn, countIn, samplesIn, countOutcome, oneOutcome, twoOutcome, readOutcome, writeCheck, writeOutcome};
+ghost use Rattle.table_file.specs.File.{header, sectionOne, sectionTwo, fileOf, fileNumber, complete, axesIn, countIn, samplesIn, countOutcome, oneOutcome, twoOutcome, readOutcome, writeCheck, writeOutcome};
 ghost use Rattle.table_file.specs.Answers.{tableMeaning, writeMeaning};
 ghost use Rattle.table_file.specs.Parser.{samplesFrom, shapeIn, restOutcome, AfterOne};
 use lattice::Answer;
@@ -31,10 +29,13 @@ pub enum WriteAnswer {
 
 const SAMPLE_LIMIT: u64 = 32768;
 
-fn wide(b: u8) -> u32
-    ensures { λ r. ⌜ (r ≡ b) × (r < 256) ⌝ }
+// The number that two bytes at `at` make.
+fn pair_at(bytes: &[u8], at: usize) -> u32
+    requires { ⌜ at + 2 ≤ length (now bytes) ⌝ }
+    ensures { λ r. ⌜ (r ≡ getD (now (bytes .entry)) at 0 + 256 * getD (now (bytes .entry)) (at + 1) 0) × (r < 65536) ⌝ }
 {
-    b as u32
+    let next = at + 1;
+    bytes[at] as u32 + 256 * (bytes[next] as u32)
 }
 
 // Number k of the file.
@@ -42,12 +43,9 @@ fn number_at(bytes: &[u8], k: usize) -> u32
     requires { ⌜ 4 * k + 4 ≤ length (now bytes) ⌝ }
     ensures { λ r. ⌜ r ≡ fileNumber (now (bytes .entry)) k ⌝ }
 {
-    let at = 4 * k;
-    let a = wide(bytes[at]);
-    let b = wide(bytes[at + 1]);
-    let c = wide(bytes[at + 2]);
-    let d = wide(bytes[at + 3]);
-    a + 256 * b + 65536 * c + 16777216 * d
+    let low = 4 * k;
+    let high = low + 2;
+    pair_at(bytes, low) + 65536 * pair_at(bytes, high)
 }
 
 // A number in two's complement.
@@ -251,27 +249,30 @@ fn put_number(bytes: &mut [u8], k: usize, v: u32)
     bytes[at + 3] = (v / 16777216 % 256) as u8;
 }
 
-// Puts the first `count` of four numbers at the front.
-fn put_numbers(bytes: &mut [u8], count: usize, numbers: [u32; 4])
-    requires { ⌜ (count ≤ 4) × (4 * count ≤ length (now bytes)) ⌝ }
-    ensures { λ _. ⌜ now (bytes .exit) ≡ sets (now (bytes .entry)) 0 (bytesOfAll (take count numbers)) ⌝ }
+// Puts section one.
+fn put_one(bytes: &mut [u8], axes: u32, counts: [u32; 3])
+    requires { ⌜ (axes ≤ 3) × (4 * axes + 4 ≤ length (now bytes)) ⌝ }
+    ensures { λ _. ⌜ now (bytes .exit) ≡ sets (now (bytes .entry)) 0 (bytesOfAll (sectionOne (header axes counts))) ⌝ }
 {
-    let mut i = 0;
-    while i < count {
-        put_number(bytes, i, numbers[i]);
-        i += 1;
+    put_number(bytes, 0, axes);
+    let n = axes as usize;
+    let mut a = 0;
+    while a < n {
+        put_number(bytes, 1 + a, counts[a]);
+        a += 1;
     }
 }
 
-// Puts the samples from number `start` on.
-fn put_samples(bytes: &mut [u8], start: usize, samples: &[i32])
-    requires { ⌜ 4 * (start + length (now samples)) ≤ length (now bytes) ⌝ }
-    ensures { λ _. ⌜ now (bytes .exit) ≡ sets (now (bytes .entry)) (4 * start) (bytesOfAll (map unsignedOf (now (samples .entry)))) ⌝ }
+// Puts section two from number `start` on.
+fn put_two(bytes: &mut [u8], start: usize, samples: &[i32])
+    requires { ⌜ (length (now samples) ≤ 262144) × (4 * (1 + start + length (now samples)) ≤ length (now bytes)) ⌝ }
+    ensures { λ _. ⌜ now (bytes .exit) ≡ sets (now (bytes .entry)) (4 * start) (bytesOfAll (sectionTwo (now (samples .entry)))) ⌝ }
 {
+    put_number(bytes, start, samples.len() as u32);
     let mut i = 0;
     while i < samples.len() {
         let x = samples[i];
-        put_number(bytes, start + i, arith::unsigned(x));
+        put_number(bytes, 1 + start + i, arith::unsigned(x));
         i += 1;
     }
 }
@@ -282,12 +283,10 @@ fn put_file(axes: u32, counts: [u32; 3], samples: &[i32], bytes: &mut [u8]) -> u
     ensures { λ r. ⌜ r ≡ length (fileOf (header axes counts) (now (samples .entry))) ⌝ }
     ensures { λ _. ⌜ now (bytes .exit) ≡ overwrite (fileOf (header axes counts) (now (samples .entry))) (now (bytes .entry)) ⌝ }
 {
-    let n = axes as usize;
-    let nodes = samples.len();
-    put_numbers(bytes, 1 + n, [axes, counts[0], counts[1], counts[2]]);
-    put_number(bytes, 1 + n, nodes as u32);
-    put_samples(bytes, 2 + n, samples);
-    4 * (2 + n + nodes)
+    let start = 1 + axes as usize;
+    put_one(bytes, axes, counts);
+    put_two(bytes, start, samples);
+    4 * (1 + start + samples.len())
 }
 
 // 1, 3, 4, 9, 5.

@@ -3,7 +3,7 @@ use mathlib.Core.Path.{_≡_, sym, ap, _∙_}
 use native.Mathlib.Omega.{arith}
 use denote.Ref.{now}
 use Rattle.lattice.specs.Answer.{meaning}
-use Rattle.lattice.specs.Outcome.{done, first}
+use Rattle.lattice.specs.Outcome.{done}
 use Rattle.lattice.proofs.OutcomeLaws.{first-passed, refused-first}
 use Rattle.table_file.specs.File.{twoOutcome}
 use Rattle.table_file.proofs.ReadLaws.{rest-is, samples-held}

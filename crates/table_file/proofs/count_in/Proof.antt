@@ -1,7 +1,6 @@
 -- `count_in` meets its contract: the number of a used axis, 1 on an unused one.
 use mathlib.Core.Path.{sym, _∙_}
 use native.Mathlib.Omega.{arith}
-use denote.Ref.{now}
 use Rattle.table_file.proofs.ReadLaws.{count-read, count-absent}
 use borrow.Author.Needs.{needs}
 use Rattle.table_file.proofs.count_in.Statement.{statement}

@@ -1,16 +1,12 @@
 -- `shape_in` meets its contract: n and the three node counts.
-use mathlib.Core.Path.{_≡_, refl}
+use mathlib.Core.Path.{refl}
 use native.Mathlib.Omega.{arith}
-use denote.Ref.{now}
-use Rattle.lattice.specs.Buffer.{tabulate}
-use Rattle.table_file.proofs.ReadLaws.{one-sizes}
-use borrow.Author.Needs.{needs}
+use Rattle.table_file.proofs.ReadLaws.{one-sizes, shape-is}
 use Rattle.table_file.proofs.shape_in.Statement.{statement}
 use Rattle.table_file.proofs.shape_in.Tie as tie
 
 returns : tie.Need-returns
-unfolding tabulate
-returns c = cc
+returns c = shape-is _ (c .before .before .before .number-at .ensures) (c .before .before .count-in .ensures) (c .before .count-in2 .ensures) (c .count-in3 .ensures)
 
 pub shape-in-spec : {M : Type 1} → statement M
 shape-in-spec =
