@@ -1,5 +1,5 @@
 -- The text by what reading the input gives, and the table that a read input holds.
-use mathlib.Core.Path.{_≡_, refl, sym, ap, subst, _∙_}
+use mathlib.Core.Path.{_≡_, sym, ap, subst, _∙_}
 use mathlib.Core.List.{List}
 use Prim.Native.Nat.{ℕ, _≤_, _<_}
 use native.Mathlib.Nat.{le-trans, le-of-eq}
@@ -8,14 +8,13 @@ use lib.Dec.{leb}
 use lib.IntN.{ℤ}
 use lib.ListN.{length, take, drop}
 use lib.Seq.{take-at}
-use Rattle.lattice.specs.Outcome.{Outcome, done, refused, refuseUnless, first, firstOf, whenDone}
-use Rattle.lattice.specs.Buffer.{tabulate, overwrite}
-use Rattle.lattice.specs.Digits.{span}
-use Rattle.lattice.specs.Shape.{nodes, countsOutcome, Shaped}
+use Rattle.lattice.specs.Outcome.{Outcome, done, refused, refuseUnless, first, whenDone}
+use Rattle.lattice.specs.Buffer.{overwrite}
+use Rattle.lattice.specs.Shape.{nodes, Shaped}
 use Rattle.lattice.proofs.OutcomeLaws.{first-passed, passes, when-done}
-use Rattle.lattice.proofs.BufferLaws.{length-tabulate}
-use Rattle.table_file.specs.File.{Header, headerIn, nodesIn, samplesIn, countOf, nodesOf, readOutcome, Permitted}
-use Rattle.table_file.proofs.TakenLaws.{Taken, taken}
+use Rattle.table_file.specs.File.{Header, samplesIn, readOutcome}
+use Rattle.table_file.proofs.ReadLaws.{samples-length}
+use Rattle.table_file.proofs.TakenLaws.{taken, permitted}
 use Rattle.text.specs.Lines.{refusedLine}
 use Rattle.report.specs.Report.{heldNodes, heldBytes, shapeOf, cellLines, inputOutcome, textOf, reportText}
 use Rattle.report.specs.Parts.{Held}
@@ -40,18 +39,10 @@ module _ (input : List ℕ) where
     unfolding reportText textOf
     read-done l = ap (λ (o : Outcome Header). textOf o (samplesIn input)) (outcome l ∙ e)
 
-    samples-length : length (samplesIn input) ≡ nodesIn input
-    unfolding samplesIn
-    samples-length = length-tabulate (nodesIn input) _
-
-    permitted : Taken input heldNodes → Permitted (headerIn input) (samplesIn input)
-    unfolding headerIn countsOutcome firstOf countOf nodesIn nodesOf span tabulate
-    permitted t = record { three = refl; axes-ok = t .axes-ok; counts-ok = t .counts-ok; counted = samples-length; limited = t .limited }
-
     pub held : Held h (samplesIn input)
     held =
         let f = taken input heldNodes h e in
-        subst (λ (g : Header). Held g (samplesIn input)) (f .1) (record { permitted = permitted (f .0); few = le-trans (le-of-eq samples-length) (f .0 .roomy) })
+        subst (λ (g : Header). Held g (samplesIn input)) (f .1) (record { permitted = permitted input heldNodes (f .0); few = le-trans (le-of-eq (samples-length input)) (f .0 .roomy) })
 
     pub shape : Shaped (shapeOf h 3)
     shape = cubic-shaped h (samplesIn input) held

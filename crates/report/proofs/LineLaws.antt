@@ -2,17 +2,15 @@
 use mathlib.Core.Path.{_≡_, refl, sym, ap, _∙_}
 use mathlib.Core.List.{List, _++_}
 use Prim.Native.Nat.{ℕ, zero, suc, _+_, _^_, _≤_, _<_}
-use native.Mathlib.Nat.{zero-add}
 use native.Mathlib.Numerals.{add-one}
 use native.Mathlib.Omega.{arith}
 use lib.Dec.{lit<}
 use lib.IntN.{ℤ, natAbs}
 use lib.ListN.{length, getD}
-use lib.Seq.{sets}
 use Rattle.text.specs.Decimal.{decimal, signedDecimal}
-use Rattle.text.specs.Lines.{cellLine, refusedLine}
+use Rattle.text.specs.Lines.{Put, cellLine, refusedLine}
 use Rattle.text.proofs.DecimalLaws.{decimal-short, signed-short}
-use Rattle.text.proofs.LineLaws.{Put, put-then, cell-length, length-word, refused-length}
+use Rattle.text.proofs.LineLaws.{put-as, put-then, indices-length, cell-length, length-word, refused-length}
 use Rattle.report.specs.Report.{joined}
 use Rattle.report.specs.Parts.{Between, lineLimit}
 
@@ -24,6 +22,7 @@ line-short cell a b k h g =
     omega (
       arith,
       cell-length cell a b,
+      indices-length cell,
       length-word (decimal (getD cell 0 0)) 32,
       length-word (decimal (getD cell 1 0)) 32,
       length-word (decimal (getD cell 2 0)) 32,
@@ -43,24 +42,16 @@ refused-low number h = omega (arith, refused-length number, length-word (decimal
 -- ---- one line more
 
 module _ (f : ℕ → List ℕ) where
-  pub joined-more : (i : ℕ) → joined (i + 1) f ≡ joined i f ++ f i
+  joined-more : (i : ℕ) → joined (i + 1) f ≡ joined i f ++ f i
   unfolding joined
   joined-more i = ap (λ (k : ℕ). joined k f) (add-one i)
 
-  -- n lines stand at the front
-  abbrev pub Lines : ℕ → List ℕ → List ℕ → ℕ → Type 0
-  Lines n old now at = (at ≡ length (joined n f)) × (now ≡ sets old 0 (joined n f))
-
-  pub lines-none : (old : List ℕ) → Lines 0 old old 0
+  pub lines-none : (old : List ℕ) → Put old 0 (joined 0 f) old 0
   unfolding joined
-  lines-none old = (refl, refl)
+  lines-none old = record { ended = refl; written = refl }
 
-  pub lines-more : (i at end : ℕ) (old now next : List ℕ) → Lines i old now at → end ≡ at + length (f i) → next ≡ sets now at (f i) → Lines (i + 1) old next end
-  lines-more i at end old now next k e w =
-      let p : Put old 0 (joined i f) now at = record { ended = k .0 ∙ sym (zero-add (length (joined i f))); written = k .1 } in
-      let q : Put now at (f i) next end = record { ended = e; written = w } in
-      let r = put-then p q in
-      (r .ended ∙ zero-add (length (joined i f ++ f i)) ∙ ap length (sym (joined-more i)), r .written ∙ ap (sets old 0) (sym (joined-more i)))
+  pub lines-more : (i : ℕ) {at end : ℕ} {old now next : List ℕ} → Put old 0 (joined i f) now at → Put now at (f i) next end → Put old 0 (joined (i + 1) f) next end
+  lines-more i p q = put-as (sym (joined-more i)) (put-then p q)
 
 pub joined-same : (n : ℕ) (f g : ℕ → List ℕ) → ((i : ℕ) → f i ≡ g i) → joined n f ≡ joined n g
 unfolding joined

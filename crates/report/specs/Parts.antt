@@ -13,7 +13,7 @@ use Rattle.cell.specs.Cell.{placeAt, Accepted, cornersOutcome}
 use Rattle.evaluate.specs.Evaluate.{dose, askAt, answer}
 use Rattle.table_file.specs.File.{Header, Permitted}
 use Rattle.text.specs.Lines.{cellLine}
-use Rattle.report.specs.Report.{middle, shapeOf, heldNodes}
+use Rattle.report.specs.Report.{middle, shapeOf, heldNodes, joined, cellCount, cellAt}
 
 -- three indices or counts
 pub record Between (low high : ℕ) (xs : List ℕ) : Type 0 where
@@ -32,6 +32,9 @@ doseFrom s rs cell = answer (askAt s dose (placeAt cell) (middle (s .axes))) (re
 
 unfoldable pub lineFrom : Header → List ℤ → List ℤ → List ℕ → List ℕ
 lineFrom h cubic quintic cell = cellLine cell (doseFrom (shapeOf h 3) cubic cell) (doseFrom (shapeOf h 5) quintic cell)
+
+abbrev pub linesFrom : Header → List ℤ → List ℤ → List ℕ
+linesFrom h cubic quintic = joined (cellCount h) (λ i. lineFrom h cubic quintic (cellAt h i))
 
 -- the longest line: three indices of two digits, two numbers of ten digits and a sign
 abbrev pub lineLimit : ℕ

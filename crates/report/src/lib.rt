@@ -1,9 +1,8 @@
 // The program's text: the dose at the middle of each cell of a table file, cubic and quintic.
 ghost use mathlib.Core.Path.{_≡_};
-ghost use Prim.Native.Nat.{_+_, _-_, _*_, _<_, _≤_};
+ghost use Prim.Native.Nat.{_+_, _*_, _<_, _≤_};
 ghost use lib.Dec.{ltb};
 ghost use lib.ListN.{length, getD, take};
-ghost use lib.Seq.{sets};
 ghost use Rattle.arith.specs.Choice.{pick};
 ghost use Rattle.lattice.specs.Buffer.{tabulate, overwrite};
 ghost use Rattle.lattice.specs.Digits.{digit};
@@ -11,19 +10,20 @@ ghost use Rattle.lattice.specs.Outcome.{done};
 ghost use Rattle.estimate.specs.Estimate.{recordsOf, estimateOutcome};
 ghost use Rattle.cell.specs.Cell.{placeAt, Accepted};
 ghost use Rattle.table_file.specs.File.{header};
-ghost use Rattle.report.specs.Report.{heldNodes, cellsAlong, cellCount, cellAt, middle, shapeOf, joined, cellLines, reportText};
-ghost use Rattle.report.specs.Parts.{Between, Answers, Held, doseFrom, lineFrom, lineLimit};
+ghost use Rattle.text.specs.Lines.{Put};
+ghost use Rattle.report.specs.Report.{heldNodes, cellsAlong, cellCount, middle, shapeOf, cellLines, reportText};
+ghost use Rattle.report.specs.Parts.{Between, Answers, Held, doseFrom, lineFrom, linesFrom, lineLimit};
 use evaluate::SlopeAxis;
 use lattice::Shape;
 use query::CellQuery;
 use query::Reading;
 use table_file::TableAnswer;
 
-// In-cell step 128 of a used axis.
-fn step_on(axes: u32, axis: u32) -> u32
-    ensures { λ r. ⌜ r ≡ middle axes axis ⌝ }
+// One number on a used axis, another on an unused one.
+fn on_axis(axes: u32, axis: u32, used: u32, unused: u32) -> u32
+    ensures { λ r. ⌜ r ≡ pick (ltb axis axes) used unused ⌝ }
 {
-    if axis < axes { 128 } else { 0 }
+    if axis < axes { used } else { unused }
 }
 
 // The middle of a cell.
@@ -31,9 +31,9 @@ fn middle_of(axes: u32) -> [u32; 3]
     requires { ⌜ axes ≤ 3 ⌝ }
     ensures { λ r. ⌜ placeAt r ≡ middle axes ⌝ }
 {
-    let x = step_on(axes, 0);
-    let y = step_on(axes, 1);
-    let z = step_on(axes, 2);
+    let x = on_axis(axes, 0, 128, 0);
+    let y = on_axis(axes, 1, 128, 0);
+    let z = on_axis(axes, 2, 128, 0);
     [x, y, z]
 }
 
@@ -78,20 +78,11 @@ fn put_line(
 ) -> usize
     requires { ⌜ Answers (shapeOf (header axes counts) 3) (now cubic) × Answers (shapeOf (header axes counts) 5) (now quintic) ⌝ }
     requires { ⌜ Accepted (shapeOf (header axes counts) 3) (placeAt cell) × Between 0 99 cell × (at + lineLimit ≤ length (now out)) ⌝ }
-    ensures { λ r. ⌜ (r ≡ at + length (lineFrom (header axes counts) (now (cubic .entry)) (now (quintic .entry)) cell)) × (r ≤ at + lineLimit) ⌝ }
-    ensures { λ _. ⌜ now (out .exit) ≡ sets (now (out .entry)) at (lineFrom (header axes counts) (now (cubic .entry)) (now (quintic .entry)) cell) ⌝ }
+    ensures { λ r. ⌜ Put (now (out .entry)) at (lineFrom (header axes counts) (now (cubic .entry)) (now (quintic .entry)) cell) (now (out .exit)) r × (r ≤ at + lineLimit) ⌝ }
 {
     let a = dose_at(axes, counts, 3, cubic, cell);
     let b = dose_at(axes, counts, 5, quintic, cell);
     text::put_cell_line(out, at, cell, a, b)
-}
-
-// The cells along one axis.
-fn cells_on(axes: u32, count: u32, axis: u32) -> u32
-    requires { ⌜ 1 ≤ count ⌝ }
-    ensures { λ r. ⌜ r ≡ pick (ltb axis axes) (count - 1) 1 ⌝ }
-{
-    if axis < axes { count - 1 } else { 1 }
 }
 
 // The cells along each axis.
@@ -99,9 +90,9 @@ fn cells_of(axes: u32, counts: [u32; 3]) -> [u32; 3]
     requires { ⌜ Between 1 64 counts ⌝ }
     ensures { λ r. ⌜ r ≡ tabulate 3 (cellsAlong (header axes counts)) ⌝ }
 {
-    let x = cells_on(axes, counts[0], 0);
-    let y = cells_on(axes, counts[1], 1);
-    let z = cells_on(axes, counts[2], 2);
+    let x = on_axis(axes, 0, counts[0] - 1, 1);
+    let y = on_axis(axes, 1, counts[1] - 1, 1);
+    let z = on_axis(axes, 2, counts[2] - 1, 1);
     [x, y, z]
 }
 
@@ -122,9 +113,7 @@ fn cell_at(cells: [u32; 3], i: u32) -> [u32; 3]
 fn put_lines(axes: u32, counts: [u32; 3], cubic: &[i32], quintic: &[i32], out: &mut [u8]) -> usize
     requires { ⌜ Answers (shapeOf (header axes counts) 3) (now cubic) × Answers (shapeOf (header axes counts) 5) (now quintic) ⌝ }
     requires { ⌜ (cellCount (header axes counts) ≤ heldNodes) × (heldNodes * lineLimit ≤ length (now out)) ⌝ }
-    ensures { λ r. ⌜ r ≡ length (joined (cellCount (header axes counts)) (λ i. lineFrom (header axes counts) (now (cubic .entry)) (now (quintic .entry)) (cellAt (header axes counts) i))) ⌝ }
-    ensures { λ r. ⌜ r ≤ heldNodes * lineLimit ⌝ }
-    ensures { λ _. ⌜ now (out .exit) ≡ sets (now (out .entry)) 0 (joined (cellCount (header axes counts)) (λ i. lineFrom (header axes counts) (now (cubic .entry)) (now (quintic .entry)) (cellAt (header axes counts) i))) ⌝ }
+    ensures { λ r. ⌜ Put (now (out .entry)) 0 (linesFrom (header axes counts) (now (cubic .entry)) (now (quintic .entry))) (now (out .exit)) r × (r ≤ heldNodes * lineLimit) ⌝ }
 {
     let cells = cells_of(axes, counts);
     let total = cells[0] * (cells[1] * cells[2]);
@@ -161,8 +150,7 @@ fn estimate_degree(
 // Puts the lines of a table: estimates of both degrees, then its cells.
 fn put_table(axes: u32, counts: [u32; 3], samples: &[i32], out: &mut [u8]) -> usize
     requires { ⌜ Held (header axes counts) (now samples) × (heldNodes * lineLimit ≤ length (now out)) ⌝ }
-    ensures { λ r. ⌜ (r ≡ length (cellLines (header axes counts) (now (samples .entry)))) × (r ≤ heldNodes * lineLimit) ⌝ }
-    ensures { λ _. ⌜ now (out .exit) ≡ sets (now (out .entry)) 0 (cellLines (header axes counts) (now (samples .entry))) ⌝ }
+    ensures { λ r. ⌜ Put (now (out .entry)) 0 (cellLines (header axes counts) (now (samples .entry))) (now (out .exit)) r × (r ≤ heldNodes * lineLimit) ⌝ }
 {
     let mut cubic = [0i32; 4096];
     let mut quintic = [0i32; 13824];

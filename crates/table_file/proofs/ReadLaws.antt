@@ -140,6 +140,14 @@ module _ (bytes : List ℕ) where
     unfolding samplesFrom
     sample-is i l = getD-tabulate many (λ i. signedOf (fileNumber bytes (start + i))) i (pos 0) l
 
+  pub samples-length : length (samplesIn bytes) ≡ nodesIn bytes
+  unfolding samplesIn samplesFrom
+  samples-length = length-samples (2 + axesIn bytes) (nodesIn bytes)
+
+  pub samples-get : (i : ℕ) → i < nodesIn bytes → at (samplesIn bytes) i ≡ signedOf (fileNumber bytes (2 + axesIn bytes + i))
+  unfolding samplesIn samplesFrom
+  samples-get = sample-is (2 + axesIn bytes) (nodesIn bytes)
+
   -- with n and the number of nodes as the code holds them
   module _ (axes nodes : ℕ) (p : AfterOne bytes axes nodes) where
     pub two-is : twoOutcome bytes

@@ -3,7 +3,6 @@ use mathlib.Core.Path.{_≡_, refl, sym, ap, ap₂, subst, _∙_}
 use mathlib.Core.Bool.{true}
 use mathlib.Core.List.{List, _∷_, _++_, map}
 use Prim.Native.Nat.{ℕ, suc, _+_, _*_, _-_, _≤_, _<_}
-use native.Mathlib.Nat.{le-refl}
 use native.Mathlib.Omega.{arith}
 use borrow.Author.Tests.{ltb-true, ltb-false}
 use lib.Dec.{ltb, lit<}
@@ -28,9 +27,9 @@ use Rattle.arith.proofs.Choices.{split}
 use Rattle.arith.proofs.Twos.{unsigned-below}
 use Rattle.table_file.proofs.Twos.{unsigned-signed, signed-unsigned}
 use Rattle.table_file.proofs.NumberLaws.{number-of-all, number-below, all-numbers}
-use Rattle.table_file.proofs.ReadLaws.{count-read, count-absent}
-use Rattle.table_file.proofs.TakenLaws.{Taken}
-use Rattle.table_file.proofs.WriteLaws.{sample-number, length-file, fit-of, fit-size, fit-writes}
+use Rattle.table_file.proofs.ReadLaws.{count-read, count-absent, samples-length, samples-get}
+use Rattle.table_file.proofs.TakenLaws.{Taken, permitted}
+use Rattle.table_file.proofs.WriteLaws.{sample-number, length-file, fit-size, fit-writes}
 
 -- ---- the numbers of a file, by their places
 
@@ -75,16 +74,6 @@ module _ (n : ℕ) (cs : List ℕ) (xs : List ℤ) (few : n ≤ length cs) where
   length-numbers : length numbers ≡ 2 + n + length xs
   unfolding sectionOne sectionTwo
   length-numbers = omega (arith, length-append (take n cs) (length xs ∷ map unsignedOf xs), length-take-le n cs few, length-map xs unsignedOf)
-
--- the samples of a file, by their places
-module _ (bytes : List ℕ) where
-  samples-length : length (samplesIn bytes) ≡ nodesIn bytes
-  unfolding samplesIn
-  samples-length = length-tabulate (nodesIn bytes) (λ i. signedOf (numberAt bytes (4 * (2 + axesIn bytes + i))))
-
-  samples-get : (i : ℕ) → i < nodesIn bytes → at (samplesIn bytes) i ≡ signedOf (numberAt bytes (4 * (2 + axesIn bytes + i)))
-  unfolding samplesIn
-  samples-get i l = getD-tabulate (nodesIn bytes) (λ i. signedOf (numberAt bytes (4 * (2 + axesIn bytes + i)))) i (pos 0) l
 
 -- what is below 3 decides three counts, their product and their test
 module _ (f g : ℕ → ℕ) (same : (a : ℕ) → a < 3 → f a ≡ g a) where
@@ -140,25 +129,7 @@ module _ (bytes : List ℕ) (room : ℕ) (small : AreBytes bytes) (t : Taken byt
 
   -- writing takes it
   pub writes : (space : ℕ) → length bytes ≤ space → writeOutcome (headerIn bytes) (samplesIn bytes) space ≡ done (length bytes)
-  unfolding headerIn countOf nodesIn nodesOf
-  writes space h =
-      fit-writes (headerIn bytes) (samplesIn bytes) space (record {
-        axes-ok = axes-same;
-        counts-ok = counts-same;
-        counted = samples-length bytes ∙ nodes-same;
-        roomy = subst (λ (l : List ℕ). length l ≤ space) (sym written) h;
-        limited = t .limited;
-      })
-      ∙ ap (λ (l : List ℕ). done (length l)) written
-    where
-      axes-same : axesOutcome (headerIn bytes .axes) ≡ done tt
-      axes-same = t .axes-ok
-
-      counts-same : countsOutcome (headerIn bytes .axes) (countOf (headerIn bytes)) ≡ done tt
-      counts-same = three-test (countOf (headerIn bytes)) (countIn bytes) counts-get n ∙ t .counts-ok
-
-      nodes-same : nodesIn bytes ≡ nodesOf (headerIn bytes)
-      nodes-same = sym (three-span (countOf (headerIn bytes)) (countIn bytes) counts-get)
+  writes space h = rw written at (fit-writes (headerIn bytes) (samplesIn bytes) space (permitted bytes room t) (rw written h))
 
 -- ---- a table that was written is read again
 
@@ -182,7 +153,7 @@ module _ (h : Header) (xs : List ℤ) (ok : Permitted h xs) where
   fits i = sfits-abs {w = w32} (at xs i) (omega (arith, limit-each sampleLimit xs (ok .limited) i))
 
   few-samples : length xs ≤ 262144
-  few-samples = fit-size m (h .counts) xs (length file) (ok .three) (fit-of h xs (length file) ok (le-refl (length file))) .1
+  few-samples = fit-size m (h .counts) xs ok .1
 
   -- every number has 4 bytes
   numbers-below : (k : ℕ) → getD (numbers m (h .counts) xs within) k 0 < 4294967296

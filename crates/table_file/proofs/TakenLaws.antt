@@ -1,16 +1,18 @@
 -- A file that reading takes: the facts of its sections, from the outcome of reading and back.
-use mathlib.Core.Path.{_≡_, sym, _∙_}
+use mathlib.Core.Path.{_≡_, refl, sym, _∙_}
 use mathlib.Core.List.{List}
 use Prim.Native.Nat.{ℕ, _+_, _*_, _≤_}
 use native.Mathlib.Omega.{arith}
 use lib.ListN.{length}
-use Rattle.lattice.specs.Outcome.{done, first}
+use Rattle.lattice.specs.Outcome.{done, first, firstOf}
+use Rattle.lattice.specs.Buffer.{tabulate}
+use Rattle.lattice.specs.Digits.{span}
 use Rattle.lattice.specs.Shape.{axesOutcome, countsOutcome}
 use Rattle.lattice.specs.Records.{sampleLimit, limitOutcome}
 use Rattle.lattice.proofs.OutcomeLaws.{first-done, first-passed, done-same, first-assoc}
-use Rattle.table_file.specs.File.{Header, fileNumber, axesIn, countIn, headerIn, nodesIn, samplesIn, oneOutcome, readCheck, readOutcome}
+use Rattle.table_file.specs.File.{Header, fileNumber, axesIn, countIn, headerIn, nodesIn, samplesIn, oneOutcome, readCheck, readOutcome, countOf, nodesOf, Permitted}
 use Rattle.table_file.specs.Parser.{restOutcome}
-use Rattle.table_file.proofs.ReadLaws.{one-facts, one-passes, two-facts, two-passes, rest-facts, rest-passes}
+use Rattle.table_file.proofs.ReadLaws.{one-facts, one-passes, two-facts, two-passes, rest-facts, rest-passes, samples-length}
 
 -- a file that reading takes
 pub record Taken (bytes : List ℕ) (room : ℕ) : Type 0 where
@@ -42,3 +44,7 @@ module _ (bytes : List ℕ) (room : ℕ) where
       read-is
       ∙ first-passed (oneOutcome bytes) _ (one-passes bytes (omega (arith, t .sized)) (t .axes-ok) (t .counts-ok))
       ∙ first-passed (restOutcome bytes room) _ (rest-passes bytes room (two-passes bytes (t .counted) (t .sized)) (t .roomy) (t .limited))
+
+  pub permitted : Taken bytes room → Permitted (headerIn bytes) (samplesIn bytes)
+  unfolding headerIn countsOutcome firstOf countOf nodesIn nodesOf span tabulate
+  permitted t = record { three = refl; axes-ok = t .axes-ok; counts-ok = t .counts-ok; counted = samples-length bytes; limited = t .limited }

@@ -7,7 +7,7 @@ use lib.ListN.{length}
 use Rattle.lattice.specs.Outcome.{done}
 use Rattle.table_file.specs.File.{Header, fileOf, samplesIn, readOutcome, writeOutcome, AreBytes, Permitted}
 use Rattle.table_file.proofs.TakenLaws.{taken, reads}
-use Rattle.table_file.proofs.WriteLaws.{fit-of, fit-writes}
+use Rattle.table_file.proofs.WriteLaws.{fit-writes}
 use Rattle.table_file.proofs.RoundTrip.{written, writes, samples-again, header-again, taken-again}
 
 -- writing what was read gives the file's bytes again
@@ -22,7 +22,7 @@ read-then-write bytes room space h small e l =
 pub write-then-read : (h : Header) (samples : List ℤ) (room space : ℕ) → Permitted h samples → length samples ≤ room → length (fileOf h samples) ≤ space
     → (writeOutcome h samples space ≡ done (length (fileOf h samples))) × (readOutcome (fileOf h samples) room ≡ done h) × (samplesIn (fileOf h samples) ≡ samples)
 write-then-read h samples room space p r s = (
-  fit-writes h samples space (fit-of h samples space p s),
+  fit-writes h samples space p s,
   reads (fileOf h samples) room (taken-again h samples p room r) ∙ ap done (header-again h samples p),
   samples-again h samples p,
 )

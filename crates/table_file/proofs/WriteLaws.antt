@@ -14,7 +14,7 @@ use Rattle.lattice.specs.Buffer.{at, overwrite}
 use Rattle.lattice.specs.Shape.{count, nodes, axesOutcome, degreeOutcome, countsOutcome, shapeOutcome, Shaped}
 use Rattle.lattice.specs.declared.Shape.{Shape}
 use Rattle.lattice.specs.Records.{sampleLimit, limitOutcome}
-use Rattle.lattice.proofs.OutcomeLaws.{first-done, first-passed, first-after, first-assoc, refuse-done, passes, when-done, when-refused}
+use Rattle.lattice.proofs.OutcomeLaws.{first-done, first-passed, first-after, first-assoc, refuse-done, when-done, when-refused}
 use Rattle.arith.specs.Int.{unsignedOf}
 use Rattle.table_file.specs.Numbers.{bytesOf, bytesOfAll}
 use Rattle.table_file.specs.File.{Header, header, sectionOne, sectionTwo, fileOf, countOf, nodesOf, writeCheck, writeOutcome, Permitted}
@@ -114,48 +114,29 @@ module _ (n : ℕ) (cs : List ℕ) (xs : List ℤ) (room : ℕ) where
         ∙ ap (λ (k : ℕ). first (refuseUnless (eqb (length xs) k) 4 0) (first (refuseUnless (leb (length (fileOf (header n cs) xs)) room) 9 0) (limitOutcome sampleLimit xs))) many-is
         ∙ sym (write-is ∙ first-passed (shapeOutcome (shapeOf n cs)) _ e)
 
--- the facts of a table that writing takes into `room` bytes
-pub record Fit (h : Header) (xs : List ℤ) (room : ℕ) : Type 0 where
-  pub axes-ok : axesOutcome (h .axes) ≡ done tt
-  pub counts-ok : countsOutcome (h .axes) (countOf h) ≡ done tt
-  pub counted : length xs ≡ nodesOf h
-  pub roomy : length (fileOf h xs) ≤ room
-  pub limited : limitOutcome sampleLimit xs ≡ done tt
-
 module _ (h : Header) (xs : List ℤ) (room : ℕ) where
-  pub fit : writeCheck h xs room ≡ done tt → Fit h xs room
+  -- writing takes permitted tables that have room
+  pub fit : length (h .counts) ≡ 3 → writeCheck h xs room ≡ done tt → Permitted h xs × (length (fileOf h xs) ≤ room)
   unfolding writeCheck
-  fit e =
+  fit three e =
       let size = length (fileOf h xs) in
       let f = first-done (axesOutcome (h .axes)) _ tt e in
       let g = first-done (countsOutcome (h .axes) (countOf h)) _ tt (f .1) in
       let k = first-done (refuseUnless (eqb (length xs) (nodesOf h)) 4 0) _ tt (g .1) in
       let l = first-done (refuseUnless (leb size room) 9 0) (limitOutcome sampleLimit xs) tt (k .1) in
-      record {
-        axes-ok = f .0;
-        counts-ok = g .0;
-        counted = eqb-true (length xs) (nodesOf h) (refuse-done (eqb (length xs) (nodesOf h)) 4 0 (k .0));
-        roomy = leb-true size room (refuse-done (leb size room) 9 0 (l .0));
-        limited = l .1;
-      }
+      let counted = eqb-true (length xs) (nodesOf h) (refuse-done (eqb (length xs) (nodesOf h)) 4 0 (k .0)) in (
+        record { three = three; axes-ok = f .0; counts-ok = g .0; counted = counted; limited = l .1 },
+        leb-true size room (refuse-done (leb size room) 9 0 (l .0)),
+      )
 
-  pub fit-writes : Fit h xs room → writeOutcome h xs room ≡ done (length (fileOf h xs))
+  pub fit-writes : Permitted h xs → length (fileOf h xs) ≤ room → writeOutcome h xs room ≡ done (length (fileOf h xs))
   unfolding writeOutcome writeCheck
-  fit-writes t =
-      first-passed (writeCheck h xs room) (done (length (fileOf h xs)))
-      (first-passed (axesOutcome (h .axes)) _ (t .axes-ok)
-      ∙ first-passed (countsOutcome (h .axes) (countOf h)) _ (t .counts-ok)
-      ∙ first-passed (refuseUnless (eqb (length xs) (nodesOf h)) 4 0) _ (passes (eqb (length xs) (nodesOf h)) 4 0 (eq-eqb (length xs) (nodesOf h) (t .counted)))
-      ∙ first-passed (refuseUnless (leb (length (fileOf h xs)) room) 9 0) _ (passes (leb (length (fileOf h xs)) room) 9 0 (le-leb (length (fileOf h xs)) room (t .roomy)))
-      ∙ t .limited)
-
-pub fit-of : (h : Header) (xs : List ℤ) (room : ℕ) → Permitted h xs → length (fileOf h xs) ≤ room → Fit h xs room
-fit-of h xs room p r = record { axes-ok = p .axes-ok; counts-ok = p .counts-ok; counted = p .counted; roomy = r; limited = p .limited }
+  fit-writes t r = rw (t .axes-ok, t .counts-ok, eq-eqb (length xs) (nodesOf h) (t .counted), le-leb (length (fileOf h xs)) room r, t .limited) refl
 
 -- sizes that the machine holds
-pub fit-size : (n : ℕ) (cs : List ℕ) (xs : List ℤ) (room : ℕ) → length cs ≡ 3 → Fit (header n cs) xs room → (n ≤ 3) × (length xs ≤ 262144) × (4 * (2 + n + length xs) ≤ room)
+pub fit-size : (n : ℕ) (cs : List ℕ) (xs : List ℤ) → Permitted (header n cs) xs → (n ≤ 3) × (length xs ≤ 262144) × (length (fileOf (header n cs) xs) ≡ 4 * (2 + n + length xs))
 unfolding nodesOf countOf nodes count
-fit-size n cs xs room three t =
+fit-size n cs xs t =
     let s = shaped-of n cs (t .axes-ok) (t .counts-ok) in
     let few = s .axes-high in
-    (few, omega (arith, t .counted, nodes-high (shapeOf n cs) s), omega (arith, t .roomy, length-file n cs xs (omega (arith, few, three))))
+    (few, omega (arith, t .counted, nodes-high (shapeOf n cs) s), length-file n cs xs (omega (arith, few, t .three)))

@@ -9,7 +9,11 @@ use borrow.Author.Tests.{ltb-true, ltb-false, le-ltb, lt-ltb}
 use lib.Dec.{ltb}
 use lib.IntN.{ℤ, pos, negsuc, natAbs}
 use lib.ListN.{length, length-append}
-use lib.Signed.{ltZ}
+use lib.Signed.{ltZ, mag}
+use mir.Syntax.{w32, w64}
+use mir.Val.{toZ, ofZ}
+use mir.Facts.{toZ-pos}
+use Rattle.arith.proofs.Machine.{widened}
 use Rattle.arith.proofs.Choices.{pick-true, pick-false, split}
 use Rattle.text.specs.Decimal.{digits, decimal, signedDecimal}
 
@@ -72,3 +76,12 @@ pub not-below : (x : ℤ) → ltZ x (pos 0) ≡ false → signedDecimal x ≡ de
 unfolding signedDecimal
 not-below (pos n) e = refl
 not-below (negsuc n) e = cc
+
+-- ---- as the machine holds them
+
+pub natural : (n : ℕ) → n < 4294967296 → signedDecimal (toZ w64 n) ≡ decimal n
+unfolding signedDecimal
+natural n h = ap signedDecimal (toZ-pos w64 {n = n} (omega arith))
+
+pub lent : (x : ℤ) → mag x < 2 ^ 31 → signedDecimal (toZ w64 (ofZ w64 (toZ w32 (ofZ w32 x)))) ≡ signedDecimal x
+lent x h = ap signedDecimal (widened x h)

@@ -9,16 +9,19 @@ use Rattle.report.proofs.cells_of.Tie as tie
 
 returns : tie.Need-returns
 unfolding cellsAlong countOf
-returns c = let a = c .before .before .before .args in three-same _ _ _ (cellsAlong (header (a .axes) (a .t2))) (c .before .before .cells-on .ensures) (c .before .cells-on2 .ensures) (c .cells-on3 .ensures)
+returns c = let a = c .before .before .before .args in three-same _ _ _ (cellsAlong (header (a .axes) (a .t2))) (c .before .before .on-axis .ensures) (c .before .on-axis2 .ensures) (c .on-axis3 .ensures)
 
 pub cells-of-spec : {M : Type 1} → statement M
 cells-of-spec =
     tie.close
     (tie.spec
     (λ c. search needs)
-    (λ c κs. c .pre .least 0 (lit< tt))
+    (λ c. c .pre .least 0 (lit< tt))
+    (λ c κs. search needs)
     (λ c. search needs)
-    (λ c κs. c .before .pre .least 1 (lit< tt))
+    (λ c. c .before .pre .least 1 (lit< tt))
+    (λ c κs. search needs)
     (λ c. search needs)
-    (λ c κs. c .before .before .pre .least 2 (lit< tt))
+    (λ c. c .before .before .pre .least 2 (lit< tt))
+    (λ c κs. search needs)
     returns)

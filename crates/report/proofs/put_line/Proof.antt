@@ -1,18 +1,16 @@
 -- `put_line` meets its contract: two doses and a line.
 use mathlib.Core.Path.{_≡_, ap, _∙_}
-use mathlib.Core.List.{List}
-use Prim.Native.Nat.{ℕ, _+_, _≤_}
+use Prim.Native.Nat.{_≤_}
 use native.Mathlib.Omega.{arith}
 use lib.IntN.{ℤ}
 use lib.ListN.{length}
-use lib.Seq.{sets}
 use denote.Ref.{now}
 use mir.Syntax.{w32}
 use mir.Val.{toZ, ofZ}
-use Rattle.arith.proofs.Machine.{element}
-use Rattle.arith.proofs.Machine.{near}
+use Rattle.arith.proofs.Machine.{element, near}
 use Rattle.table_file.specs.File.{header}
 use Rattle.text.specs.Lines.{cellLine}
+use Rattle.text.proofs.LineLaws.{put-as}
 use Rattle.report.specs.Parts.{lineFrom, lineLimit}
 use Rattle.report.proofs.CellsLaws.{any-degree}
 use Rattle.report.proofs.LineLaws.{line-short}
@@ -52,10 +50,7 @@ returns : tie.Need-returns
 returns c =
     let p = c .before .before .put-cell-line in
     let d = c .before .before .before .before in
-    let b = start d in
-    let s = short d in
-    let e = line d in
-    ((p .ensures .0 ∙ ap (λ (l : List ℕ). b .args .at + length l) e, omega (arith, p .ensures .0)), p .ensures .1 ∙ ap (λ (l : List ℕ). sets (now (b .args .out)) (b .args .at) l) e)
+    (put-as (line d) (record { ended = p .ensures .0; written = p .ensures .1 }), omega (arith, p .ensures .0, short d))
 
 pub put-line-spec : {M : Type 1} → statement M
 put-line-spec =

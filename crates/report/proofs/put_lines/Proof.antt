@@ -1,21 +1,23 @@
 -- `put_lines` meets its contract: after i turns the lines of the first i cells stand at the front.
-use mathlib.Core.Path.{_≡_, ap, subst, _∙_}
+use mathlib.Core.Path.{_≡_, ap, _∙_}
 use mathlib.Core.List.{List}
-use Prim.Native.Nat.{ℕ, _+_, _-_, _*_, _≤_, _<_}
+use Prim.Native.Nat.{ℕ, _-_, _*_, _≤_, _<_}
 use native.Mathlib.Nat.{mul-le-mul}
 use native.Mathlib.Omega.{arith}
 use lib.Dec.{lit<}
 use lib.IntN.{ℤ}
 use lib.ListN.{length, getD}
-use lib.Seq.{sets, length-sets}
+use lib.Seq.{length-sets}
 use denote.Ref.{now}
 use Rattle.lattice.specs.Shape.{Shaped}
 use Rattle.lattice.proofs.ShapeLaws.{shaped}
 use Rattle.table_file.specs.File.{Header, header}
+use Rattle.text.specs.Lines.{Put}
+use Rattle.text.proofs.LineLaws.{put-as}
 use Rattle.report.specs.Report.{cellCount, cellAt, shapeOf, joined}
 use Rattle.report.specs.Parts.{Between, lineFrom, lineLimit}
 use Rattle.report.proofs.CellsLaws.{counts-between, cells-between, cell-accepted, cell-between, cell-is, total-is}
-use Rattle.report.proofs.LineLaws.{Lines, lines-none, lines-more}
+use Rattle.report.proofs.LineLaws.{lines-none, lines-more}
 use borrow.Author.Needs.{needs}
 use Rattle.report.proofs.put_lines.Statement.{statement}
 use Rattle.report.proofs.put_lines.Tie as tie
@@ -25,7 +27,7 @@ lineAt axes counts cubic quintic i = lineFrom (header axes counts) cubic quintic
 
 abbrev Inv-loop : tie.InvT-loop
 Inv-loop axes counts cubic quintic out₀ cells total at₀ i₀ out at i =
-    (i ≤ total) × (at ≤ lineLimit * i) × Lines (lineAt axes counts cubic quintic) i out₀ out at
+    (i ≤ total) × (at ≤ lineLimit * i) × Put out₀ 0 (joined i (lineAt axes counts cubic quintic)) out at
 
 abbrev μ-loop : tie.MeasureT-loop
 μ-loop axes counts cubic quintic out₀ cells total at₀ i₀ out at i = total - i
@@ -72,7 +74,7 @@ put-line-requires c κs =
       (
         rw (cell (c .before)) (cell-accepted (table s) 3 (shape s) (l .i)),
         rw (cell (c .before)) (cell-between (table s) 3 (shape s) (l .i)),
-        omega (arith, ap length (l .inv .2 .1), length-sets (now (s .args .out)) 0 (joined (l .i) (lineAt (s .args .axes) (s .args .counts) (now (s .args .cubic)) (now (s .args .quintic)))), s .pre .1 .1, l .inv .1, c .before .before .loop-test .taken),
+        omega (arith, ap length (l .inv .2 .written), length-sets (now (s .args .out)) 0 (joined (l .i) (lineAt (s .args .axes) (s .args .counts) (now (s .args .cubic)) (now (s .args .quintic)))), s .pre .1 .1, l .inv .1, c .before .before .loop-test .taken),
       ),
     )
 
@@ -87,16 +89,15 @@ loop-again c =
     let a = first d .before .before .args in
     let e = ap (lineFrom (header (a .axes) (a .counts)) (now (a .cubic)) (now (a .quintic))) (cell d) in (
       omega arith,
-      omega (arith, p .ensures .0 .1, l .inv .1),
-      lines-more (lineAt (a .axes) (a .counts) (now (a .cubic)) (now (a .quintic))) (l .i) (l .at) (p .result) (now (a .out)) (l .out) _ (l .inv .2)
-          (p .ensures .0 .0 ∙ ap (λ (t : List ℕ). l .at + length t) e) (p .ensures .1 ∙ ap (sets (l .out) (l .at)) e),
+      omega (arith, p .ensures .1, l .inv .1),
+      lines-more (lineAt (a .axes) (a .counts) (now (a .cubic)) (now (a .quintic))) (l .i) (l .inv .2) (put-as e (p .ensures .0)),
     )
 
 same-length : tie.Need-same-length Inv-loop μ-loop
 same-length c =
     let l = c .before .loop in
     let a = c .before .before .before .before .args in
-    ap length (l .inv .2 .1) ∙ length-sets (now (a .out)) 0 (joined (l .i) (lineAt (a .axes) (a .counts) (now (a .cubic)) (now (a .quintic))))
+    ap length (l .inv .2 .written) ∙ length-sets (now (a .out)) 0 (joined (l .i) (lineAt (a .axes) (a .counts) (now (a .cubic)) (now (a .quintic))))
 
 returns : tie.Need-returns Inv-loop μ-loop
 returns c =
@@ -106,8 +107,7 @@ returns c =
     let a = s .args in
     let t = total-is (table s) (cells f) (f .cells-of .ensures) in
     let e : l .i ≡ cellCount (table s) = omega (arith, l .inv .0, c .loop-test .left) in
-    let r = subst (λ (n : ℕ). Lines (lineAt (a .axes) (a .counts) (now (a .cubic)) (now (a .quintic))) n (now (a .out)) (l .out) (l .at)) e (l .inv .2) in
-    (r .0, (omega (arith, l .inv .1, few f), r .1))
+    (rw e at (l .inv .2), omega (arith, l .inv .1, few f))
 
 pub put-lines-spec : {M : Type 1} → statement M
 put-lines-spec =

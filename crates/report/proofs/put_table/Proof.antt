@@ -1,15 +1,15 @@
 -- `put_table` meets its contract: two estimates, then the lines.
-use mathlib.Core.Path.{_≡_, sym, ap, _∙_}
+use mathlib.Core.Path.{_≡_, sym, ap₂, _∙_}
 use mathlib.Core.List.{List}
-use Prim.Native.Nat.{ℕ}
 use lib.IntN.{ℤ}
-use lib.ListN.{length, take}
-use lib.Seq.{sets, length-take-le}
+use lib.ListN.{take}
+use lib.Seq.{length-take-le}
 use denote.Ref.{now}
 use Rattle.estimate.specs.Estimate.{recordsOf}
 use Rattle.table_file.specs.File.{Header, header}
-use Rattle.report.specs.Report.{cellCount, cellAt, shapeOf, joined, cellLines}
-use Rattle.report.specs.Parts.{lineFrom}
+use Rattle.text.proofs.LineLaws.{put-as}
+use Rattle.report.specs.Report.{shapeOf, cellLines}
+use Rattle.report.specs.Parts.{linesFrom}
 use Rattle.report.proofs.DoseLaws.{answers}
 use Rattle.report.proofs.TableLaws.{cubic-taken, quintic-taken, few-cells, lines-are}
 use borrow.Author.Needs.{needs}
@@ -39,11 +39,8 @@ module _ (c : tie.After-put-lines-arg) where
   high-is : high ≡ recordsOf (shapeOf (table start) 5) (samples start)
   high-is = c .before .before .before .before .estimate-degree2 .ensures .1
 
-  abbrev joinedFrom : List ℤ → List ℤ → List ℕ
-  joinedFrom cubic quintic = joined (cellCount (table start)) (λ i. lineFrom (table start) cubic quintic (cellAt (table start) i))
-
-  lines : joinedFrom low high ≡ cellLines (table start) (samples start)
-  lines = ap (λ (rs : List ℤ). joinedFrom rs high) low-is ∙ ap (joinedFrom (recordsOf (shapeOf (table start) 3) (samples start))) high-is ∙ lines-are (table start) (samples start) (start .pre .0)
+  lines : linesFrom (table start) low high ≡ cellLines (table start) (samples start)
+  lines = ap₂ (linesFrom (table start)) low-is high-is ∙ lines-are (table start) (samples start) (start .pre .0)
 
 estimate-degree-requires-2 : tie.Need-estimate-degree-requires-2
 estimate-degree-requires-2 c κs = let s = c .before .before .before .before .before in quintic-taken (table s) (samples s) (s .pre .0)
@@ -67,9 +64,7 @@ put-lines-requires c κs =
 returns : tie.Need-returns
 returns c =
     let p = c .before .before .put-lines in
-    let d = c .before .before .before in
-    let e = lines d in
-    ((p .ensures .0 ∙ ap length e, p .ensures .1 .0), p .ensures .1 .1 ∙ ap (sets (now (start d .args .out)) 0) e)
+    (put-as (lines (c .before .before .before)) (p .ensures .0), p .ensures .1)
 
 pub put-table-spec : {M : Type 1} → statement M
 put-table-spec =

@@ -18,7 +18,9 @@ passed d = sym (d .before .before .check-write .ensures) ∙ ap meaning (d .enum
 put-file-requires : tie.Need-put-file-requires
 put-file-requires c κs =
     let b = c .before .before .before .before .before in
-    fit-size _ _ _ _ (omega (arith, b .good .1 .0)) (fit _ _ _ (passed (c .before)))
+    let f = fit _ _ _ (omega (arith, b .good .1 .0)) (passed (c .before)) in
+    let s = fit-size _ _ _ (f .0) in
+    (s .0, s .1, omega (arith, s .2, f .1))
 
 returns : tie.Need-returns
 unfolding writeOutcome

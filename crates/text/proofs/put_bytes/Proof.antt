@@ -31,10 +31,8 @@ returns : tie.Need-returns Inv-loop μ-loop
 returns c =
     let a = c .before .before .args in
     let l = c .before .loop in
-    let e : l .i ≡ length (a .bytes .now) = omega arith in (
-      ap (λ (k : ℕ). a .at + k) e,
-      l .inv .2 ∙ ap (λ (k : ℕ). sets (a .out .now) (a .at) (take k (a .bytes .now))) e ∙ ap (λ (m : List ℕ). sets (a .out .now) (a .at) m) (take-length (a .bytes .now)),
-    )
+    let e : l .i ≡ length (a .bytes .now) = omega arith in
+    record { ended = ap (λ (k : ℕ). a .at + k) e; written = rw (e, take-length (a .bytes .now)) at (l .inv .2) }
 
 pub put-bytes-spec : {M : Type 1} → statement M
 put-bytes-spec =
