@@ -6,27 +6,25 @@ use Prim.Native.Nat.{ℕ, _≤_, _<_}
 use native.Mathlib.Omega.{arith}
 use borrow.Author.Tests.{le-ltb}
 use lib.Dec.{leb, ltb, eqb}
-use lib.ListN.{length, take}
 use lib.IntN.{ℤ}
 use Rattle.arith.specs.Int.{roundHalfUp}
 use Rattle.arith.specs.Choice.{pick}
 use Rattle.arith.proofs.Choices.{pick-false}
 use Rattle.lattice.specs.declared.Shape.{Shape}
 use Rattle.lattice.specs.Outcome.{done}
-use Rattle.lattice.specs.Shape.{size}
 use Rattle.lattice.specs.Axes.{Place}
 use Rattle.lattice.specs.Records.{recordsField}
 use Rattle.lattice.proofs.OutcomeLaws.{passes, firstOf-passes}
 use Rattle.hermite.specs.Stage.{steps}
 use Rattle.cell.specs.Cell.{placeAt, Accepted}
-use Rattle.estimate.specs.Estimate.{Estimable, tableRecords, recordsOf, estimateOutcome, estimateWrites}
+use Rattle.estimate.specs.Estimate.{Estimable, tableRecords, recordsOf, estimateOutcome}
 use Rattle.estimate.proofs.CallLaws.{estimated, records-length}
 use Rattle.evaluate.specs.Evaluate.{dose, lastAxis, answer, askAt}
 use Rattle.evaluate.proofs.AnswerLaws.{answer-local}
 use Rattle.query.specs.Queries.{wantOutcome, stepsOutcome, byCell}
 use Rattle.cell.proofs.CellLaws.{three, cell-passes}
 use Rattle.query.proofs.QueryLaws.{by-cell-passes}
-use Rattle.claims.proofs.Lent.{field-same, corners-done, lent}
+use Rattle.claims.proofs.Lent.{field-same, corners-done}
 use Rattle.report.specs.Report.{middle, doseIn}
 use Rattle.report.specs.Parts.{Answers, doseFrom}
 
@@ -74,7 +72,3 @@ module _ (s : Shape) (xs : List ℤ) (room : ℕ) (taken : estimateOutcome s xs 
   pub dose-same : (cell : List ℕ) → Accepted s (placeAt cell) → doseFrom s (recordsOf s xs) cell ≡ doseIn s xs cell
   unfolding doseFrom doseIn
   dose-same cell here = answer-same s xs room (estimated s xs room taken) (placeAt cell) here (middle (s .axes))
-
-  -- the front of the slice that it wrote
-  pub front : (old : List ℤ) → length old ≡ room → take (size s) (estimateWrites s xs old) ≡ recordsOf s xs
-  front old h = lent s xs old (ap (estimateOutcome s xs) h ∙ taken)

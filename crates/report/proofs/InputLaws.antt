@@ -14,7 +14,7 @@ use Rattle.lattice.specs.Shape.{nodes, Shaped}
 use Rattle.lattice.proofs.OutcomeLaws.{first-passed, passes, when-done}
 use Rattle.table_file.specs.File.{Header, samplesIn, readOutcome}
 use Rattle.table_file.proofs.ReadLaws.{samples-length}
-use Rattle.table_file.proofs.TakenLaws.{taken, permitted}
+use Rattle.table_file.proofs.TakenLaws.{taken}
 use Rattle.text.specs.Lines.{refusedLine}
 use Rattle.report.specs.Report.{heldNodes, heldBytes, shapeOf, cellLines, inputOutcome, textOf, reportText}
 use Rattle.report.specs.Parts.{Held}
@@ -42,7 +42,7 @@ module _ (input : List ℕ) where
     pub held : Held h (samplesIn input)
     held =
         let f = taken input heldNodes h e in
-        subst (λ (g : Header). Held g (samplesIn input)) (f .1) (record { permitted = permitted input heldNodes (f .0); few = le-trans (le-of-eq (samples-length input)) (f .0 .roomy) })
+        subst (λ (g : Header). Held g (samplesIn input)) (f .1) (record { permitted = f .0 .permitted; few = le-trans (le-of-eq (samples-length input)) (f .0 .roomy) })
 
     pub shape : Shaped (shapeOf h 3)
     shape = cubic-shaped h (samplesIn input) held

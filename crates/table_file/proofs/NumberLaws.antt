@@ -1,6 +1,6 @@
 -- A number's 4 bytes written out; a list of numbers in bytes, and the numbers of a list of bytes.
 use mathlib.Core.Path.{_≡_, refl, sym, ap, subst, fun-ext, _∙_}
-use mathlib.Core.List.{List, [], _∷_, _++_, append-assoc}
+use mathlib.Core.List.{List, [], _∷_, _++_, append-assoc, append-nil}
 use Prim.Native.Nat.{ℕ, zero, suc, _+_, _*_, _/_, _%_, _<_, _≤_}
 use native.Mathlib.Nat.{add-zero}
 use native.Mathlib.Omega.{arith}
@@ -65,10 +65,6 @@ all-append (v ∷ vs) ws = ap (λ (l : List ℕ). bytesOf v ++ l) (all-append vs
 pub all-one : (v : ℕ) → bytesOfAll (v ∷ []) ≡ bytesOf v
 unfolding bytesOfAll
 all-one v = append-nil (bytesOf v)
-  where
-    append-nil : (l : List ℕ) → l ++ [] ≡ l
-    append-nil [] = refl
-    append-nil (x ∷ l) = ap (λ (m : List ℕ). x ∷ m) (append-nil l)
 
 -- number k of the bytes is number k of the list
 pub number-of-all : (vs : List ℕ) → ((k : ℕ) → getD vs k 0 < 4294967296) → (k : ℕ) → numberAt (bytesOfAll vs) (4 * k) ≡ getD vs k 0

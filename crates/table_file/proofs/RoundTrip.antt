@@ -12,13 +12,13 @@ use mir.Val.{SFits}
 use Rattle.arith.proofs.Abs.{sfits-abs}
 use lib.ListN.{length, getD, take, length-append, length-map, List·getD-append, List·getD-eq-default}
 use lib.Seq.{ext-getD, take-all, getD-at, getD-append-add, getD-take, length-take-le}
-use Rattle.lattice.specs.Outcome.{done, firstOf}
+use Rattle.lattice.specs.Outcome.{done}
 use Rattle.lattice.specs.Digits.{span}
 use Rattle.lattice.proofs.ShapeLaws.{axes-range, counts-each, count-range, count-unused}
 use Rattle.lattice.proofs.RecordsLaws.{limit-each}
 use Rattle.lattice.specs.Buffer.{at, tabulate}
-use Rattle.lattice.specs.Shape.{axesOutcome, countAllowed, countsOutcome}
-use Rattle.lattice.specs.Records.{sampleLimit, limitOutcome}
+use Rattle.lattice.specs.Shape.{countAllowed}
+use Rattle.lattice.specs.Records.{sampleLimit}
 use Rattle.lattice.proofs.BufferLaws.{length-tabulate, getD-tabulate, tabulate-getD}
 use Rattle.arith.specs.Int.{unsignedOf}
 use Rattle.table_file.specs.Numbers.{numberAt, bytesOfAll, signedOf}
@@ -28,7 +28,7 @@ use Rattle.arith.proofs.Twos.{unsigned-below}
 use Rattle.table_file.proofs.Twos.{unsigned-signed, signed-unsigned}
 use Rattle.table_file.proofs.NumberLaws.{number-of-all, number-below, all-numbers}
 use Rattle.table_file.proofs.ReadLaws.{count-read, count-absent, samples-length, samples-get}
-use Rattle.table_file.proofs.TakenLaws.{Taken, permitted}
+use Rattle.table_file.proofs.TakenLaws.{Taken}
 use Rattle.table_file.proofs.WriteLaws.{sample-number, length-file, fit-size, fit-writes}
 
 -- ---- the numbers of a file, by their places
@@ -75,20 +75,6 @@ module _ (n : ℕ) (cs : List ℕ) (xs : List ℤ) (few : n ≤ length cs) where
   unfolding sectionOne sectionTwo
   length-numbers = omega (arith, length-append (take n cs) (length xs ∷ map unsignedOf xs), length-take-le n cs few, length-map xs unsignedOf)
 
--- what is below 3 decides three counts, their product and their test
-module _ (f g : ℕ → ℕ) (same : (a : ℕ) → a < 3 → f a ≡ g a) where
-  three-list : tabulate 3 f ≡ tabulate 3 g
-  unfolding tabulate
-  three-list = rw (same 0 (lit< tt), same 1 (lit< tt), same 2 (lit< tt)) refl
-
-  three-span : span 3 f ≡ span 3 g
-  unfolding span
-  three-span = rw (same 0 (lit< tt), same 1 (lit< tt), same 2 (lit< tt)) refl
-
-  three-test : (n : ℕ) → countsOutcome n f ≡ countsOutcome n g
-  unfolding countsOutcome firstOf
-  three-test n = rw (same 0 (lit< tt), same 1 (lit< tt), same 2 (lit< tt)) refl
-
 -- ---- a file that was read is written again
 
 module _ (bytes : List ℕ) (room : ℕ) (small : AreBytes bytes) (t : Taken bytes room) where
@@ -99,10 +85,8 @@ module _ (bytes : List ℕ) (room : ℕ) (small : AreBytes bytes) (t : Taken byt
   counts = tabulate 3 (countIn bytes)
 
   few : n ≤ length counts
-  few = omega (arith, axes-range (axesIn bytes) (t .axes-ok) .1, length-tabulate 3 (countIn bytes))
-
-  counts-get : (a : ℕ) → a < 3 → getD counts a 0 ≡ countIn bytes a
-  counts-get a l = getD-tabulate 3 (countIn bytes) a 0 l
+  unfolding headerIn
+  few = omega (arith, axes-range n (t .permitted .axes-ok) .1, length-tabulate 3 (countIn bytes))
 
   -- its numbers are those of the sections
   numbers-are : numbers n counts (samplesIn bytes) few ≡ tabulate (2 + n + nodesIn bytes) (λ k. numberAt bytes (4 * k))
@@ -116,7 +100,7 @@ module _ (bytes : List ℕ) (room : ℕ) (small : AreBytes bytes) (t : Taken byt
       number-is-k : (k : ℕ) → k < 2 + n + nodesIn bytes → getD (numbers n counts (samplesIn bytes) few) k 0 ≡ numberAt bytes (4 * k)
       number-is-k = by-place n (nodesIn bytes) (λ k. getD (numbers n counts (samplesIn bytes) few) k 0 ≡ numberAt bytes (4 * k))
           (number-axes n counts (samplesIn bytes) few)
-          (λ a l. number-count n counts (samplesIn bytes) few a l ∙ counts-get a (omega (arith, axes-range n (t .axes-ok) .1)) ∙ count-read bytes a l)
+          (λ a l. number-count n counts (samplesIn bytes) few a l ∙ getD-tabulate 3 (countIn bytes) a 0 (omega (arith, few, length-tabulate 3 (countIn bytes))) ∙ count-read bytes a l)
           (number-many n counts (samplesIn bytes) few ∙ samples-length bytes ∙ sym (t .counted))
           (λ i l. number-sample n counts (samplesIn bytes) few i ∙ ap unsignedOf (samples-get bytes i l) ∙ unsigned-signed (numberAt bytes (4 * (2 + n + i))) (number-below bytes small (4 * (2 + n + i))))
 
@@ -129,7 +113,7 @@ module _ (bytes : List ℕ) (room : ℕ) (small : AreBytes bytes) (t : Taken byt
 
   -- writing takes it
   pub writes : (space : ℕ) → length bytes ≤ space → writeOutcome (headerIn bytes) (samplesIn bytes) space ≡ done (length bytes)
-  writes space h = rw written at (fit-writes (headerIn bytes) (samplesIn bytes) space (permitted bytes room t) (rw written h))
+  writes space h = rw written at (fit-writes (headerIn bytes) (samplesIn bytes) space (t .permitted) (rw written h))
 
 -- ---- a table that was written is read again
 
@@ -186,9 +170,15 @@ module _ (h : Header) (xs : List ℤ) (ok : Permitted h xs) where
       let u = ltb-false a m t in
       count-absent file a (omega (arith, axes-again)) ∙ sym (count-unused m (countOf h a) a (allowed a l) u))
 
+  pub header-again : headerIn file ≡ h
+  unfolding headerIn countOf tabulate
+  header-again =
+      ap₂ header axes-again
+      (rw (count-again 0 (lit< tt), count-again 1 (lit< tt), count-again 2 (lit< tt)) (tabulate-getD (h .counts) 3 0 (ok .three)))
+
   nodes-again : nodesIn file ≡ length xs
-  unfolding nodesIn nodesOf
-  nodes-again = three-span (countIn file) (countOf h) count-again ∙ sym (ok .counted)
+  unfolding nodesIn nodesOf headerIn countOf span tabulate
+  nodes-again = ap nodesOf header-again ∙ sym (ok .counted)
 
   pub samples-again : samplesIn file ≡ xs
   samples-again =
@@ -197,16 +187,10 @@ module _ (h : Header) (xs : List ℤ) (ok : Permitted h xs) where
       ∙ ap signedOf (ap (λ (k : ℕ). numberAt file (4 * (2 + k + i))) axes-again ∙ file-number (2 + m + i) ∙ number-sample m (h .counts) xs within i)
       ∙ signed-unsigned (at xs i) (fits i))
 
-  pub header-again : headerIn file ≡ h
-  unfolding headerIn countOf
-  header-again = ap₂ header axes-again (three-list (countIn file) (countOf h) count-again ∙ tabulate-getD (h .counts) 3 0 (ok .three))
-
   pub taken-again : (room : ℕ) → length xs ≤ room → Taken file room
   taken-again room r = record {
-    axes-ok = ap axesOutcome axes-again ∙ ok .axes-ok;
-    counts-ok = ap (λ (k : ℕ). countsOutcome k (countIn file)) axes-again ∙ three-test (countIn file) (countOf h) count-again m ∙ ok .counts-ok;
+    permitted = rw (header-again, samples-again) ok;
     counted = ap (λ (k : ℕ). numberAt file (4 * (1 + k))) axes-again ∙ file-number (1 + m) ∙ number-many m (h .counts) xs within ∙ sym nodes-again;
     sized = omega (arith, length-file m (h .counts) xs within, axes-again, nodes-again);
     roomy = omega (arith, nodes-again);
-    limited = ap (limitOutcome sampleLimit) samples-again ∙ ok .limited;
   }

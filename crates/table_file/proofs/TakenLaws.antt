@@ -7,21 +7,18 @@ use lib.ListN.{length}
 use Rattle.lattice.specs.Outcome.{done, first, firstOf}
 use Rattle.lattice.specs.Buffer.{tabulate}
 use Rattle.lattice.specs.Digits.{span}
-use Rattle.lattice.specs.Shape.{axesOutcome, countsOutcome}
-use Rattle.lattice.specs.Records.{sampleLimit, limitOutcome}
+use Rattle.lattice.specs.Shape.{countsOutcome}
 use Rattle.lattice.proofs.OutcomeLaws.{first-done, first-passed, done-same, first-assoc}
-use Rattle.table_file.specs.File.{Header, fileNumber, axesIn, countIn, headerIn, nodesIn, samplesIn, oneOutcome, readCheck, readOutcome, countOf, nodesOf, Permitted}
+use Rattle.table_file.specs.File.{Header, fileNumber, axesIn, headerIn, nodesIn, samplesIn, oneOutcome, readCheck, readOutcome, countOf, nodesOf, Permitted}
 use Rattle.table_file.specs.Parser.{restOutcome}
 use Rattle.table_file.proofs.ReadLaws.{one-facts, one-passes, two-facts, two-passes, rest-facts, rest-passes, samples-length}
 
 -- a file that reading takes
 pub record Taken (bytes : List ℕ) (room : ℕ) : Type 0 where
-  pub axes-ok : axesOutcome (axesIn bytes) ≡ done tt
-  pub counts-ok : countsOutcome (axesIn bytes) (countIn bytes) ≡ done tt
+  pub permitted : Permitted (headerIn bytes) (samplesIn bytes)
   pub counted : fileNumber bytes (1 + axesIn bytes) ≡ nodesIn bytes
   pub sized : length bytes ≡ 4 * (2 + axesIn bytes + nodesIn bytes)
   pub roomy : nodesIn bytes ≤ room
-  pub limited : limitOutcome sampleLimit (samplesIn bytes) ≡ done tt
 
 module _ (bytes : List ℕ) (room : ℕ) where
   pub read-is : readOutcome bytes room ≡ first (oneOutcome bytes) (first (restOutcome bytes room) (done (headerIn bytes)))
@@ -29,22 +26,21 @@ module _ (bytes : List ℕ) (room : ℕ) where
   read-is = first-assoc (oneOutcome bytes) (restOutcome bytes room) (done (headerIn bytes))
 
   pub taken : (h : Header) → readOutcome bytes room ≡ done h → Taken bytes room × (headerIn bytes ≡ h)
+  unfolding headerIn countsOutcome firstOf countOf nodesIn nodesOf span tabulate
   taken h e =
       let f = first-done (oneOutcome bytes) _ h (sym read-is ∙ e) in
       let g = first-done (restOutcome bytes room) (done (headerIn bytes)) h (f .1) in
       let one = one-facts bytes (f .0) in
       let rest = rest-facts bytes room (g .0) in
-      let two = two-facts bytes (rest .0) in (
-        record { axes-ok = one .0; counts-ok = one .1; counted = two .0; sized = two .1; roomy = rest .1; limited = rest .2 },
+      let two = two-facts bytes (rest .0) in
+      let may : Permitted (headerIn bytes) (samplesIn bytes) = record { three = refl; axes-ok = one .0; counts-ok = one .1; counted = samples-length bytes; limited = rest .2 } in (
+        record { permitted = may; counted = two .0; sized = two .1; roomy = rest .1 },
         done-same (headerIn bytes) h (g .1),
       )
 
   pub reads : Taken bytes room → readOutcome bytes room ≡ done (headerIn bytes)
+  unfolding headerIn countsOutcome firstOf countOf tabulate
   reads t =
       read-is
-      ∙ first-passed (oneOutcome bytes) _ (one-passes bytes (omega (arith, t .sized)) (t .axes-ok) (t .counts-ok))
-      ∙ first-passed (restOutcome bytes room) _ (rest-passes bytes room (two-passes bytes (t .counted) (t .sized)) (t .roomy) (t .limited))
-
-  pub permitted : Taken bytes room → Permitted (headerIn bytes) (samplesIn bytes)
-  unfolding headerIn countsOutcome firstOf countOf nodesIn nodesOf span tabulate
-  permitted t = record { three = refl; axes-ok = t .axes-ok; counts-ok = t .counts-ok; counted = samples-length bytes; limited = t .limited }
+      ∙ first-passed (oneOutcome bytes) _ (one-passes bytes (omega (arith, t .sized)) (t .permitted .axes-ok) (t .permitted .counts-ok))
+      ∙ first-passed (restOutcome bytes room) _ (rest-passes bytes room (two-passes bytes (t .counted) (t .sized)) (t .roomy) (t .permitted .limited))

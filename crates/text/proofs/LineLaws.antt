@@ -5,7 +5,7 @@ use Prim.Native.Nat.{ℕ, _+_}
 use native.Mathlib.Omega.{arith}
 use lib.IntN.{ℤ}
 use lib.ListN.{length, getD, set, length-append}
-use lib.Seq.{sets}
+use lib.Seq.{sets, length-sets}
 use Rattle.text.specs.Decimal.{decimal, signedDecimal}
 use Rattle.text.specs.Lines.{Put, word, line, indices, cellLine, refusedWord, refusedLine}
 use Rattle.lattice.proofs.BufferLaws.{sets-append}
@@ -19,6 +19,9 @@ put-then {old} {mid} {now} {t} {u} {at} {m} {end} p q = record {
   ended = omega (arith, p .ended, q .ended, length-append t u);
   written = q .written ∙ ap (λ (l : List ℕ). sets l m u) (p .written) ∙ ap (λ (k : ℕ). sets (sets old at t) k u) (p .ended) ∙ sym (sets-append t u old at);
 }
+
+pub put-length : {old text now : List ℕ} {at end : ℕ} → Put old at text now end → length now ≡ length old
+put-length {old} {text} {now} {at} p = ap length (p .written) ∙ length-sets old at text
 
 pub put-byte : (old : List ℕ) (at b : ℕ) → Put old at (b ∷ []) (set old at b) (at + 1)
 put-byte old at b = record { ended = refl; written = refl }

@@ -1,5 +1,5 @@
 -- `estimate_degree` meets its contract: the records stand at the front.
-use mathlib.Core.Path.{refl, ap, _∙_}
+use mathlib.Core.Path.{ap, _∙_}
 use Prim.Native.Nat.{ℕ}
 use native.Mathlib.Omega.{arith}
 use lib.ListN.{length, take}
@@ -10,7 +10,7 @@ use Rattle.estimate.specs.Estimate.{Estimable}
 use Rattle.estimate.proofs.CallLaws.{estimated}
 use Rattle.table_file.specs.File.{header}
 use Rattle.report.specs.Report.{shapeOf}
-use Rattle.report.proofs.DoseLaws.{front}
+use Rattle.claims.proofs.Lent.{lent}
 use borrow.Author.Needs.{needs}
 use Rattle.report.proofs.estimate_degree.Statement.{statement}
 use Rattle.report.proofs.estimate_degree.Tie as tie
@@ -28,7 +28,7 @@ returns c =
     let p = c .before .before .estimate in
     let e = c .table-entries .ensures in (
       omega (arith, known s .fits, p .kept .1 .1 .0),
-      ap (λ (k : ℕ). take k (p .last .1 .1 .0)) e ∙ ap (take (size (shape s))) (p .ensures .1) ∙ front (shape s) (now (s .args .samples)) (length (now (s .args .records))) (s .pre) (now (s .args .records)) refl,
+      ap (λ (k : ℕ). take k (p .last .1 .1 .0)) e ∙ ap (take (size (shape s))) (p .ensures .1) ∙ lent (shape s) (now (s .args .samples)) (now (s .args .records)) (s .pre),
     )
 
 pub estimate-degree-spec : {M : Type 1} → statement M

@@ -1,19 +1,18 @@
 -- `put_lines` meets its contract: after i turns the lines of the first i cells stand at the front.
 use mathlib.Core.Path.{_≡_, ap, _∙_}
 use mathlib.Core.List.{List}
-use Prim.Native.Nat.{ℕ, _-_, _*_, _≤_, _<_}
+use Prim.Native.Nat.{ℕ, _-_, _*_, _≤_}
 use native.Mathlib.Nat.{mul-le-mul}
 use native.Mathlib.Omega.{arith}
 use lib.Dec.{lit<}
 use lib.IntN.{ℤ}
-use lib.ListN.{length, getD}
-use lib.Seq.{length-sets}
+use lib.ListN.{getD}
 use denote.Ref.{now}
 use Rattle.lattice.specs.Shape.{Shaped}
 use Rattle.lattice.proofs.ShapeLaws.{shaped}
 use Rattle.table_file.specs.File.{Header, header}
 use Rattle.text.specs.Lines.{Put}
-use Rattle.text.proofs.LineLaws.{put-as}
+use Rattle.text.proofs.LineLaws.{put-as, put-length}
 use Rattle.report.specs.Report.{cellCount, cellAt, shapeOf, joined}
 use Rattle.report.specs.Parts.{Between, lineFrom, lineLimit}
 use Rattle.report.proofs.CellsLaws.{counts-between, cells-between, cell-accepted, cell-between, cell-is, total-is}
@@ -33,30 +32,27 @@ abbrev μ-loop : tie.MeasureT-loop
 μ-loop axes counts cubic quintic out₀ cells total at₀ i₀ out at i = total - i
 
 -- the table's shape and its cells
-module _ (c : tie.Start Inv-loop μ-loop) where
-  abbrev table : Header
-  table = header (c .args .axes) (c .args .counts)
+abbrev table : tie.Start Inv-loop μ-loop → Header
+table s = header (s .args .axes) (s .args .counts)
 
-  shape : Shaped (shapeOf table 3)
-  shape = shaped (shapeOf table 3) (c .pre .0 .0 .shape)
+shape : (s : tie.Start Inv-loop μ-loop) → Shaped (shapeOf (table s) 3)
+shape s = shaped (shapeOf (table s) 3) (s .pre .0 .0 .shape)
 
-module _ (c : tie.After-cells-of Inv-loop μ-loop) where
-  abbrev cells : List ℕ
-  cells = c .cells-of .result
+abbrev cells : tie.After-cells-of Inv-loop μ-loop → List ℕ
+cells c = c .cells-of .result
 
-  between : Between 1 64 cells
-  between = rw (c .cells-of .ensures) (cells-between (table (c .before .before)) 3 (shape (c .before .before)))
+between : (c : tie.After-cells-of Inv-loop μ-loop) → Between 1 64 (cells c)
+between c = rw (c .cells-of .ensures) (cells-between (table (c .before .before)) 3 (shape (c .before .before)))
 
-  few : getD cells 0 0 * (getD cells 1 0 * getD cells 2 0) ≤ 512
-  few = let e = total-is (table (c .before .before)) cells (c .cells-of .ensures) in omega (arith, c .before .before .pre .1 .0)
+few : (c : tie.After-cells-of Inv-loop μ-loop) → getD (cells c) 0 0 * (getD (cells c) 1 0 * getD (cells c) 2 0) ≤ 512
+few c = omega (arith, total-is (table (c .before .before)) (cells c) (c .cells-of .ensures), c .before .before .pre .1 .0)
 
 -- the cell of a turn
-module _ (c : tie.After-cell-at Inv-loop μ-loop) where
-  abbrev first : tie.After-cells-of Inv-loop μ-loop
-  first = c .before .before .before
+abbrev first : tie.After-cell-at Inv-loop μ-loop → tie.After-cells-of Inv-loop μ-loop
+first c = c .before .before .before
 
-  cell : c .cell-at .result ≡ cellAt (table (first .before .before)) (c .before .before .loop .i)
-  cell = c .cell-at .ensures ∙ cell-is (table (first .before .before)) (cells first) (c .before .before .loop .i) (first .cells-of .ensures)
+cell : (c : tie.After-cell-at Inv-loop μ-loop) → c .cell-at .result ≡ cellAt (table (first c .before .before)) (c .before .before .loop .i)
+cell c = c .cell-at .ensures ∙ cell-is (table (first c .before .before)) (cells (first c)) (c .before .before .loop .i) (first c .cells-of .ensures)
 
 mul-total : tie.Need-mul-total Inv-loop μ-loop
 mul-total c = let b = between c in let h : getD (cells c) 1 0 * getD (cells c) 2 0 ≤ 64 * 64 = mul-le-mul (b .most 1 (lit< tt)) (b .most 2 (lit< tt)) in omega arith
@@ -74,7 +70,7 @@ put-line-requires c κs =
       (
         rw (cell (c .before)) (cell-accepted (table s) 3 (shape s) (l .i)),
         rw (cell (c .before)) (cell-between (table s) 3 (shape s) (l .i)),
-        omega (arith, ap length (l .inv .2 .written), length-sets (now (s .args .out)) 0 (joined (l .i) (lineAt (s .args .axes) (s .args .counts) (now (s .args .cubic)) (now (s .args .quintic)))), s .pre .1 .1, l .inv .1, c .before .before .loop-test .taken),
+        omega (arith, put-length (l .inv .2), s .pre .1 .1, l .inv .1, c .before .before .loop-test .taken),
       ),
     )
 
@@ -92,12 +88,6 @@ loop-again c =
       omega (arith, p .ensures .1, l .inv .1),
       lines-more (lineAt (a .axes) (a .counts) (now (a .cubic)) (now (a .quintic))) (l .i) (l .inv .2) (put-as e (p .ensures .0)),
     )
-
-same-length : tie.Need-same-length Inv-loop μ-loop
-same-length c =
-    let l = c .before .loop in
-    let a = c .before .before .before .before .args in
-    ap length (l .inv .2 .written) ∙ length-sets (now (a .out)) 0 (joined (l .i) (lineAt (a .axes) (a .counts) (now (a .cubic)) (now (a .quintic))))
 
 returns : tie.Need-returns Inv-loop μ-loop
 returns c =
@@ -127,5 +117,5 @@ put-lines-spec =
     add-i
     (λ c. omega arith)
     loop-again
-    same-length
+    (λ c. put-length (c .before .loop .inv .2))
     returns)

@@ -1,14 +1,12 @@
 -- `put_table` meets its contract: two estimates, then the lines.
-use mathlib.Core.Path.{_≡_, sym, ap₂, _∙_}
+use mathlib.Core.Path.{sym, ap₂, _∙_}
 use mathlib.Core.List.{List}
 use lib.IntN.{ℤ}
-use lib.ListN.{take}
 use lib.Seq.{length-take-le}
 use denote.Ref.{now}
-use Rattle.estimate.specs.Estimate.{recordsOf}
 use Rattle.table_file.specs.File.{Header, header}
 use Rattle.text.proofs.LineLaws.{put-as}
-use Rattle.report.specs.Report.{shapeOf, cellLines}
+use Rattle.report.specs.Report.{shapeOf}
 use Rattle.report.specs.Parts.{linesFrom}
 use Rattle.report.proofs.DoseLaws.{answers}
 use Rattle.report.proofs.TableLaws.{cubic-taken, quintic-taken, few-cells, lines-are}
@@ -22,26 +20,6 @@ table c = header (c .args .axes) (c .args .counts)
 abbrev samples : tie.Start → List ℤ
 samples c = now (c .args .samples)
 
--- the records that are lent
-module _ (c : tie.After-put-lines-arg) where
-  abbrev start : tie.Start
-  start = c .before .before .before .before .before .before .before .before .before .before
-
-  abbrev low : List ℤ
-  low = let p = c .before .before .before .before .before .before .before .estimate-degree in take (p .result) (p .last .1 .1 .1 .1 .0)
-
-  abbrev high : List ℤ
-  high = let p = c .before .before .before .before .estimate-degree2 in take (p .result) (p .last .1 .1 .1 .1 .0)
-
-  low-is : low ≡ recordsOf (shapeOf (table start) 3) (samples start)
-  low-is = c .before .before .before .before .before .before .before .estimate-degree .ensures .1
-
-  high-is : high ≡ recordsOf (shapeOf (table start) 5) (samples start)
-  high-is = c .before .before .before .before .estimate-degree2 .ensures .1
-
-  lines : linesFrom (table start) low high ≡ cellLines (table start) (samples start)
-  lines = ap₂ (linesFrom (table start)) low-is high-is ∙ lines-are (table start) (samples start) (start .pre .0)
-
 estimate-degree-requires-2 : tie.Need-estimate-degree-requires-2
 estimate-degree-requires-2 c κs = let s = c .before .before .before .before .before in quintic-taken (table s) (samples s) (s .pre .0)
 
@@ -53,18 +31,24 @@ slice-aggregate-put-lines-2 c = let p = c .before .before .before .estimate-degr
 
 put-lines-requires : tie.Need-put-lines-requires
 put-lines-requires c κs =
-    let s = start c in (
+    let q = c .before .before .before .before in
+    let p = q .before .before .before in
+    let s = p .before .before .before in
+    let h = s .pre .0 in (
       (
-        rw (low-is c) (answers (shapeOf (table s) 3) (samples s) 4096 (cubic-taken (table s) (samples s) (s .pre .0))),
-        rw (high-is c) (answers (shapeOf (table s) 5) (samples s) 13824 (quintic-taken (table s) (samples s) (s .pre .0))),
+        rw (p .estimate-degree .ensures .1) (answers (shapeOf (table s) 3) (samples s) 4096 (cubic-taken (table s) (samples s) h)),
+        rw (q .estimate-degree2 .ensures .1) (answers (shapeOf (table s) 5) (samples s) 13824 (quintic-taken (table s) (samples s) h)),
       ),
-      (few-cells (table s) (samples s) (s .pre .0), s .pre .1),
+      (few-cells (table s) (samples s) h, s .pre .1),
     )
 
 returns : tie.Need-returns
 returns c =
-    let p = c .before .before .put-lines in
-    (put-as (lines (c .before .before .before)) (p .ensures .0), p .ensures .1)
+    let l = c .before .before in
+    let q = l .before .before .before .before .before in
+    let p = q .before .before .before in
+    let s = p .before .before .before in
+    (put-as (ap₂ (linesFrom (table s)) (p .estimate-degree .ensures .1) (q .estimate-degree2 .ensures .1) ∙ lines-are (table s) (samples s) (s .pre .0)) (l .put-lines .ensures .0), l .put-lines .ensures .1)
 
 pub put-table-spec : {M : Type 1} → statement M
 put-table-spec =

@@ -13,7 +13,7 @@ use Rattle.table_file.specs.File.{Header, header, samplesIn, readOutcome}
 use Rattle.table_file.specs.Answers.{tableMeaning}
 use Rattle.lattice.proofs.BufferLaws.{sets-front}
 use Rattle.text.specs.Lines.{refusedLine}
-use Rattle.report.specs.Report.{heldNodes, heldBytes, cellLines, reportText}
+use Rattle.report.specs.Report.{heldNodes, cellLines, reportText}
 use Rattle.report.proofs.LineLaws.{refused-low}
 use Rattle.report.proofs.InputLaws.{too-long, read-refused, read-done, held, shape, front, few-nodes}
 use borrow.Author.Needs.{needs}
@@ -24,10 +24,6 @@ use Rattle.report.proofs.report.Tie as tie
 text-put : (out text put now : List ℕ) (r : ℕ) → r ≡ length put → put ≡ text → now ≡ sets out 0 put → length put ≤ 16896 → length out ≡ 16896 → ((r ≡ length text) × (r ≤ 16896)) × (now ≡ overwrite text out)
 text-put out text put now r e t w h l =
     ((e ∙ ap length t, omega arith), w ∙ ap (sets out 0) t ∙ sets-front text out (omega (arith, ap length t)))
-
--- the input is not too long
-short-input : (c : tie.After-read) → length (now (c .before .before .before .before .args .input)) ≤ heldBytes
-short-input c = c .before .before .if1 .left
 
 -- the number of a refusal has 32 bits
 low-number : (c : tie.After-known-told) → length (refusedLine (c .before .table .given .0 .0 .number)) ≤ 19
@@ -87,7 +83,7 @@ returns-2 c =
     let r = k .before .before .before .before in
     let a = r .before .before .before .before .args in
     text-put (now (a .out)) (reportText (now (a .input))) (refusedLine (f .number)) _ (p .result) (p .ensures .0)
-    (sym (read-refused (now (a .input)) (f .number) (f .place) (short-input r) (sym (r .read .ensures .0) ∙ ap tableMeaning (k .before .table .given .1)))) (p .ensures .1)
+    (sym (read-refused (now (a .input)) (f .number) (f .place) (r .before .before .if1 .left) (sym (r .read .ensures .0) ∙ ap tableMeaning (k .before .table .given .1)))) (p .ensures .1)
     (omega (arith, low-number k)) (c .before .put-refused-line-arg2 .given .0 .1)
 
 returns-3 : tie.Need-returns-3
@@ -96,7 +92,7 @@ returns-3 c =
     let n = c .before .before .before in
     let b = n .before in
     text-put (now (start b .args .out)) (reportText (input b)) (cellLines (table b) (take (n .node-count .result) (read b .read .last .1 .0))) _ (p .result) (omega (arith, p .ensures .0 .ended))
-    (ap (cellLines (table b)) (samples-are n) ∙ sym (read-done (input b) (table b) (was-read b) (short-input (read b)))) (p .ensures .0 .written)
+    (ap (cellLines (table b)) (samples-are n) ∙ sym (read-done (input b) (table b) (was-read b) (read b .before .before .if1 .left))) (p .ensures .0 .written)
     (omega (arith, p .ensures .0 .ended, p .ensures .1)) (c .before .put-table-arg .given .0 .1)
 
 pub report-spec : {M : Type 1} → statement M

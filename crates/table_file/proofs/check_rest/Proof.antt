@@ -1,7 +1,6 @@
 -- `check_rest` meets its contract: section two, then 9, then 5 for the samples that are there.
 use mathlib.Core.Path.{_≡_, sym, ap, _∙_}
 use native.Mathlib.Omega.{arith}
-use denote.Ref.{now}
 use Rattle.lattice.specs.Answer.{meaning}
 use Rattle.lattice.specs.Outcome.{done}
 use Rattle.lattice.proofs.OutcomeLaws.{first-passed, refused-first}

@@ -2,7 +2,6 @@
 use mathlib.Core.Path.{_≡_, sym, ap, ap₂, _∙_}
 use Prim.Native.Nat.{ℕ, _+_}
 use native.Mathlib.Omega.{arith}
-use denote.Ref.{now}
 use lib.Dec.{eqb}
 use Rattle.lattice.specs.Answer.{meaning}
 use Rattle.lattice.specs.Outcome.{done, refuseUnless, first}

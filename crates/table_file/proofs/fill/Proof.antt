@@ -4,7 +4,7 @@ use mathlib.Core.Path.{_≡_, subst, _∙_}
 use Prim.Native.Nat.{ℕ, _≤_, _+_, _-_}
 use native.Mathlib.Omega.{arith}
 use lib.IntN.{ℤ, pos}
-use denote.Ref.{now}
+use lib.ListN.{length}
 use Rattle.arith.proofs.Machine.{element}
 use Rattle.lattice.proofs.BufferLaws.{Filled, filled-none, filled-more, filled-length, filled-all}
 use Rattle.table_file.specs.Numbers.{signedOf}
@@ -22,23 +22,14 @@ Inv-loop bytes start count samples₀ i₀ samples i = (i ≤ count) × Filled (
 abbrev μ-loop : tie.MeasureT-loop
 μ-loop bytes start count samples₀ i₀ samples i = count - i
 
+same : (l : tie.At-loop Inv-loop μ-loop) → length (l .loop .samples) ≡ length (l .before .before .args .samples .now)
+same l = filled-length (sample (l .before .before .args .bytes .now) (l .before .before .args .start)) _ (l .loop .i) (l .loop .samples) (omega arith) (l .loop .inv .1)
+
 loop-again : tie.Need-loop-again Inv-loop μ-loop
 loop-again c =
     let a = c .before .before .before .before .args in
     let l = c .before .before .loop in
     (omega arith, filled-more (sample (a .bytes .now) (a .start)) (a .samples .now) (l .i) (l .samples) _ (pos 0) (omega arith) (l .inv .1) (element _ (c .sample-at .ok) ∙ c .sample-at .ensures))
-
-same-length : tie.Need-same-length Inv-loop μ-loop
-same-length c =
-    let a = c .before .before .before .args in
-    let l = c .before .loop in
-    filled-length (sample (a .bytes .now) (a .start)) (a .samples .now) (l .i) (l .samples) (omega arith) (l .inv .1)
-
-slice-set-from-x : tie.Need-slice-set-from-x Inv-loop μ-loop
-slice-set-from-x c =
-    let a = c .before .before .before .before .args in
-    let l = c .before .before .loop in
-    omega (arith, filled-length (sample (a .bytes .now) (a .start)) (a .samples .now) (l .i) (l .samples) (omega arith) (l .inv .1))
 
 returns : tie.Need-returns Inv-loop μ-loop
 unfolding samplesFrom
@@ -59,9 +50,9 @@ fill-spec =
     (λ c. omega arith)
     (λ c κs. omega arith)
     (λ c. omega arith)
-    slice-set-from-x
+    (λ c. omega (arith, same (c .before .before)))
     (λ c. omega arith)
     (λ c. omega arith)
     loop-again
-    same-length
+    (λ c. same (c .before))
     returns)

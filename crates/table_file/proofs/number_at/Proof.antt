@@ -1,6 +1,5 @@
 -- `number_at` meets its contract: two pairs of bytes, the lower first.
 use native.Mathlib.Omega.{arith}
-use denote.Ref.{now}
 use Prim.Native.Nat.{_*_}
 use Rattle.table_file.proofs.NumberLaws.{number-is}
 use Rattle.table_file.proofs.number_at.Statement.{statement}

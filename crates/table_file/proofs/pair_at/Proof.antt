@@ -3,7 +3,6 @@ use mathlib.Core.Path.{refl}
 use Prim.Native.Nat.{_+_, _<_}
 use native.Mathlib.Omega.{arith}
 use lib.ListN.{getD}
-use denote.Ref.{now}
 use Rattle.table_file.proofs.pair_at.Statement.{statement}
 use Rattle.table_file.proofs.pair_at.Tie as tie
 

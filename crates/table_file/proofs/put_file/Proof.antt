@@ -2,7 +2,6 @@
 use Prim.Native.Nat.{_≤_}
 use native.Mathlib.Omega.{arith}
 use lib.ListN.{length}
-use denote.Ref.{now}
 use Rattle.table_file.proofs.WriteLaws.{length-file, file-put}
 use borrow.Author.Needs.{needs}
 use Rattle.table_file.proofs.put_file.Statement.{statement}

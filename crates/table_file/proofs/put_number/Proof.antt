@@ -3,7 +3,6 @@ use Rattle.table_file.proofs.NumberLaws.{stores-are}
 use Prim.Native.Nat.{_*_}
 use native.Mathlib.Omega.{arith}
 use lib.ListN.{length-set}
-use denote.Ref.{now}
 use borrow.Author.Needs.{needs}
 use Rattle.table_file.proofs.put_number.Statement.{statement}
 use Rattle.table_file.proofs.put_number.Tie as tie

@@ -4,7 +4,6 @@ use Prim.Native.Nat.{_≤_, _+_, _-_, _*_}
 use native.Mathlib.Omega.{arith}
 use lib.ListN.{length, take}
 use lib.Seq.{sets}
-use denote.Ref.{now}
 use Rattle.table_file.specs.Numbers.{bytesOfAll}
 use Rattle.table_file.specs.File.{sectionOne}
 use Rattle.table_file.proofs.WriteLaws.{put-first, put-next}

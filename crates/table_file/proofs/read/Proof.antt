@@ -4,7 +4,6 @@ use mathlib.Core.Path.{_≡_, sym, ap, _∙_}
 use native.Mathlib.Omega.{arith}
 use lib.IntN.{ℤ}
 use lib.ListN.{length}
-use denote.Ref.{now}
 use Rattle.lattice.specs.Answer.{meaning}
 use Rattle.lattice.specs.Buffer.{overwrite}
 use Rattle.lattice.specs.Outcome.{done}
