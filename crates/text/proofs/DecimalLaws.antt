@@ -9,11 +9,7 @@ use borrow.Author.Tests.{ltb-true, ltb-false, le-ltb, lt-ltb}
 use lib.Dec.{ltb}
 use lib.IntN.{ℤ, pos, negsuc, natAbs}
 use lib.ListN.{length, length-append}
-use lib.Signed.{ltZ, mag}
-use mir.Syntax.{w32, w64}
-use mir.Val.{toZ, ofZ}
-use mir.Facts.{toZ-pos}
-use Rattle.arith.proofs.Machine.{widened}
+use lib.Signed.{ltZ}
 use Rattle.arith.proofs.Choices.{pick-true, pick-false, split}
 use Rattle.text.specs.Decimal.{digits, decimal, signedDecimal}
 
@@ -49,16 +45,13 @@ one-length n h = ap length (one-digit n h)
 pub more-length : (n : ℕ) → 10 ≤ n → length (decimal n) ≡ length (decimal (n / 10)) + 1
 more-length n h = ap length (more-digits n h) ∙ length-append (decimal (n / 10)) ((48 + n % 10) ∷ [])
 
-tenth : (n m : ℕ) → n < m * 10 → n / 10 < m
-tenth n m h = omega arith
-
 -- a number below 10 ^ (k + 1) has at most k + 1 digits
 pub decimal-short : (k n : ℕ) → n < 10 ^ suc k → length (decimal n) ≤ suc k
 decimal-short zero n h = omega (arith, one-length n h)
 decimal-short (suc k) n h =
     split (ltb n 10)
     (λ t. omega (arith, one-length n (ltb-true n 10 t)))
-    (λ t. omega (arith, more-length n (ltb-false n 10 t), decimal-short k (n / 10) (tenth n (10 ^ suc k) (rw (pow-suc 10 (suc k)) at h))))
+    (λ t. omega (arith, more-length n (ltb-false n 10 t), decimal-short k (n / 10) (let l = rw (pow-suc 10 (suc k)) at h in omega arith)))
 
 pub signed-short : (k : ℕ) (x : ℤ) → natAbs x < 10 ^ suc k → length (signedDecimal x) ≤ suc (suc k)
 unfolding signedDecimal
@@ -76,12 +69,3 @@ pub not-below : (x : ℤ) → ltZ x (pos 0) ≡ false → signedDecimal x ≡ de
 unfolding signedDecimal
 not-below (pos n) e = refl
 not-below (negsuc n) e = cc
-
--- ---- as the machine holds them
-
-pub natural : (n : ℕ) → n < 4294967296 → signedDecimal (toZ w64 n) ≡ decimal n
-unfolding signedDecimal
-natural n h = ap signedDecimal (toZ-pos w64 {n = n} (omega arith))
-
-pub lent : (x : ℤ) → mag x < 2 ^ 31 → signedDecimal (toZ w64 (ofZ w64 (toZ w32 (ofZ w32 x)))) ≡ signedDecimal x
-lent x h = ap signedDecimal (widened x h)

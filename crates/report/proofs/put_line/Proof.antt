@@ -1,5 +1,5 @@
 -- `put_line` meets its contract: two doses and a line.
-use mathlib.Core.Path.{_≡_, ap, _∙_}
+use mathlib.Core.Path.{_≡_, ap₂, _∙_}
 use Prim.Native.Nat.{_≤_}
 use native.Mathlib.Omega.{arith}
 use lib.IntN.{ℤ}
@@ -36,9 +36,7 @@ module _ (c : tie.After-dose-at2) where
 
   line : cellLine (start .args .cell) low high ≡ lineFrom (header (start .args .axes) (start .args .counts)) (now (start .args .cubic)) (now (start .args .quintic)) (start .args .cell)
   unfolding lineFrom
-  line =
-      rw (element (c .before .dose-at .result) (c .before .dose-at .ok), element (c .dose-at2 .result) (c .dose-at2 .ok))
-      (ap (λ (z : ℤ). cellLine (start .args .cell) z (c .dose-at2 .result)) (c .before .dose-at .ensures) ∙ ap (cellLine (start .args .cell) _) (c .dose-at2 .ensures))
+  line = ap₂ (cellLine (start .args .cell)) (element _ (c .before .dose-at .ok) ∙ c .before .dose-at .ensures) (element _ (c .dose-at2 .ok) ∙ c .dose-at2 .ensures)
 
 dose-at-requires-2 : tie.Need-dose-at-requires-2
 dose-at-requires-2 c κs = let b = c .before .before in (b .pre .0 .1, any-degree (header (b .args .axes) (b .args .counts)) 3 5 (b .args .cell) (b .pre .1 .0))

@@ -1,12 +1,11 @@
 -- `put_bytes` meets its contract. The invariant: the first i bytes stand from `at` on.
 use mathlib.Core.List.{List}
-use lib.ListN.{take}
 use lib.Seq.{sets, take-length}
 use Rattle.lattice.proofs.BufferLaws.{sets-next}
 use mathlib.Core.Path.{_≡_, refl, ap, _∙_}
 use Prim.Native.Nat.{ℕ, _≤_, _+_, _-_}
 use native.Mathlib.Omega.{arith}
-use lib.ListN.{length, getD, set, length-set}
+use lib.ListN.{take, length, getD, set, length-set}
 use Rattle.text.proofs.put_bytes.Statement.{statement}
 use Rattle.text.proofs.put_bytes.Tie as tie
 

@@ -1,16 +1,14 @@
 -- `put_cell_line` meets its contract: the indices and two words.
 use mathlib.Core.Path.{_≡_, ap}
-use mathlib.Core.List.{List}
 use Prim.Native.Nat.{ℕ}
 use native.Mathlib.Omega.{arith}
 use lib.IntN.{ℤ}
 use lib.ListN.{length}
 use mir.Syntax.{w32, w64}
 use mir.Val.{SFits, toZ, ofZ}
-use Rattle.arith.proofs.Machine.{widen-fits}
+use Rattle.arith.proofs.Machine.{widen-fits, widened}
 use Rattle.text.specs.Decimal.{signedDecimal}
 use Rattle.text.specs.Lines.{word}
-use Rattle.text.proofs.DecimalLaws.{lent}
 use Rattle.text.proofs.LineLaws.{put-as, put-then, cell-is, cell-length}
 use borrow.Author.Needs.{needs}
 use Rattle.text.proofs.put_cell_line.Statement.{statement}
@@ -18,7 +16,7 @@ use Rattle.text.proofs.put_cell_line.Tie as tie
 
 -- the word of a dose as it was lent
 same : (x : ℤ) (b : ℕ) → SFits w32 x → word (signedDecimal (toZ w64 (ofZ w64 (toZ w32 (ofZ w32 x))))) b ≡ word (signedDecimal x) b
-same x b f = ap (λ (w : List ℕ). word w b) (lent x (f .sfits))
+same x b f = ap (λ (y : ℤ). word (signedDecimal y) b) (widened x (f .sfits))
 
 put-word-requires-2 : tie.Need-put-word-requires-2
 put-word-requires-2 c κs =
