@@ -26,7 +26,7 @@ use Rattle.cell.specs.Cell.{cornerPlace, cornerEntries, entryOutcome, co
 use Rattle.cell.proofs.CellLaws.{Numbers, placed, placed-none, entry-at, entry-below, number-is}
 
 -- the orders of an entry
-digits-total : (m n e : ℕ) → 2 ≤ m → m ≤ 3 → 1 ≤ n → n ≤ 3 → e < m ^ n → total n (digit (λ b. m) e) ≡ e % m + (e / m % m + e / m / m)
+pub digits-total : (m n e : ℕ) → 2 ≤ m → m ≤ 3 → 1 ≤ n → n ≤ 3 → e < m ^ n → total n (digit (λ b. m) e) ≡ e % m + (e / m % m + e / m / m)
 unfolding total digit
 digits-total m n e a b low high =
     by-m (λ (m : ℕ). e < m ^ n → total n (digit (λ b. m) e) ≡ e % m + (e / m % m + e / m / m))

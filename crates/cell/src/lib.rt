@@ -126,7 +126,7 @@ pub fn lay_out(s: Shape, cell: [u32; 3]) -> Layout
 }
 
 // The limits of the entries of a record.
-fn entry_limits(m: usize) -> [i32; 27]
+pub fn entry_limits(m: usize) -> [i32; 27]
     requires { ⌜ (2 ≤ m) × (m ≤ 3) ⌝ }
     ensures { λ r. ⌜ ((e : ℕ) → e < m ^ 3 → at r e ≡ pos (limitOf m e)) ⌝ }
 {

@@ -1,7 +1,7 @@
 -- What follows from a call that is not refused before 5 or 13; and that the array of a cell's coefficients is the list of them.
-use mathlib.Core.Path.{_≡_, sym, ap, _∙_}
+use mathlib.Core.Path.{_≡_, sym, subst, _∙_}
 use mathlib.Core.List.{List}
-use Prim.Native.Nat.{ℕ, _*_, _^_, _≤_, _<_}
+use Prim.Native.Nat.{ℕ, _*_, _≤_, _<_}
 use native.Mathlib.Omega.{arith}
 use lib.Dec.{leb, eqb}
 use lib.IntN.{ℤ}
@@ -12,7 +12,7 @@ use Rattle.lattice.specs.Outcome.{done, refuseUnless, first}
 use Rattle.lattice.specs.Buffer.{at, tabulate}
 use Rattle.lattice.specs.Digits.{digit}
 use Rattle.lattice.specs.Shape.{orders, ordersOf, entries, size, axesOutcome, degreeOutcome, shapeOutcome, Shaped}
-use Rattle.lattice.specs.Axes.{Place, origin}
+use Rattle.lattice.specs.Axes.{Place}
 use Rattle.lattice.specs.Records.{recordsField}
 use Rattle.lattice.proofs.OutcomeLaws.{first-done, refuse-done}
 use Rattle.lattice.proofs.ShapeLaws.{shaped, orders-range}
@@ -20,9 +20,8 @@ use Rattle.cell.specs.declared.Layout.{Layout}
 use Rattle.cell.specs.Cell.{placeAt, cellOutcome, Accepted, Laid}
 use Rattle.cell.specs.Coefficients.{coefficients}
 use Rattle.cell.proofs.CellLaws.{accepted}
-use Rattle.coefficients.specs.declared.Block.{Block}
-use Rattle.coefficients.specs.Corners.{coefficientCount, coefficientList, askedOutcome, cornerEntry, numbersOutcome}
-use Rattle.coefficients.specs.Blocks.{Sized, gathered}
+use Rattle.coefficients.specs.Corners.{coefficientCount, coefficientList, askedOutcome, numbersOutcome}
+use Rattle.coefficients.specs.Blocks.{gathered, wanted}
 use Rattle.lattice.proofs.BufferLaws.{tabulate-same}
 use Rattle.lattice.proofs.DigitsLaws.{digits-in}
 use Rattle.coefficients.proofs.TableCell.{cell-same, gathered-is}
@@ -70,27 +69,14 @@ numbered n degree given room h =
       roomy = leb-true k room (refuse-done (leb k room) 9 0 (c .1));
     }
 
--- the coefficients by the sizes of a block
-abbrev of-block : ℕ → ℕ → ℕ → Layout → List ℤ → ℕ → ℤ
-of-block m n e l rs K = coefficients m n origin (λ t. gathered e l rs (cornerEntry m n t)) (digit (λ a. 2 * m) K)
-
-module _ (s : Shape) (ok : Shaped s) (cell : Place) (here : Accepted s cell) (rs : List ℤ) (many : length rs ≡ size s) (l : Layout) (laid : Laid s cell l) (b : Block) (sized : Sized b) (axes-are : b .axes ≡ s .axes) (orders-are : b .orders ≡ orders s) where
-  entries-same : b .entries ≡ entries s
-  unfolding entries
-  entries-same = sized .entries-are ∙ ap (λ (k : ℕ). k ^ b .axes) orders-are ∙ ap (λ (k : ℕ). orders s ^ k) axes-are
-
-  pub count-same : coefficientCount (b .orders) (b .axes) ≡ coefficientCount (orders s) (s .axes)
-  count-same = ap (λ (k : ℕ). (2 * k) ^ b .axes) orders-are ∙ ap (λ (k : ℕ). (2 * orders s) ^ k) axes-are
-
-  pub list-is : (xs : List ℤ) → ((K : ℕ) → K < coefficientCount (b .orders) (b .axes) → at xs K ≡ of-block (b .orders) (b .axes) (b .entries) l rs K)
-      → tabulate (coefficientCount (b .orders) (b .axes)) (at xs) ≡ coefficientList (orders s) (s .axes) cell (recordsField s rs)
-  unfolding coefficientList
+module _ (s : Shape) (ok : Shaped s) (cell : Place) (here : Accepted s cell) (rs : List ℤ) (many : length rs ≡ size s) (l : Layout) (laid : Laid s cell l) where
+  pub list-is : (xs : List ℤ) → ((K : ℕ) → K < coefficientCount (l .orders) (s .axes) → at xs K ≡ wanted (l .orders) (s .axes) l rs K)
+      → tabulate (coefficientCount (orders s) (s .axes)) (at xs) ≡ coefficientList (orders s) (s .axes) cell (recordsField s rs)
+  unfolding coefficientList entries
   list-is xs h =
-      ap (λ (k : ℕ). tabulate k (at xs)) count-same
-      ∙ tabulate-same (coefficientCount (orders s) (s .axes)) (at xs) (λ K. coefficients (orders s) (s .axes) cell (recordsField s rs) (digit (λ a. 2 * orders s) K))
-      (λ K q. h K (rw count-same q)
-      ∙ ap (λ (m : ℕ). of-block m (b .axes) (b .entries) l rs K) orders-are ∙ ap (λ (n : ℕ). of-block (orders s) n (b .entries) l rs K) axes-are ∙ ap (λ (e : ℕ). of-block (orders s) (s .axes) e l rs K) entries-same
-      ∙ sym (cell-same s ok cell here (recordsField s rs) (gathered (entries s) l rs) (gathered-is s ok cell here rs many l laid) (digit (λ a. 2 * orders s) K) (digits-in (s .axes) (2 * orders s) K (two (orders s) (orders-range (s .degree) .0)) q)))
+      let f = subst (λ (m : ℕ). (K : ℕ) → K < coefficientCount m (s .axes) → at xs K ≡ wanted m (s .axes) l rs K) (laid .orders-are) h in
+      tabulate-same (coefficientCount (orders s) (s .axes)) (at xs) (λ K. coefficients (orders s) (s .axes) cell (recordsField s rs) (digit (λ a. 2 * orders s) K))
+      (λ K q. f K q ∙ sym (cell-same s ok cell here (recordsField s rs) (gathered (entries s) l rs) (gathered-is s ok cell here rs many l laid) (digit (λ a. 2 * orders s) K) (digits-in (s .axes) (2 * orders s) K (two (orders s) (orders-range (s .degree) .0)) q)))
     where
       two : (m : ℕ) → 2 ≤ m → 0 < 2 * m
       two m h = omega arith

@@ -15,14 +15,14 @@ use Rattle.arith.proofs.Quote.{quotes}
 use Rattle.lattice.specs.Buffer.{at}
 use Rattle.lattice.specs.Digits.{number, digit}
 use Rattle.lattice.specs.Axes.{Place, Field, Rule, origin, sweep, axes}
-use Rattle.lattice.proofs.Along.{Linear, reads-only, Each, each-axes, distinct-axes, sweep-fuse, multiply, sweep-multiply}
+use Rattle.lattice.proofs.Along.{Each, each-axes, distinct-axes, sweep-fuse, multiply, sweep-multiply}
 use Rattle.lattice.proofs.BufferLaws.{length-tabulate, getD-tabulate}
 use Rattle.hermite.specs.Hermite.{forward, backward}
 use Rattle.hermite.proofs.HermiteLaws.{forward-linear}
 use Rattle.hermite.proofs.BackLaws.{backward-linear, back-forth, forth-back}
 use Rattle.cell.specs.Coefficients.{coefficients}
 use Rattle.coefficients.specs.Corners.{coefficientCount, coefficientList, cornerNumbers, cornerEntry, cornersField, HasCoefficients, coefficientsField, doubledEntry}
-use Rattle.lattice.proofs.Local.{Carries, Paired, sweep-carries}
+use Rattle.lattice.proofs.Local.{Carries, Depends, linear-depends, Paired, sweep-carries}
 use Rattle.lattice.proofs.DigitsLaws.{Digits, digits-in, number-in, of-digits, of-number}
 use Rattle.coefficients.proofs.NumberLaws.{numbers-in, entry-in, numbers-entry, entry-numbers}
 
@@ -44,10 +44,9 @@ module _ (n w : ℕ) where
       one : (a : ℕ) → Same n w a (p a) (p a)
       one a = record { is = refl; low = d .used a; none = d .unused a }
 
-  -- what a linear rule reads is below w
-  pub linear-carries : {R : Rule} (L : Linear R) → ((j t : ℕ) → j < w → t < L .width → L .place j t < w) → (a : ℕ) → a < n → Carries R R (Same n w a) (Same n w a)
-  linear-carries {R} L h a l x y j k s eq =
-      reads-only L x y j (λ t r. eq (L .place j t) (L .place j t) (record { is = refl; low = λ _. h j t (s .low l) r; none = λ b. absurd (apart b) })) ∙ ap (R y) (s .is)
+  -- a rule that depends on what is below w
+  pub depends-carries : {R : Rule} → Depends R (λ j. j < w) (λ t. t < w) → (a : ℕ) → a < n → Carries R R (Same n w a) (Same n w a)
+  depends-carries {R} dep a l x y j k s eq = dep x y j (s .low l) (λ t h. eq t t (record { is = refl; low = λ _. h; none = λ b. absurd (apart b) })) ∙ ap (R y) (s .is)
     where
       apart : n ≤ a → ⊥
       apart b = omega arith
@@ -62,13 +61,13 @@ module _ (n w : ℕ) where
 module _ (m n : ℕ) (m2 : 2 ≤ m) (m3 : m ≤ 3) where
   pub forward-agree : (g h : Field) → ((p : Place) → Digits n (2 * m) p → g p ≡ h p) → (p : Place) → Digits n (2 * m) p → coefficients m n origin g p ≡ coefficients m n origin h p
   unfolding coefficients forward-linear
-  forward-agree = agree n (2 * m) (λ a. forward m 0) (each-axes n _ (λ a l. linear-carries n (2 * m) (forward-linear m 0) (λ j t p q. omega arith) a l))
+  forward-agree = agree n (2 * m) (λ a. forward m 0) (each-axes n _ (λ a l. depends-carries n (2 * m) (linear-depends (forward-linear m 0) (λ j t p q. omega arith)) a l))
 
   pub backward-agree : (g h : Field) → ((p : Place) → Digits n (2 * m) p → g p ≡ h p) → (p : Place) → Digits n (2 * m) p → sweep (axes n) (λ a. backward m) g p ≡ sweep (axes n) (λ a. backward m) h p
   unfolding backward-linear
   backward-agree =
       agree n (2 * m) (λ a. backward m)
-      (each-axes n _ (λ a l. linear-carries n (2 * m) (backward-linear m) (λ j t p q. on-pick (λ (k : ℕ). k < 2 * m) (ltb j m) t (2 * m - 1 - t) (λ e. omega arith) (λ e. omega arith)) a l))
+      (each-axes n _ (λ a l. depends-carries n (2 * m) (linear-depends (backward-linear m) (λ j t p q. on-pick (λ (k : ℕ). k < 2 * m) (ltb j m) t (2 * m - 1 - t) (λ e. omega arith) (λ e. omega arith))) a l))
 
   -- a rule that doubles where the digits are below 2m
   doubles : (R : Rule) → ((x : ℕ → ℤ) (t : ℕ) → t < 2 * m → R x t ≡ pos 2 *ℤ x t) → (g : Field) (p : Place) → Digits n (2 * m) p → sweep (axes n) (λ a. R) g p ≡ pos 2 ^ℤ n *ℤ g p

@@ -2,9 +2,8 @@ pub mod NumberLaws
 pub mod Inverse
 pub mod Sizes
 pub mod Whole
-pub mod BlockLaws
-pub mod TableLaws
 pub mod SpotLaws
+pub mod BlockLaws
 pub mod ConvertLaws
 pub mod FillLaws
 pub mod TableCell

@@ -3,7 +3,8 @@ use mathlib.Core.Path.{_≡_, refl, sym, ap, subst, _∙_, fun-ext}
 use mathlib.Core.Bool.{Bool}
 use mathlib.Core.List.{List}
 use Prim.Native.Nat.{ℕ, zero, suc, _+_, _*_, _-_, _%_, _^_, _≤_, _<_, zero-le}
-use native.Mathlib.Nat.{add-zero, add-suc, le-refl, mul-comm}
+use native.Mathlib.Nat.{add-zero, add-suc, le-refl, mul-comm, not-suc-le-zero}
+use native.Mathlib.Numerals.{add-one}
 use native.Mathlib.Decide.{ℕ-discrete, decLt}
 use native.Mathlib.Omega.{arith}
 use lib.Dec.{ltb, lit≤}
@@ -123,6 +124,32 @@ pub scatter-length : (place : ℕ → ℕ) (f : ℕ → ℤ) (old : List ℤ) (k
 unfolding scatter
 scatter-length place f old zero = refl
 scatter-length place f old (suc k) = length-set (scatter k place f old) (place k) (f k) ∙ scatter-length place f old k
+
+-- what stands at a place that is written once, and at one that is not
+pub scatter-off : (place : ℕ → ℕ) (f : ℕ → ℤ) (old : List ℤ) (i n : ℕ) → ((k : ℕ) → k < n → i ≡ place k → ⊥) → at (scatter n place f old) i ≡ at old i
+unfolding scatter
+scatter-off place f old i zero h = refl
+scatter-off place f old i (suc n) h = getD-set-other (scatter n place f old) (place n) i (f n) (pos 0) (h n (omega arith)) ∙ scatter-off place f old i n (λ k l. h k (omega arith))
+
+pub scatter-at : (place : ℕ → ℕ) (f : ℕ → ℤ) (old : List ℤ) (k n : ℕ) → k < n → place k < length old → ((j : ℕ) → place k ≡ place j → k ≡ j) → at (scatter n place f old) (place k) ≡ f k
+unfolding scatter
+scatter-at place f old k zero l room one = absurd (not-suc-le-zero l)
+scatter-at place f old k (suc n) l room one = go (λ h. scatter-at place f old k n h room one) (ℕ-discrete k n)
+  where
+    go : (k < n → at (scatter n place f old) (place k) ≡ f k) → Dec (k ≡ n) → at (set (scatter n place f old) (place n) (f n)) (place k) ≡ f k
+    go before (yes e) = rw e (getD-set-same (scatter n place f old) (place n) (f n) (pos 0) (rw (scatter-length place f old n) (subst (λ (i : ℕ). place i < length old) e room)))
+    go before (no e) = getD-set-other (scatter n place f old) (place n) (place k) (f n) (pos 0) (λ p. e (one n p)) ∙ before (omega arith)
+
+-- one number more, as code writes it
+pub scatter-more : (place : ℕ → ℕ) (f : ℕ → ℤ) (old now : List ℤ) (k p : ℕ) (v : ℤ) → now ≡ scatter k place f old → p ≡ place k → v ≡ f k → set now p v ≡ scatter (k + 1) place f old
+unfolding scatter
+scatter-more place f old now k p v e q h = rw (e, q, h) (ap (λ (i : ℕ). scatter i place f old) (sym (add-one k)))
+
+-- some numbers, then more
+pub scatter-add : (place : ℕ → ℕ) (f : ℕ → ℤ) (old : List ℤ) (i n : ℕ) → scatter n (λ k. place (i + k)) (λ k. f (i + k)) (scatter i place f old) ≡ scatter (i + n) place f old
+unfolding scatter
+scatter-add place f old i zero = ap (λ (k : ℕ). scatter k place f old) (sym (add-zero i))
+scatter-add place f old i (suc n) = ap (λ (xs : List ℤ). set xs (place (i + n)) (f (i + n))) (scatter-add place f old i n) ∙ ap (λ (k : ℕ). scatter k place f old) (sym (add-suc i n))
 
 -- a test that only one more number passes
 next-test : (i k : ℕ) → (i ≡ k → ⊥) → ltb i (suc k) ≡ ltb i k

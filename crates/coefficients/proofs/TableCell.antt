@@ -29,9 +29,8 @@ use Rattle.cell.specs.Cell.{cornerPlace, cornerEntries, entryOutcome, cornersOu
 use Rattle.cell.specs.Coefficients.{coefficients}
 use Rattle.cell.proofs.CellLaws.{placed, laid-small}
 use Rattle.cell.proofs.CornerLaws.{corner-index, corner-below, corners-within}
-use Rattle.coefficients.specs.declared.Block.{Block}
 use Rattle.coefficients.specs.Corners.{coefficientCount, coefficientList, cornersField, cornerNumbers, cornerEntry}
-use Rattle.coefficients.specs.Blocks.{Sized, gathered, Gathered}
+use Rattle.coefficients.specs.Blocks.{gathered, Gathered}
 use Rattle.lattice.proofs.BufferLaws.{tabulate-same}
 use Rattle.lattice.proofs.DigitsLaws.{Digits, digits-in}
 use Rattle.coefficients.proofs.NumberLaws.{count-split, corner-low, numbers-in, numbers-entry, entry-in}
@@ -157,20 +156,13 @@ module _ (s : Shape) (ok : Shaped s) (cell : Place) (here : Accepted s cell) whe
         let he = mod-lt i (entries-pos s) in
         sym (ap (λ (k : ℕ). at rs (k + i % entries s)) (start-is (i / entries s)) ∙ ap (at rs) (sym (corner-index s ok cell here (i / entries s) (i % entries s) hc he)) ∙ ap (λ (k : ℕ). at rs (entryIndex s (cornerPlace s cell k))) (div-add-mod i (entries s)))
 
-    pub corners-gathered : cornersOutcome s rs cell ≡ done tt → (b : Block) → Sized b → b .axes ≡ s .axes → b .orders ≡ orders s → Gathered b l rs
+    pub corners-gathered : cornersOutcome s rs cell ≡ done tt → Gathered (orders s) (s .axes) l rs
     unfolding entries
-    corners-gathered passed b sized ha ho = record { small = laid-small s cell l ok here laid; inside = inside; within = within }
+    corners-gathered passed = record { small = laid-small s cell l ok here laid; inside = inside; within = λ i h. le-trans (le-of-eq (ap natAbs (sym (gathered-is i h)))) (corner-permitted rs passed i h) }
       where
-        entries-same : b .entries ≡ orders s ^ s .axes
-        entries-same = sized .entries-are ∙ ap (λ (k : ℕ). k ^ b .axes) ho ∙ ap (λ (k : ℕ). orders s ^ k) ha
-
-        inside : (c : ℕ) → c < 2 ^ b .axes → startOf l c + b .entries ≤ length rs
+        inside : (c : ℕ) → c < 2 ^ s .axes → startOf l c + orders s ^ s .axes ≤ length rs
         inside c h =
             let p = entries-pos s in
-            let k = corner-below s ok cell here c (entries s - 1) (subst (λ (n : ℕ). c < 2 ^ n) ha h) (omega arith) in
+            let k = corner-below s ok cell here c (entries s - 1) h (omega arith) in
             let e = start-is c in
-            let f = entries-same in
             omega arith
-
-        within : (i : ℕ) → i < coefficientCount (b .orders) (b .axes) → natAbs (gathered (b .entries) l rs i) ≤ entryLimit (b .orders) (b .axes) (cornerNumbers (b .orders) (b .axes) i)
-        within i = rw (entries-same, ha, ho) (λ h. le-trans (le-of-eq (ap natAbs (sym (gathered-is i h)))) (corner-permitted rs passed i h))

@@ -1,31 +1,29 @@
--- How the code works a cell off, corner by corner: a corner's block of numbers is converted along each axis by one table, with the corner's signs.
+-- How the code works a cell off, corner by corner: a corner's block of numbers is converted along each axis by the rule of the corner's end there.
 use mathlib.Core.Path.{_≡_}
 use Prim.Native.Nat.{ℕ, zero, suc, _+_, _*_, _-_, _/_, _%_, _^_, _≤_, _<_}
+use mathlib.Core.Bool.{Bool}
 use mathlib.Core.List.{List}
 use lib.Dec.{ltb, eqb}
-use lib.IntN.{ℤ, pos, _*ℤ_, natAbs}
+use lib.IntN.{ℤ, pos, natAbs}
 use lib.ListN.{length, set}
 use Rattle.arith.specs.Choice.{pick}
-use Rattle.arith.specs.Sum.{sum}
 use Rattle.lattice.specs.Buffer.{at}
 use Rattle.lattice.specs.Digits.{number, digit}
-use Rattle.lattice.specs.Axes.{Rule, Place, sweep, axes}
-use Rattle.lattice.specs.Flat.{pass}
-use Rattle.hermite.specs.Hermite.{multiplier, turned, solved}
+use Rattle.lattice.specs.Axes.{Rule, Place, origin, sweep, axes}
+use Rattle.lattice.specs.Records.{entryLimit}
+use Rattle.hermite.specs.Hermite.{endRule}
 use Rattle.cell.specs.declared.Layout.{Layout}
 use Rattle.cell.specs.Cell.{startOf, Small}
-use Rattle.lattice.specs.Records.{entryLimit}
+use Rattle.cell.specs.Coefficients.{coefficients}
 use Rattle.coefficients.specs.Corners.{coefficientCount, cornerNumbers, cornerEntry}
-use Rattle.coefficients.specs.declared.Block.{Block}
 
--- the sizes of a corner's block: n axes, m orders, m^n entries in m^(n-1) groups
-pub record Sized (b : Block) : Type 0 where
-  pub axes-low : 1 ≤ b .axes
-  pub axes-high : b .axes ≤ 3
-  pub orders-low : 2 ≤ b .orders
-  pub orders-high : b .orders ≤ 3
-  pub entries-are : b .entries ≡ b .orders ^ b .axes
-  pub groups-are : b .orders * b .groups ≡ b .entries
+-- the sizes of a corner's block: m orders, n axes, m^n numbers in r groups
+pub record Sizes (m n r : ℕ) : Type 0 where
+  pub orders-low : 2 ≤ m
+  pub orders-high : m ≤ 3
+  pub axes-low : 1 ≤ n
+  pub axes-high : n ≤ 3
+  pub groups-are : m * r ≡ m ^ n
 
 -- ---- where a corner's coefficients stand
 
@@ -45,53 +43,28 @@ spot m c k = number 3 (λ b. 2 * m) (λ a. mirror m (blockNumbers m c k a))
 unfoldable pub gathered : ℕ → Layout → List ℤ → ℕ → ℤ
 gathered size l rs i = at rs (startOf l (i / size) + i % size)
 
--- ---- signs
-
--- a number of order o as end e sees it
-unfoldable pub seen : ℕ → ℕ → ℤ → ℤ
-seen e o z = pick (eqb e 0) z (turned o z)
-
--- number k of the block of corner c, with its sign along each axis
-unfoldable pub signed : ℕ → ℕ → ℕ → ℤ → ℤ
-signed m c k z =
-    seen (digit (λ b. 2) c 2) (digit (λ b. m) k 2) (seen (digit (λ b. 2) c 1) (digit (λ b. m) k 1) (seen (digit (λ b. 2) c 0) (digit (λ b. m) k 0) z))
+-- coefficient K of the corner records that lie in the records
+abbrev pub wanted : ℕ → ℕ → Layout → List ℤ → ℕ → ℤ
+wanted m n l rs K = coefficients m n origin (λ t. gathered (m ^ n) l rs (cornerEntry m n t)) (digit (λ a. 2 * m) K)
 
 -- ---- conversion
 
--- the rule of a table of rows of three
-unfoldable pub tabled : ℕ → (ℕ → ℤ) → Rule
-tabled m T x k = sum m (λ o. T (3 * k + o) *ℤ x o)
+-- the rule of corner c along an axis, forward and back
+abbrev pub ruleAt : Bool → ℕ → ℕ → ℕ → Rule
+ruleAt back m c a = endRule back m (eqb (digit (λ b. 2) c a) 1)
 
--- number i of a block after one pass
-abbrev pub passed : Block → (ℕ → ℤ) → (ℕ → ℤ) → ℕ → ℤ
-passed b T xs i = pass (b .orders) (b .groups) (tabled (b .orders) T) xs i
-
--- number k of a block after all axes
-unfoldable pub converted : ℕ → ℕ → (ℕ → ℤ) → (ℕ → ℤ) → ℕ → ℤ
-converted m n T xs k = sweep (axes n) (λ a. tabled m T) (λ p. xs (number n (λ b. m) p)) (digit (λ b. m) k)
+-- number k of its block after all axes
+unfoldable pub converted : Bool → ℕ → ℕ → ℕ → (ℕ → ℤ) → ℕ → ℤ
+converted back m n c xs k = sweep (axes n) (ruleAt back m c) (λ p. xs (number n (λ b. m) p)) (digit (λ b. m) k)
 
 -- numbers within B
 abbrev pub Within : ℕ → ℕ → (ℕ → ℤ) → Type 0
 Within B n xs = (i : ℕ) → i < n → natAbs (xs i) ≤ B
 
--- small factors, and none for a third order that is not there
-pub record Modest (m : ℕ) (T : ℕ → ℤ) : Type 0 where
-  pub small : (i : ℕ) → i < 9 → natAbs (T i) ≤ 32
-  pub third : m ≡ 2 → (k : ℕ) → k < 2 → T (3 * k + 2) ≡ pos 0
-
--- the table of document 01 for the low end
-pub record Forth (m : ℕ) (T : ℕ → ℤ) : Type 0 where
-  pub modest : Modest m T
-  pub is : (x : ℕ → ℤ) (k : ℕ) → k < m → tabled m T x k ≡ sum m (λ o. multiplier m k o *ℤ x o)
-
--- and back
-pub record Back (m : ℕ) (T : ℕ → ℤ) : Type 0 where
-  pub modest : Modest m T
-  pub is : (y : ℕ → ℤ) (o : ℕ) → o < m → tabled m T y o ≡ solved m y o
-
--- number k of the block of the corner whose record starts at `start`
-unfoldable pub blockNumber : Block → (ℕ → ℤ) → ℕ → ℕ → List ℤ → ℕ → ℤ
-blockNumber b T c start rs k = converted (b .orders) (b .axes) T (λ j. signed (b .orders) c j (at rs (start + j))) k
+-- 27 numbers that start with f 0, .., f (n - 1)
+pub record StartsWith (n : ℕ) (f : ℕ → ℤ) (xs : List ℤ) : Type 0 where
+  pub long : length xs ≡ 27
+  pub is : (k : ℕ) → k < n → at xs k ≡ f k
 
 -- ---- filling
 
@@ -109,7 +82,7 @@ abbrev pub Stands : ℕ → ℕ → (ℕ → ℤ) → ℕ → List ℤ → Type 
 Stands m n f k xs = (K : ℕ) → K < coefficientCount m n → at xs K ≡ pick (ltb (turnOf m n K) k) (f K) (pos 0)
 
 -- corner records that lie in the records, each entry within its limit
-pub record Gathered (b : Block) (l : Layout) (rs : List ℤ) : Type 0 where
+pub record Gathered (m n : ℕ) (l : Layout) (rs : List ℤ) : Type 0 where
   pub small : Small l
-  pub inside : (c : ℕ) → c < 2 ^ b .axes → startOf l c + b .entries ≤ length rs
-  pub within : (i : ℕ) → i < coefficientCount (b .orders) (b .axes) → natAbs (gathered (b .entries) l rs i) ≤ entryLimit (b .orders) (b .axes) (cornerNumbers (b .orders) (b .axes) i)
+  pub inside : (c : ℕ) → c < 2 ^ n → startOf l c + m ^ n ≤ length rs
+  pub within : (i : ℕ) → i < coefficientCount m n → natAbs (gathered (m ^ n) l rs i) ≤ entryLimit m n (cornerNumbers m n i)

@@ -8,45 +8,36 @@ ghost use Rattle.lattice.specs.Outcome.{done, refuseUnless, first, firstOf};
 ghost use Rattle.lattice.specs.Answer.{meaning};
 ghost use Rattle.lattice.specs.Buffer.{at};
 ghost use Rattle.lattice.specs.Shape.{ordersOf};
+ghost use Rattle.cell.specs.Cell.{Limits};
 ghost use Rattle.coefficients.specs.Corners.{coefficientCount, possibleOutcome, numbersOutcome, backOutcome, backWrites};
-ghost use Rattle.coefficients.specs.Blocks.{Sized, spot, converted, Within, Modest, scatter};
-ghost use Rattle.corners.specs.Back.{limitAt, wholeWithin, doubledOf, blockTest, entryOf};
-use coefficients::Block;
+ghost use Rattle.coefficients.specs.Blocks.{Sizes, spot, Within, scatter};
+ghost use Rattle.corners.specs.Back.{Gathers, wholeWithin, blockTest, entryOf};
 use lattice::Answer;
 
-// The coefficients of corner c, counted from it.
-fn gather(b: Block, c: usize, cs: &[i32]) -> [i64; 27]
-    requires { ⌜ Sized b × (c < 2 ^ b .axes) × (length (now cs) ≡ coefficientCount (b .orders) (b .axes)) ⌝ }
-    ensures { λ xs. ⌜ ((k : ℕ) → k < b .entries → at xs k ≡ at (now (cs .entry)) (spot (b .orders) c k)) × Within (2 ^ 31) (b .entries) (at xs) ⌝ }
+// The coefficients of row g of corner c, counted from it.
+fn gather_row(m: usize, c: usize, g: usize, cs: &[i32], xs: &mut [i64; 27])
+    requires { ⌜ (2 ≤ m) × (m ≤ 3) × (m * g + m ≤ 27) ⌝ }
+    requires { ⌜ ((t : ℕ) → t < m → spot m c (m * g + t) < length (now cs)) × Gathers m c (m * g) (now cs) (now xs) ⌝ }
+    ensures { λ _. ⌜ Gathers m c (m * g + m) (now (cs .entry)) (now (xs .exit)) ⌝ }
 {
-    let m = b.orders;
-    let size = b.entries;
-    let mut xs = [0i64; 27];
-    let mut k: usize = 0;
-    while k < size {
-        let p = coefficients::spot_at(m, c, k);
-        xs[k] = cs[p] as i64;
-        k += 1;
+    let p = coefficients::row_place(m, c, g);
+    let mut t: usize = 0;
+    while t < m {
+        xs[m * g + t] = cs[p + coefficients::counted(m, c % 2, t)] as i64;
+        t += 1;
     }
-    xs
 }
 
-// The doubled entries of corner c, without the corner's signs.
-fn corner_block(b: Block, table: &[i64; 9], c: usize, cs: &[i32]) -> [i64; 27]
-    requires { ⌜ Sized b × Modest (b .orders) (at (now table)) × (c < 2 ^ b .axes) × (length (now cs) ≡ coefficientCount (b .orders) (b .axes)) ⌝ }
-    ensures { λ zs. ⌜ ((k : ℕ) → k < b .entries → at zs k ≡ converted (b .orders) (b .axes) (at (now (table .entry))) (λ j. at (now (cs .entry)) (spot (b .orders) c j)) k) × Within (2 ^ 51) (b .entries) (at zs) ⌝ }
+// The coefficients of corner c, counted from it, row by row.
+fn gather(m: usize, n: usize, r: usize, c: usize, cs: &[i32], xs: &mut [i64; 27])
+    requires { ⌜ Sizes m n r × (c < 2 ^ n) × (length (now cs) ≡ coefficientCount m n) × (length (now xs) ≡ 27) ⌝ }
+    ensures { λ _. ⌜ Gathers m c (m ^ n) (now (cs .entry)) (now (xs .exit)) ⌝ }
 {
-    let xs = gather(b, c, cs);
-    coefficients::convert(b, table, xs)
-}
-
-// The limit of entry k of a record.
-fn limit_at(m: usize, k: usize) -> u64
-    requires { ⌜ (2 ≤ m) × (m ≤ 3) ⌝ }
-    ensures { λ r. ⌜ (r ≡ limitAt m k) × (r ≤ 2 ^ 21) ⌝ }
-{
-    let o = coefficients::digits(m, k);
-    32768 << (o[0] + o[1] + o[2])
+    let mut g: usize = 0;
+    while g < r {
+        gather_row(m, c, g, cs, xs);
+        g += 1;
+    }
 }
 
 // Whether z is whole after halving n times, and then within the limit.
@@ -60,20 +51,23 @@ fn whole_within(n: usize, limit: u64, z: i64) -> bool
 }
 
 // The entries of corner c to their places; 13 at the first that is not whole or beyond its limit.
-fn store(b: Block, c: usize, zs: &[i64; 27], out: &mut [i32; 216]) -> Answer
-    requires { ⌜ Sized b × (c < 2 ^ b .axes) × Within (2 ^ 51) (b .entries) (at (now zs)) ⌝ }
-    ensures { λ r. ⌜ meaning r ≡ firstOf (b .entries) (blockTest b c (at (now (zs .entry)))) ⌝ }
-    ensures { λ r. ⌜ (meaning r ≡ done tt → now (out .exit) ≡ scatter (b .entries) (λ k. b .entries * c + k) (λ k. floorDiv (doubledOf b c (at (now (zs .entry))) k) (2 ^ b .axes)) (now (out .entry))) ⌝ }
+fn store(
+    n: usize,
+    size: usize,
+    c: usize,
+    limits: &[i32; 27],
+    zs: &[i64; 27],
+    out: &mut [i32; 216],
+) -> Answer
+    requires { ⌜ (n ≤ 3) × (size ≤ 27) × (c < 8) × Within (2 ^ 50) size (at (now zs)) × Limits size (now limits) ⌝ }
+    ensures { λ r. ⌜ meaning r ≡ firstOf size (blockTest n (now (limits .entry)) (at (now (zs .entry)))) ⌝ }
+    ensures { λ r. ⌜ (meaning r ≡ done tt → now (out .exit) ≡ scatter size (λ k. size * c + k) (λ k. floorDiv (at (now (zs .entry)) k) (2 ^ n)) (now (out .entry))) ⌝ }
 {
-    let n = b.axes;
-    let m = b.orders;
-    let size = b.entries;
     let first = size * c;
     let mut k: usize = 0;
     while k < size {
-        let z = coefficients::with_signs(m, c, k, zs[k]);
-        let limit = limit_at(m, k);
-        if whole_within(n, limit, z) {
+        let z = zs[k];
+        if whole_within(n, limits[k] as u64, z) {
             out[first + k] = (z >> n) as i32;
         } else {
             return lattice::refuse_unless(false, 13, 0);
@@ -83,18 +77,21 @@ fn store(b: Block, c: usize, zs: &[i64; 27], out: &mut [i32; 216]) -> Answer
     Answer::Done
 }
 
-// The corner records, filled corner by corner into the front of `xs`; 13 where there are none.
-fn corner_records(b: Block, cs: &[i32], xs: &mut [i32; 216]) -> Answer
-    requires { ⌜ Sized b × (length (now cs) ≡ coefficientCount (b .orders) (b .axes)) × (length (now xs) ≡ 216) ⌝ }
-    ensures { λ r. ⌜ meaning r ≡ possibleOutcome (b .orders) (b .axes) (now (cs .entry)) ⌝ }
-    ensures { λ r. ⌜ (meaning r ≡ done tt → (i : ℕ) → i < coefficientCount (b .orders) (b .axes) → at (now (xs .exit)) i ≡ entryOf b (now (cs .entry)) i) ⌝ }
+// The corner records, filled corner by corner into the front of `out`; 13 where there are none.
+fn corner_records(m: usize, n: usize, r: usize, cs: &[i32], out: &mut [i32; 216]) -> Answer
+    requires { ⌜ Sizes m n r × (length (now cs) ≡ coefficientCount m n) × (length (now out) ≡ 216) ⌝ }
+    ensures { λ r. ⌜ meaning r ≡ possibleOutcome m n (now (cs .entry)) ⌝ }
+    ensures { λ r. ⌜ (meaning r ≡ done tt → (i : ℕ) → i < coefficientCount m n → at (now (out .exit)) i ≡ entryOf m n (now (cs .entry)) i) ⌝ }
 {
-    let table = coefficients::back_table(b.orders);
-    let corners = coefficients::power(2, b.axes);
+    let limits = cell::entry_limits(m);
+    let corners = coefficients::power(2, n);
+    let mut xs = [0i64; 27];
+    let mut zs = [0i64; 27];
     let mut c: usize = 0;
     while c < corners {
-        let zs = corner_block(b, &table, c, cs);
-        let one = store(b, c, &zs, xs);
+        gather(m, n, r, c, cs, &mut xs);
+        coefficients::convert(true, m, n, r, c, &mut xs, &mut zs);
+        let one = store(n, m * r, c, &limits, &zs, out);
         if let Answer::Refused(_) = one {
             return one;
         }
@@ -103,13 +100,24 @@ fn corner_records(b: Block, cs: &[i32], xs: &mut [i32; 216]) -> Answer
     Answer::Done
 }
 
+// The corner records of a cell of n axes with m orders on each.
+fn records_of(m: usize, n: usize, cs: &[i32], out: &mut [i32; 216]) -> Answer
+    requires { ⌜ (2 ≤ m) × (m ≤ 3) × (1 ≤ n) × (n ≤ 3) × (length (now cs) ≡ coefficientCount m n) × (length (now out) ≡ 216) ⌝ }
+    ensures { λ r. ⌜ meaning r ≡ possibleOutcome m n (now (cs .entry)) ⌝ }
+    ensures { λ r. ⌜ (meaning r ≡ done tt → (i : ℕ) → i < coefficientCount m n → at (now (out .exit)) i ≡ entryOf m n (now (cs .entry)) i) ⌝ }
+{
+    if m == 2 {
+        return corner_records(2, n, coefficients::power(2, n - 1), cs, out);
+    }
+    corner_records(3, n, coefficients::power(3, n - 1), cs, out)
+}
+
 // 15 and 9.
 fn check_lengths(axes: u32, degree: u32, given: usize, room: usize) -> Answer
     requires { ⌜ (1 ≤ axes) × (axes ≤ 3) ⌝ }
     ensures { λ r. ⌜ meaning r ≡ first (refuseUnless (eqb given (coefficientCount (ordersOf degree) axes)) 15 0) (refuseUnless (leb (coefficientCount (ordersOf degree) axes) room) 9 0) ⌝ }
 {
-    let b = coefficients::block_of(axes, degree);
-    let count = coefficients::coefficient_count(b);
+    let count = coefficients::coefficient_count(axes, degree);
     let whole = lattice::refuse_unless(given == count, 15, 0);
     lattice::earlier(whole, lattice::refuse_unless(count <= room, 9, 0))
 }
@@ -134,12 +142,16 @@ pub fn corners(axes: u32, degree: u32, coefficients: &[i32], out: &mut [i32]) ->
     if let Answer::Refused(_) = asked {
         return asked;
     }
-    let b = coefficients::block_of(axes, degree);
     let mut xs = [0i32; 216];
-    let tested = corner_records(b, coefficients, &mut xs);
+    let tested = records_of(
+        lattice::orders(degree),
+        axes as usize,
+        coefficients,
+        &mut xs,
+    );
     if let Answer::Refused(_) = tested {
         return tested;
     }
-    coefficients::copy_out(coefficients::coefficient_count(b), &xs, out);
+    coefficients::copy_out(coefficients::coefficient_count(axes, degree), &xs, out);
     tested
 }

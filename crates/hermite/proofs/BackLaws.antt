@@ -7,10 +7,10 @@ use native.Mathlib.Nat.{le-trans, le-of-eq, mul-le-mul-right, mod-eq-of-lt, add-
 use native.Mathlib.Omega.{arith}
 use borrow.Author.Tests.{lt-ltb, le-ltb}
 use lib.Dec.{ltb, eqb, lit≤}
-use lib.IntN.{ℤ, pos, _*ℤ_, natAbs}
-use Rattle.arith.proofs.Choices.{pick-true, pick-false, by-order, by-place, by-count}
+use lib.IntN.{ℤ, pos, _*ℤ_, natAbs, zero-*ℤ}
+use Rattle.arith.proofs.Choices.{pick-true, pick-false, by-m, by-2, by-order, by-place, by-count}
 use Rattle.arith.proofs.Quote.{quotes, ring! }
-use Rattle.arith.proofs.Sums.{sum-ext, graded-sum}
+use Rattle.arith.proofs.Sums.{sum-ext, sum-three, graded-sum}
 use Rattle.arith.specs.Choice.{pick}
 use Rattle.arith.specs.Sum.{sum, total}
 use Rattle.lattice.proofs.Along.{Linear}
@@ -23,7 +23,7 @@ use Rattle.hermite.proofs.HermiteLaws.{turned-mul, mul-turned, sum-turn
 abbrev pub unit : ℕ → ℕ → ℤ
 unit k i = pick (eqb k i) (pos 1) (pos 0)
 
-solved-linear : (m : ℕ) (y : ℕ → ℤ) (o : ℕ) → solved m y o ≡ sum 3 (λ k. solved m (unit k) o *ℤ y k)
+pub solved-linear : (m : ℕ) (y : ℕ → ℤ) (o : ℕ) → solved m y o ≡ sum 3 (λ k. solved m (unit k) o *ℤ y k)
 unfolding solved sum pick
 solved-linear m y zero = ring! (y 0 ∷ y 1 ∷ y 2 ∷ []) (search quotes depth 40) (search quotes depth 40) tt
 solved-linear m y (suc zero) = ring! (y 0 ∷ y 1 ∷ y 2 ∷ multiplier m 1 0 ∷ []) (search quotes depth 40) (search quotes depth 40) tt
@@ -52,12 +52,20 @@ backward-linear m = record {
 
 -- ---- each end
 
-module _ (m : ℕ) (m2 : 2 ≤ m) (m3 : m ≤ 3) where
-  solved-ext : (x y : ℕ → ℤ) (o : ℕ) → o < m → ((k : ℕ) → k < m → x k ≡ y k) → solved m x o ≡ solved m y o
-  unfolding solved
-  solved-ext x y zero l h = h 0 l
-  solved-ext x y (suc zero) l h = rw (h 0 (omega arith), h 1 l)
-  solved-ext x y (suc (suc o)) l h = rw (h 0 (omega arith), h 1 (omega arith), h 2 (omega arith))
+-- as many coefficients as there are orders count
+solved-none : (m : ℕ) → 2 ≤ m → m ≤ 3 → (o : ℕ) → o < m → (k : ℕ) → m ≤ k → k < 3 → solved m (unit k) o ≡ pos 0
+unfolding solved multiplier pick
+solved-none =
+    by-m (λ m. (o : ℕ) → o < m → (k : ℕ) → m ≤ k → k < 3 → solved m (unit k) o ≡ pos 0)
+    (λ o l k g p. let e : k ≡ 2 = omega arith in ap (λ (i : ℕ). solved 2 (unit i) o) e ∙ by-2 (λ o. solved 2 (unit 2) o ≡ pos 0) refl refl o l)
+    (λ o l k g p. absurd (omega arith))
+
+pub solved-sum : (m : ℕ) → 2 ≤ m → m ≤ 3 → (y : ℕ → ℤ) (o : ℕ) → o < m → solved m y o ≡ sum m (λ k. solved m (unit k) o *ℤ y k)
+solved-sum m m2 m3 y o l = solved-linear m y o ∙ sum-three m m2 m3 (λ k. solved m (unit k) o *ℤ y k) (λ k g p. ap (λ z. z *ℤ y k) (solved-none m m2 m3 o l k g p) ∙ zero-*ℤ (y k))
+
+pub solved-ext : (m : ℕ) → 2 ≤ m → m ≤ 3 → (x y : ℕ → ℤ) (o : ℕ) → o < m → ((k : ℕ) → k < m → x k ≡ y k) → solved m x o ≡ solved m y o
+solved-ext m m2 m3 x y o l h =
+    solved-sum m m2 m3 x o l ∙ sum-ext m (λ t. solved m (unit t) o *ℤ x t) (λ t. solved m (unit t) o *ℤ y t) (λ t p. ap (λ z. solved m (unit t) o *ℤ z) (h t p)) ∙ sym (solved-sum m m2 m3 y o l)
 
 -- twice an end's numbers from its coefficients, and its coefficients from these
 solved-table : (m : ℕ) → 2 ≤ m → m ≤ 3 → (o : ℕ) → o < m → (y : ℕ → ℤ) → solved m (λ k. sum m (λ p. multiplier m k p *ℤ y p)) o ≡ pos 2 *ℤ y o

@@ -67,7 +67,7 @@ no-row =
     (λ o l k h p. let e : k ≡ 2 = omega arith in ap (λ (i : ℕ). multiplier 2 i o) e ∙ by-3 (λ o. multiplier 2 2 o ≡ pos 0) refl refl refl o l)
     (λ o l k h p. absurd (omega arith))
 
-no-order : (m : ℕ) → 2 ≤ m → m ≤ 3 → (o : ℕ) → m ≤ o → o < 3 → (k : ℕ) → k < 3 → multiplier m k o ≡ pos 0
+pub no-order : (m : ℕ) → 2 ≤ m → m ≤ 3 → (o : ℕ) → m ≤ o → o < 3 → (k : ℕ) → k < 3 → multiplier m k o ≡ pos 0
 unfolding multiplier
 no-order =
     by-m (λ m. (o : ℕ) → m ≤ o → o < 3 → (k : ℕ) → k < 3 → multiplier m k o ≡ pos 0)

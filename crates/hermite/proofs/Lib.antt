@@ -8,3 +8,4 @@ pub mod DotLaws
 pub mod StageLaws
 pub mod WeightLaws
 pub mod BasisLaws
+pub mod EndLaws

@@ -56,6 +56,14 @@ solved m y (suc (suc o)) = pos 2 *ℤ y 2 -ℤ multiplier m 2 0 *ℤ y 0 -ℤ mu
 unfoldable pub backward : ℕ → Rule
 backward m c t = pick (ltb t m) (solved m c t) (turned (t - m) (solved m (λ k. c (2 * m - 1 - k)) (t - m)))
 
+-- a number of order o as an end sees it
+unfoldable pub seen : Bool → ℕ → ℤ → ℤ
+seen high o z = pick high (turned o z) z
+
+-- one end: its coefficients, counted from it, from its numbers; back, twice its numbers from these
+unfoldable pub endRule : Bool → ℕ → Bool → Rule
+endRule back m high x k = pick back (seen high k (solved m x k)) (sum m (λ o. multiplier m k o *ℤ seen high o (x o)))
+
 -- ---- weights and stages
 
 -- of a dose or, along its axis, of a slope

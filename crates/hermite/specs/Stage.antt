@@ -3,9 +3,9 @@ use mathlib.Core.Path.{_≡_}
 use mathlib.Core.Bool.{Bool, true, false}
 use Prim.Native.Nat.{ℕ, _+_, _*_, _-_, _≤_, _<_}
 use lib.Dec.{ltb}
-use lib.IntN.{ℤ, pos, natAbs}
+use lib.IntN.{ℤ, pos, natAbs, _*ℤ_}
 use Rattle.arith.specs.Choice.{pick}
-use Rattle.arith.specs.Sum.{total}
+use Rattle.arith.specs.Sum.{sum, total}
 use Rattle.lattice.specs.Buffer.{at}
 use Rattle.hermite.specs.declared.Basis.{Basis}
 use Rattle.hermite.specs.Hermite.{Kind, basis}
@@ -13,6 +13,12 @@ use Rattle.hermite.specs.Hermite.{Kind, basis}
 -- a cell has 256 steps an axis
 abbrev pub steps : ℕ
 steps = 256
+
+-- three rows by the same three numbers
+pub record RowsOn (a b c x r : ℕ → ℤ) : Type 0 where
+  pub first : r 0 ≡ sum 3 (λ o. a o *ℤ x o)
+  pub second : r 1 ≡ sum 3 (λ o. b o *ℤ x o)
+  pub third : r 2 ≡ sum 3 (λ o. c o *ℤ x o)
 
 -- b holds what a stage at step u takes of the numbers of the low and of the high end, 0 from order m on
 pub record Folds (k : Kind) (m u : ℕ) (b : Basis) : Type 0 where

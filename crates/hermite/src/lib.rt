@@ -6,8 +6,8 @@ ghost use Rattle.arith.specs.Choice.{pick};
 ghost use Rattle.arith.specs.Int.{roundHalfUp};
 ghost use Rattle.arith.specs.Sum.{sum, total};
 ghost use Rattle.lattice.specs.Buffer.{at};
-ghost use Rattle.hermite.specs.Hermite.{multiplier, turned, Kind, kindOf, weight, stageSum};
-ghost use Rattle.hermite.specs.Stage.{steps, Folds, bothEnds, load, shiftOf};
+ghost use Rattle.hermite.specs.Hermite.{multiplier, turned, solved, seen, endRule, Kind, kindOf, weight, stageSum};
+ghost use Rattle.hermite.specs.Stage.{steps, RowsOn, Folds, bothEnds, load, shiftOf};
 
 // A cell has 256 steps an axis.
 pub const STEPS: u32 = 256;
@@ -22,13 +22,15 @@ const MULTIPLIERS: [[i64; 3]; 6] = [
     [20, 4, 1],
 ];
 
-// The multipliers of coefficient k, counted from an end, by order.
-pub fn multipliers(m: usize, k: usize) -> [i64; 3]
-    requires { ⌜ (2 ≤ m) × (m ≤ 3) × (k < 3) ⌝ }
-    ensures { λ r. ⌜ ((o : ℕ) → at r o ≡ multiplier m k o) ⌝ }
-{
-    MULTIPLIERS[3 * (m - 2) + k]
-}
+// What undoes them: twice each number of an end from the coefficients counted from it.
+const SOLUTIONS: [[i64; 3]; 6] = [
+    [1, 0, 0],
+    [-6, 2, 0],
+    [0, 0, 2],
+    [1, 0, 0],
+    [-10, 2, 0],
+    [20, -8, 2],
+];
 
 // The first three weights of a dose or a slope, a and b being the distances 256 - u and u.
 fn weights(slope: bool, m: usize, a: i64, b: i64) -> [i64; 3]
@@ -50,13 +52,27 @@ fn weights(slope: bool, m: usize, a: i64, b: i64) -> [i64; 3]
     [e * c, e * d, d * d * a]
 }
 
-// Three small factors, each times its number, added up.
-pub fn combined(x: i64, y: i64, z: i64, w: [i64; 3]) -> i64
-    requires { ⌜ (natAbs x ≤ 32) × (natAbs y ≤ 32) × (natAbs z ≤ 32) ⌝ }
-    requires { ⌜ ((k : ℕ) → k < 3 → natAbs (at w k) ≤ 2 ^ 50) ⌝ }
-    ensures { λ r. ⌜ r ≡ x *ℤ at w 0 +ℤ y *ℤ at w 1 +ℤ z *ℤ at w 2 ⌝ }
+// The sum of m products of three; for m = 2 the third is 0.
+fn dot(m: usize, x: [i64; 3], y: [i64; 3]) -> i64
+    requires { ⌜ (total 3 (λ i. natAbs (at x i) * natAbs (at y i)) < 2 ^ 63) × (m ≡ 2 → at y 2 ≡ pos 0) ⌝ }
+    ensures { λ r. ⌜ r ≡ sum 3 (λ i. at x i *ℤ at y i) ⌝ }
 {
-    x * w[0] + y * w[1] + z * w[2]
+    if m == 2 {
+        return x[0] * y[0] + x[1] * y[1];
+    }
+    x[0] * y[0] + x[1] * y[1] + x[2] * y[2]
+}
+
+// Three rows of small factors, each by the same three numbers.
+fn by_rows(a: [i64; 3], b: [i64; 3], c: [i64; 3], x: [i64; 3]) -> [i64; 3]
+    requires { ⌜ ((o : ℕ) → o < 3 → (natAbs (at a o) ≤ 20) × (natAbs (at b o) ≤ 20) × (natAbs (at c o) ≤ 20)) ⌝ }
+    requires { ⌜ ((o : ℕ) → o < 3 → natAbs (at x o) ≤ 2 ^ 50) ⌝ }
+    ensures { λ r. ⌜ RowsOn (at a) (at b) (at c) (at x) (at r) ⌝ }
+{
+    let first = dot(3, a, x);
+    let second = dot(3, b, x);
+    let third = dot(3, c, x);
+    [first, second, third]
 }
 
 // The multipliers of three coefficients by the weights, order by order.
@@ -65,10 +81,12 @@ fn folded(x: [i64; 3], y: [i64; 3], z: [i64; 3], w: [i64; 3]) -> [i64; 3]
     requires { ⌜ ((k : ℕ) → k < 3 → natAbs (at w k) ≤ 2 ^ 43) ⌝ }
     ensures { λ r. ⌜ ((o : ℕ) → o < 3 → at r o ≡ at x o *ℤ at w 0 +ℤ at y o *ℤ at w 1 +ℤ at z o *ℤ at w 2) ⌝ }
 {
-    let first = combined(x[0], y[0], z[0], w);
-    let second = combined(x[1], y[1], z[1], w);
-    let third = combined(x[2], y[2], z[2], w);
-    [first, second, third]
+    by_rows(
+        [x[0], y[0], z[0]],
+        [x[1], y[1], z[1]],
+        [x[2], y[2], z[2]],
+        w,
+    )
 }
 
 // What a stage takes of the numbers of the end at distance b, the other end being at distance a; not yet turned.
@@ -115,15 +133,48 @@ pub fn basis_at(slope: bool, m: usize, u: u32) -> Basis
     }
 }
 
-// The sum of m products of three; for m = 2 the third is 0.
-fn dot(m: usize, x: [i64; 3], y: [i64; 3]) -> i64
-    requires { ⌜ (total 3 (λ i. natAbs (at x i) * natAbs (at y i)) < 2 ^ 63) × (m ≡ 2 → at y 2 ≡ pos 0) ⌝ }
-    ensures { λ r. ⌜ r ≡ sum 3 (λ i. at x i *ℤ at y i) ⌝ }
+// The numbers of an end as it sees them: order 1 of the high end is subtracted.
+fn facing(high: bool, x: [i64; 3]) -> [i64; 3]
+    requires { ⌜ ((o : ℕ) → o < 3 → natAbs (at x o) ≤ 2 ^ 62) ⌝ }
+    ensures { λ r. ⌜ ((o : ℕ) → o < 3 → at r o ≡ seen high o (at x o)) ⌝ }
+{
+    if high {
+        return mirrored(false, x);
+    }
+    x
+}
+
+// The coefficients of the low end, counted from it, from its numbers.
+fn end_coefficients(m: usize, x: [i64; 3]) -> [i64; 3]
+    requires { ⌜ (2 ≤ m) × (m ≤ 3) × ((o : ℕ) → o < 3 → natAbs (at x o) ≤ 2 ^ 50) ⌝ }
+    ensures { λ r. ⌜ ((k : ℕ) → k < 3 → at r k ≡ sum m (λ o. multiplier m k o *ℤ at x o)) ⌝ }
 {
     if m == 2 {
-        return x[0] * y[0] + x[1] * y[1];
+        return by_rows(MULTIPLIERS[0], MULTIPLIERS[1], MULTIPLIERS[2], x);
     }
-    x[0] * y[0] + x[1] * y[1] + x[2] * y[2]
+    by_rows(MULTIPLIERS[3], MULTIPLIERS[4], MULTIPLIERS[5], x)
+}
+
+// And back: its numbers, doubled.
+fn end_numbers(m: usize, y: [i64; 3]) -> [i64; 3]
+    requires { ⌜ (2 ≤ m) × (m ≤ 3) × ((o : ℕ) → o < 3 → natAbs (at y o) ≤ 2 ^ 50) ⌝ }
+    ensures { λ r. ⌜ ((o : ℕ) → o < 3 → at r o ≡ solved m (at y) o) ⌝ }
+{
+    if m == 2 {
+        return by_rows(SOLUTIONS[0], SOLUTIONS[1], SOLUTIONS[2], y);
+    }
+    by_rows(SOLUTIONS[3], SOLUTIONS[4], SOLUTIONS[5], y)
+}
+
+// The coefficients of an end, counted from it, from its numbers; or back, its numbers, doubled, from these.
+pub fn convert_end(back: bool, m: usize, high: bool, x: [i64; 3]) -> [i64; 3]
+    requires { ⌜ (2 ≤ m) × (m ≤ 3) × ((o : ℕ) → o < 3 → natAbs (at x o) ≤ 2 ^ 50) ⌝ }
+    ensures { λ r. ⌜ ((k : ℕ) → k < 3 → at r k ≡ endRule back m high (at x) k) ⌝ }
+{
+    if back {
+        return facing(high, end_numbers(m, x));
+    }
+    end_coefficients(m, facing(high, x))
 }
 
 // One stage: the numbers of the two ends, by their basis, rounded by 2^(k+1).

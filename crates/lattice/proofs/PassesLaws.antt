@@ -111,20 +111,20 @@ module _ (m : ℕ) where
 
 -- ---- a pass for each axis
 
--- i passes
-unfoldable pub passes : ℕ → ℕ → Rule → ℕ → (ℕ → ℤ) → ℕ → ℤ
+-- i passes, each with the rule of its axis
+unfoldable pub passes : ℕ → ℕ → (ℕ → Rule) → ℕ → (ℕ → ℤ) → ℕ → ℤ
 passes m r rule zero xs = xs
-passes m r rule (suc i) xs = pass m r rule (passes m r rule i xs)
+passes m r rule (suc i) xs = pass m r (rule i) (passes m r rule i xs)
 
-module _ (m n r : ℕ) (some : 0 < m) (groups : (j : ℕ) → suc j ≡ n → r ≡ m ^ j) (rule : Rule) (dep : Depends rule (λ j. j < m) (λ t. t < m)) where
+module _ (m n r : ℕ) (some : 0 < m) (groups : (j : ℕ) → suc j ≡ n → r ≡ m ^ j) (rule : ℕ → Rule) (dep : (i : ℕ) → Depends (rule i) (λ j. j < m) (λ t. t < m)) where
   -- one pass: the digit of axis i becomes the slowest
-  turn : (i k : ℕ) → suc i + k ≡ n → (ys : ℕ → ℤ) (G : Field) → Holds (i ∷ (from (suc i) k ++ rising i)) (λ a. m) ys G → Holds (from (suc i) k ++ rising (suc i)) (λ a. m) (pass m r rule ys) (along i rule G)
+  turn : (i k : ℕ) → suc i + k ≡ n → (ys : ℕ → ℤ) (G : Field) → Holds (i ∷ (from (suc i) k ++ rising i)) (λ a. m) ys G → Holds (from (suc i) k ++ rising (suc i)) (λ a. m) (pass m r (rule i) ys) (along i (rule i) G)
   unfolding rising
   turn i k e ys G h =
-      subst (λ (ms : List ℕ). Holds ms (λ a. m) (pass m r rule ys) (along i rule G)) (append-assoc (from (suc i) k) (rising i) (i ∷ []))
-      (subst (λ (w : Place). Holds (ls ++ (i ∷ [])) w (pass m r rule ys) (along i rule G)) (put-same i (λ b. m))
-      (subst (λ (s : ℕ). Holds (ls ++ (i ∷ [])) (put i m (λ b. m)) (pass m s rule ys) (along i rule G)) (size-power m ls ∙ ap (λ (j : ℕ). m ^ j) many ∙ sym (groups (k + i) (omega arith)))
-      (pass-along i ls (λ b. m) m rule ys G (fresh-both i (from (suc i) k) (rising i) (fresh-from i (suc i) k (omega arith)) (fresh-rising i i (omega arith))) dep h)))
+      subst (λ (ms : List ℕ). Holds ms (λ a. m) (pass m r (rule i) ys) (along i (rule i) G)) (append-assoc (from (suc i) k) (rising i) (i ∷ []))
+      (subst (λ (w : Place). Holds (ls ++ (i ∷ [])) w (pass m r (rule i) ys) (along i (rule i) G)) (put-same i (λ b. m))
+      (subst (λ (s : ℕ). Holds (ls ++ (i ∷ [])) (put i m (λ b. m)) (pass m s (rule i) ys) (along i (rule i) G)) (size-power m ls ∙ ap (λ (j : ℕ). m ^ j) many ∙ sym (groups (k + i) (omega arith)))
+      (pass-along i ls (λ b. m) m (rule i) ys G (fresh-both i (from (suc i) k) (rising i) (fresh-from i (suc i) k (omega arith)) (fresh-rising i i (omega arith))) (dep i) h)))
     where
       ls : List ℕ
       ls = from (suc i) k ++ rising i
@@ -137,15 +137,15 @@ module _ (m n r : ℕ) (some : 0 < m) (groups : (j : ℕ) → suc j ≡ n → r 
     field p = xs (number n (λ b. m) p)
 
     -- after i passes the array holds the field after i axes
-    holds : (i k : ℕ) → i + k ≡ n → Holds (from i k ++ rising i) (λ a. m) (passes m r rule i xs) (sweep (axes i) (λ a. rule) field)
+    holds : (i k : ℕ) → i + k ≡ n → Holds (from i k ++ rising i) (λ a. m) (passes m r rule i xs) (sweep (axes i) rule field)
     unfolding passes sweep axes from rising
     holds zero k e = λ p d.
         ap (λ (ls : List ℕ). xs (indexOf ls (λ b. m) p)) (append-nil (from 0 k)) ∙ ap xs (index-from m k 0 p)
         ∙ ap (λ (q : Place). xs (number k (λ b. m) q)) (fun-ext (λ b. ap p (let z : 0 + b ≡ b = omega arith in z))) ∙ ap (λ (j : ℕ). xs (number j (λ b. m) p)) (let z : k ≡ n = omega arith in z)
-    holds (suc i) k e = turn i k e (passes m r rule i xs) (sweep (axes i) (λ a. rule) field) (holds i (suc k) (omega arith))
+    holds (suc i) k e = turn i k e (passes m r rule i xs) (sweep (axes i) rule field) (holds i (suc k) (omega arith))
 
     -- and after n passes it holds the sweep
-    pub passes-sweep : (k : ℕ) → k < m ^ n → passes m r rule n xs k ≡ sweep (axes n) (λ a. rule) field (digit (λ b. m) k)
+    pub passes-sweep : (k : ℕ) → k < m ^ n → passes m r rule n xs k ≡ sweep (axes n) rule field (digit (λ b. m) k)
     unfolding from
     passes-sweep k l =
         ap (passes m r rule n xs) (sym (index-number m n p ∙ of-digits n m k l))
@@ -159,32 +159,32 @@ module _ (m n r : ℕ) (some : 0 < m) (groups : (j : ℕ) → suc j ≡ n → r 
 
 -- ---- passes and their inputs
 
-some-groups : (k m r : ℕ) → k < m * r → 0 < r
+pub some-groups : (k m r : ℕ) → k < m * r → 0 < r
 some-groups k m zero h = absurd (none m h)
   where
     none : (m : ℕ) → k < m * 0 → ⊥
     none m h = omega arith
 some-groups k m (suc r) h = zero-lt-suc r
 
-module _ (m r : ℕ) (rule : Rule) where
+module _ (m r : ℕ) where
   -- what a pass reads, and for which place
   read-in : (k t : ℕ) → k < m * r → t < m → m * (k % r) + t < m * r
   read-in k t h l = let z = mul-le-mul-left m (mod-lt k (some-groups k m r h)) in omega arith
 
-  place-in : (k : ℕ) → k < m * r → k / r < m
+  pub place-in : (k : ℕ) → k < m * r → k / r < m
   place-in k h = div-lt-iff-lt-mul (some-groups k m r h) .1 h
 
-  pub pass-same : Depends rule (λ j. j < m) (λ t. t < m) → (xs ys : ℕ → ℤ) → ((k : ℕ) → k < m * r → xs k ≡ ys k) → (k : ℕ) → k < m * r → pass m r rule xs k ≡ pass m r rule ys k
+  pub pass-same : (rule : Rule) → Depends rule (λ j. j < m) (λ t. t < m) → (xs ys : ℕ → ℤ) → ((k : ℕ) → k < m * r → xs k ≡ ys k) → (k : ℕ) → k < m * r → pass m r rule xs k ≡ pass m r rule ys k
   unfolding pass
-  pass-same dep xs ys h k l = dep (λ t. xs (m * (k % r) + t)) (λ t. ys (m * (k % r) + t)) (k / r) (place-in k l) (λ t q. h (m * (k % r) + t) (read-in k t l q))
+  pass-same rule dep xs ys h k l = dep (λ t. xs (m * (k % r) + t)) (λ t. ys (m * (k % r) + t)) (k / r) (place-in k l) (λ t q. h (m * (k % r) + t) (read-in k t l q))
 
-  -- what a rule makes of numbers within B is within F · B
-  pub passes-size : (F : ℕ) → ((x : ℕ → ℤ) (B j : ℕ) → j < m → ((t : ℕ) → t < m → natAbs (x t) ≤ B) → natAbs (rule x j) ≤ F * B)
+  -- what the rules make of numbers within B is within F · B
+  pub passes-size : (rule : ℕ → Rule) (F : ℕ) → ((a : ℕ) (x : ℕ → ℤ) (B j : ℕ) → j < m → ((t : ℕ) → t < m → natAbs (x t) ≤ B) → natAbs (rule a x j) ≤ F * B)
       → (xs : ℕ → ℤ) (B : ℕ) → ((k : ℕ) → k < m * r → natAbs (xs k) ≤ B) → (i k : ℕ) → k < m * r → natAbs (passes m r rule i xs k) ≤ F ^ i * B
   unfolding passes pass
-  passes-size F size xs B h zero k l = rw (pow-zero F, one-mul B) (h k l)
-  passes-size F size xs B h (suc i) k l =
-      le-trans (size (λ t. passes m r rule i xs (m * (k % r) + t)) (F ^ i * B) (k / r) (place-in k l) (λ t q. passes-size F size xs B h i (m * (k % r) + t) (read-in k t l q)))
+  passes-size rule F size xs B h zero k l = rw (pow-zero F, one-mul B) (h k l)
+  passes-size rule F size xs B h (suc i) k l =
+      le-trans (size i (λ t. passes m r rule i xs (m * (k % r) + t)) (F ^ i * B) (k / r) (place-in k l) (λ t q. passes-size rule F size xs B h i (m * (k % r) + t) (read-in k t l q)))
       (le-of-eq (more F (F ^ i) B (F ^ suc i) (pow-suc F i)))
     where
       more : (f p b q : ℕ) → q ≡ p * f → f * (p * b) ≡ q * b

@@ -1,29 +1,29 @@
 -- `coefficients::coefficients` meets its contract: refused, the slice stays as it is; else it is overwritten by the cell's coefficients.
+use mathlib.Core.Path.{_≡_, refl, sym, ap, subst, _∙_}
 use mathlib.Core.List.{List}
+use Prim.Native.Nat.{ℕ, _≤_}
+use lib.IntN.{ℤ}
+use lib.ListN.{length}
+use denote.Ref.{now}
 use Rattle.lattice.specs.Answer.{meaning}
-use Rattle.lattice.specs.Outcome.{done}
+use Rattle.lattice.specs.Outcome.{Check, done, passed as passedBy}
 use Rattle.lattice.specs.Buffer.{at, tabulate, overwrite}
 use Rattle.lattice.specs.Shape.{orders}
 use Rattle.lattice.specs.Records.{recordsField}
-use Rattle.lattice.proofs.OutcomeLaws.{refused-first, first-passed, when-done, when-refused}
+use Rattle.lattice.proofs.OutcomeLaws.{refused-first, first-passed, when-done, when-refused, when-stopped, passed-done}
+use Rattle.lattice.proofs.ShapeLaws.{orders-range}
 use Rattle.cell.specs.Cell.{placeAt, cornersOutcome}
-use Rattle.coefficients.specs.Corners.{coefficientCount, coefficientList, askedOutcome, coefficientsOutcome, coefficientsWrites}
+use Rattle.coefficients.specs.Corners.{coefficientList, askedOutcome, coefficientsOutcome, coefficientsWrites}
+use Rattle.coefficients.specs.Blocks.{Gathered}
 use Rattle.coefficients.proofs.TableCell.{corners-gathered}
 use Rattle.coefficients.proofs.CallLaws.{Asked, asked, list-is}
-use mathlib.Core.Path.{_≡_, sym, ap, ap₂, _∙_}
-use Prim.Native.Nat.{ℕ}
-use native.Mathlib.Omega.{arith}
-use lib.ListN.{length}
-use lib.IntN.{ℤ}
-use denote.Ref.{now}
 use borrow.Author.Needs.{needs}
 use Rattle.coefficients.proofs.coefficients.Statement.{statement}
 use Rattle.coefficients.proofs.coefficients.Tie as tie
 
--- refused before 5
-module _ (c : tie.After-enum-told) where
-  abbrev gate : tie.After-check-asked
-  gate = c .before .before
+-- what the slice is overwritten by
+abbrev written : tie.Start → List ℤ
+written s = overwrite (coefficientList (orders (s .args .s)) (s .args .s .axes) (placeAt (s .args .cell)) (recordsField (s .args .s) (now (s .args .records)))) (now (s .args .out))
 
 -- not refused before 5
 module _ (c : tie.After-enum-told2) where
@@ -36,88 +36,98 @@ module _ (c : tie.After-enum-told2) where
   facts : Asked (start .args .s) (length (now (start .args .records))) (placeAt (start .args .cell)) (length (now (start .args .out)))
   facts = asked (start .args .s) (length (now (start .args .records))) (start .args .cell) (length (now (start .args .out))) passed
 
+  tests : Check
+  tests = cornersOutcome (start .args .s) (now (start .args .records)) (placeAt (start .args .cell))
+
+  outcome : coefficientsOutcome (start .args .s) (now (start .args .records)) (placeAt (start .args .cell)) (length (now (start .args .out))) ≡ tests
+  unfolding coefficientsOutcome tests
+  outcome = first-passed (askedOutcome (start .args .s) (length (now (start .args .records))) (placeAt (start .args .cell)) (length (now (start .args .out)))) tests passed
+
 -- nor by 5
-module _ (c : tie.After-enum-told4) where
+module _ (c : tie.Then1) where
   abbrev two : tie.After-enum-told2
-  two = c .before .before .before .before
+  two = c .before .before .before
 
-  tested : cornersOutcome (start two .args .s) (now (start two .args .records)) (placeAt (start two .args .cell)) ≡ done tt
-  tested = sym (c .before .before .check-corners .ensures) ∙ ap meaning (c .enum-told4 .given .1)
+  tested : tests two ≡ done tt
+  unfolding tests
+  tested = passed-done (tests two) (sym (c .before .corners-within .ensures) ∙ c .if1 .taken)
 
-enum-told : tie.Need-enum-told
-enum-told c = search needs
+  gathered : Gathered (c .before .before .lay-out .result .orders) (start two .args .s .axes) (c .before .before .lay-out .result) (now (start two .args .records))
+  unfolding tests
+  gathered =
+      let f = facts two in
+      let a = start two .args in
+      let l = c .before .before .lay-out in
+      subst (λ (m : ℕ). Gathered m (a .s .axes) (l .result) (now (a .records))) (sym (l .ensures .orders-are)) (corners-gathered (a .s) (f .shape) (placeAt (a .cell)) (f .here) (now (a .records)) (f .many) (l .result) (l .ensures) tested)
 
 returns : tie.Need-returns
 unfolding coefficientsOutcome coefficientsWrites
 returns c =
-    let a = gate c .before .args in
+    let w = c .before .before in
+    let a = w .before .args in
     let e = ap meaning (c .enum-told .given .1) in
-    let h = refused-first (cornersOutcome (a .s) (now (a .records)) (placeAt (a .cell))) (sym (gate c .check-asked .ensures) ∙ e) in
-    (e ∙ sym h, when-refused (overwrite (coefficientList (orders (a .s)) (a .s .axes) (placeAt (a .cell)) (recordsField (a .s) (now (a .records)))) (now (a .out))) (now (a .out)) h)
-
-check-corners-requires : tie.Need-check-corners-requires
-check-corners-requires c κs = let f = facts (c .before) in ((f .shape, f .many), (f .here, c .lay-out .ensures))
-
-returns-2 : tie.Need-returns-2
-unfolding coefficientsOutcome coefficientsWrites
-returns-2 c =
-    let d = c .before .before in
-    let t = d .before .before in
-    let a = start t .args in
-    let e = ap meaning (c .enum-told3 .given .1) in
-    let h = first-passed (askedOutcome (a .s) (length (now (a .records))) (placeAt (a .cell)) (length (now (a .out)))) (cornersOutcome (a .s) (now (a .records)) (placeAt (a .cell))) (passed t) ∙ sym (d .check-corners .ensures) ∙ e in
-    (e ∙ sym h, when-refused (overwrite (coefficientList (orders (a .s)) (a .s .axes) (placeAt (a .cell)) (recordsField (a .s) (now (a .records)))) (now (a .out))) (now (a .out)) h)
+    let h = refused-first (cornersOutcome (a .s) (now (a .records)) (placeAt (a .cell))) (sym (w .check-asked .ensures) ∙ e) in
+    (e ∙ sym h, when-refused (written (w .before)) (now (a .out)) h)
 
 cell-coefficients-requires : tie.Need-cell-coefficients-requires
 cell-coefficients-requires c κs =
-    let d = c .before in
-    let f = facts (two d) in
-    let a = start (two d) .args in
-    let l = d .before .before .before .lay-out in
-    (c .block-of .ensures .0, corners-gathered (a .s) (f .shape) (placeAt (a .cell)) (f .here) (now (a .records)) (f .many) (l .result) (l .ensures) (tested d) (c .block-of .result) (c .block-of .ensures .0) (c .block-of .ensures .1) (c .block-of .ensures .2))
+    let t = c .before in
+    let f = facts (two t) .shape in
+    let m = orders-range (start (two t) .args .s .degree) in
+    let e = t .before .before .lay-out .ensures .orders-are in
+    (subst (λ (k : ℕ). 2 ≤ k) (sym e) (m .0), subst (λ (k : ℕ). k ≤ 3) (sym e) (m .1), f .axes-low, f .axes-high, gathered t)
 
 copy-out-requires : tie.Need-copy-out-requires
 copy-out-requires c κs =
-    let d = c .before .before .before .before .before in
-    let b = c .before .before .before .before .block-of in
-    let f = facts (two d) in
-    let n = c .before .before .coefficient-count .ensures in
-    let e = ap₂ coefficientCount (b .ensures .2) (b .ensures .1) in
-    (n .1, omega arith)
+    let n = c .before .before in
+    let f = facts (two (n .before .before .before)) in
+    let e = n .coefficient-count .ensures in
+    (e .1, rw (e .0) (f .roomy))
+
+returns-2 : tie.Need-returns-2
+unfolding coefficientsWrites
+returns-2 c =
+    let n = c .before .before .before .before in
+    let x = n .before in
+    let t = x .before .before in
+    let d = two t in
+    let s = start d in
+    let a = s .args in
+    let f = facts d in
+    let l = t .before .before .lay-out in
+    let h = outcome d ∙ tested t in (
+      ap meaning (d .enum-told2 .given .1) ∙ sym h,
+      c .before .copy-out .ensures ∙ ap (λ (k : ℕ). overwrite (tabulate k (at (x .cell-coefficients .result))) (now (a .out))) (n .coefficient-count .ensures .0)
+          ∙ ap (λ (ys : List ℤ). overwrite ys (now (a .out))) (list-is (a .s) (f .shape) (placeAt (a .cell)) (f .here) (now (a .records)) (f .many) (l .result) (l .ensures) (x .cell-coefficients .result) (x .cell-coefficients .ensures))
+          ∙ when-done (written s) (now (a .out)) h,
+    )
+
+check-corners-requires : tie.Need-check-corners-requires
+check-corners-requires c κs = let d = c .before .before in let f = facts (d .before) in ((f .shape, f .many), (f .here, d .lay-out .ensures))
 
 returns-3 : tie.Need-returns-3
-unfolding coefficientsOutcome coefficientsWrites
+unfolding coefficientsWrites tests
 returns-3 c =
-    let d = c .before .before .before .before .before .before .before in
-    let b = c .before .before .before .before .before .before .block-of in
-    let xs = c .before .before .before .before .before .cell-coefficients in
-    let n = c .before .before .before .before .coefficient-count .ensures .0 in
-    let f = facts (two d) in
-    let a = start (two d) .args in
-    let l = d .before .before .before .lay-out in
-    let h = first-passed (askedOutcome (a .s) (length (now (a .records))) (placeAt (a .cell)) (length (now (a .out)))) (cornersOutcome (a .s) (now (a .records)) (placeAt (a .cell))) (passed (two d)) ∙ tested d in (
-      ap meaning (d .enum-told4 .given .1) ∙ sym h,
-      c .before .copy-out .ensures ∙ ap (λ (k : ℕ). overwrite (tabulate k (at (xs .result))) (now (a .out))) n
-          ∙ ap (λ (ys : List ℤ). overwrite ys (now (a .out))) (list-is (a .s) (f .shape) (placeAt (a .cell)) (f .here) (now (a .records)) (f .many) (l .result) (l .ensures) (b .result) (b .ensures .0) (b .ensures .1) (b .ensures .2) (xs .result) (xs .ensures))
-          ∙ when-done (overwrite (coefficientList (orders (a .s)) (a .s .axes) (placeAt (a .cell)) (recordsField (a .s) (now (a .records)))) (now (a .out))) (now (a .out)) h,
-    )
+    let w = c .before .before in
+    let d = w .before .before in
+    let a = start d .args in
+    (c .check-corners .ensures ∙ sym (outcome d), when-stopped (coefficientsOutcome (a .s) (now (a .records)) (placeAt (a .cell)) (length (now (a .out)))) (written (start d)) (now (start d .args .out)) (ap (λ (x : Check). passedBy x) (outcome d) ∙ sym (w .corners-within .ensures) ∙ c .before .if1 .left))
 
 pub coefficients-spec : {M : Type 1} → statement M
 coefficients-spec =
     tie.close
     (tie.spec
     (λ c κs. search needs)
-    enum-told
+    (λ c. search needs)
     returns
     (λ c. search needs)
     (λ c κs. (facts c .shape, facts c .here))
-    check-corners-requires
+    (λ c κs. let f = facts (c .before) in ((f .shape, f .many, refl), (f .here, c .lay-out .ensures)))
     (λ c. search needs)
-    returns-2
-    (λ c. search needs)
-    (λ c κs. let f = facts (two c) .shape in (f .axes-low, f .axes-high))
     cell-coefficients-requires
-    (λ c κs. search needs)
+    (λ c κs. facts (two (c .before .before)) .shape .axes-high)
     copy-out-requires
     (λ c. search needs)
+    returns-2
+    check-corners-requires
     returns-3)

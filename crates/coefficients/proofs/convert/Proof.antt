@@ -1,55 +1,107 @@
--- `coefficients::convert` meets its contract: after a turns of the loop the array holds a passes; as many as there are axes are the sweep.
-use Rattle.coefficients.specs.Blocks.{tabled}
-use Rattle.coefficients.proofs.BlockLaws.{after-low, after-last, after-more, after-all}
-use Rattle.lattice.specs.Buffer.{at}
-use Rattle.lattice.proofs.PassesLaws.{passes}
-use mathlib.Core.Path.{_≡_, refl, sym, ap, subst, _∙_}
-use Prim.Native.Nat.{ℕ, _≤_, _<_, _^_, _-_, zero-le}
+-- `coefficients::convert` meets its contract: after each call the array it filled holds one pass more; as many as there are axes are the sweep.
+use mathlib.Core.Path.{_≡_, sym, subst}
+use mathlib.Core.List.{List}
+use Prim.Native.Nat.{ℕ, _≤_, _<_, _^_, _*_}
+use native.Mathlib.Nat.{le-trans, le-of-eq}
 use native.Mathlib.Omega.{arith}
-use lib.IntN.{natAbs}
+use lib.Dec.{lit≤}
+use lib.IntN.{ℤ}
 use denote.Ref.{now}
+use Rattle.lattice.specs.Buffer.{at}
+use Rattle.lattice.specs.Digits.{digit}
+use Rattle.coefficients.specs.Blocks.{Within}
+use Rattle.coefficients.proofs.BlockLaws.{entries-low, After, after-first, after-next, after-low, after-all}
 use Rattle.coefficients.proofs.convert.Statement.{statement}
 use Rattle.coefficients.proofs.convert.Tie as tie
 
-abbrev Inv-loop : tie.InvT-loop
-Inv-loop b table n xs₀ a₀ xs a = (a ≤ n) × ((k : ℕ) → k < b .entries → at xs k ≡ passes (b .orders) (b .groups) (tabled (b .orders) (at table)) a (at xs₀) k)
+-- what is asked of the sizes
+module _ (s : tie.Start) where
+  sizes : (2 ≤ s .args .m) × (s .args .m ≤ 3) × (s .args .m * s .args .r ≤ 27)
+  sizes = let ok = s .pre .0 .0 in (ok .orders-low, ok .orders-high, le-trans (le-of-eq (ok .groups-are)) (entries-low ok))
 
-abbrev μ-loop : tie.MeasureT-loop
-μ-loop b table n xs₀ a₀ xs a = n - a
+  start-low : Within (2 ^ 50) (s .args .m * s .args .r) (at (now (s .args .xs)))
+  start-low k l = le-trans (s .pre .0 .1 k (subst (λ (e : ℕ). k < e) (s .pre .0 .0 .groups-are) l)) (lit≤ tt)
 
-loop-holds : tie.Need-loop-holds Inv-loop μ-loop
-unfolding passes
-loop-holds c = (zero-le, λ k l. refl)
+  -- the array after i passes
+  abbrev Passed : ℕ → List ℤ → Type 0
+  Passed i zs = After (s .args .back) (s .pre .0 .0) (s .args .c) (at (now (s .args .xs))) i zs
 
-convert-axis-requires : tie.Need-convert-axis-requires Inv-loop μ-loop
-convert-axis-requires c κs =
-    let s = c .before .before .before in
-    let w = c .before .before .loop in
-    let h = s .pre .0 .axes-high in
-    (s .pre .0, s .pre .1, λ k l. subst (λ z. natAbs z ≤ 2 ^ 50) (sym (w .inv .1 k l)) (after-low (s .args .b) (s .pre .0) (at (now (s .args .table))) (s .pre .1) (at (s .args .start)) (s .pre .2) (w .a) (omega arith) k l))
+  low : (i : ℕ) → i ≤ 3 → (zs : List ℤ) → Passed i zs → Within (2 ^ 50) (s .args .m * s .args .r) (at zs)
+  low = after-low (s .args .back) (s .pre .0 .0) (s .args .c) (at (now (s .args .xs))) (s .pre .0 .1)
 
-loop-again : tie.Need-loop-again Inv-loop μ-loop
-loop-again c =
-    let s = c .before .before .before .before in
-    let w = c .before .before .before .loop in
-    (omega arith, after-more (s .args .b) (s .pre .0) (at (now (s .args .table))) (s .pre .1) (at (s .args .start)) (w .a) (at (w .xs)) (at (c .convert-axis .result)) (w .inv .1) (c .convert-axis .ensures))
+-- the three arrays
+module _ (c : tie.After-convert-axis) where
+  abbrev S : tie.Start
+  S = c .before .before .before
 
-module _ (c : tie.After-loop Inv-loop μ-loop) where
-  abbrev S : tie.Start Inv-loop μ-loop
-  S = c .before .before
+  abbrev first : List ℤ
+  first = c .convert-axis .last .1 .1 .1 .1 .1 .0
 
-  last : (k : ℕ) → k < S .args .b .entries → at (c .before .loop .xs) k ≡ passes (S .args .b .orders) (S .args .b .groups) (tabled (S .args .b .orders) (at (now (S .args .table)))) (S .args .b .axes) (at (S .args .start)) k
-  last k l =
-      let e : c .before .loop .a ≡ S .args .b .axes = (let h = c .before .loop .inv .0 in let q = c .loop-test .left in omega arith) in
-      c .before .loop .inv .1 k l ∙ ap (λ (i : ℕ). passes (S .args .b .orders) (S .args .b .groups) (tabled (S .args .b .orders) (at (now (S .args .table)))) i (at (S .args .start)) k) e
+  once : Passed S 1 first
+  unfolding digit
+  once = after-first (S .args .back) (S .pre .0 .0) (S .args .c) (at (now (S .args .xs))) first (c .convert-axis .ensures)
 
-returns : tie.Need-returns Inv-loop μ-loop
-returns c = (λ k l. last c k l ∙ after-all (S c .args .b) (S c .pre .0) (at (now (S c .args .table))) (S c .pre .1) (at (S c .args .start)) k l, low)
-  where
-    low : (k : ℕ) → k < S c .args .b .entries → natAbs (at (c .before .loop .xs) k) ≤ 2 ^ 51
-    low k l = rw (last c k l) (after-last (S c .args .b) (S c .pre .0) (at (now (S c .args .table))) (S c .pre .1) (at (S c .args .start)) (S c .pre .2) k l)
+module _ (c : tie.After-convert-axis2) where
+  abbrev one : tie.After-convert-axis
+  one = c .before .before .before .before
+
+  abbrev second : List ℤ
+  second = c .convert-axis2 .last .1 .1 .1 .1 .1 .0
+
+  twice : Passed (S one) 2 second
+  unfolding digit
+  twice = after-next (S one .args .back) (S one .pre .0 .0) (S one .args .c) (at (now (S one .args .xs))) 1 (first one) second (once one) (c .convert-axis2 .ensures)
+
+module _ (c : tie.After-convert-axis3) where
+  abbrev two : tie.After-convert-axis2
+  two = c .before .before .before .before
+
+  abbrev third : List ℤ
+  third = c .convert-axis3 .last .1 .1 .1 .1 .1 .0
+
+  thrice : Passed (S (one two)) 3 third
+  unfolding digit
+  thrice = after-next (S (one two) .args .back) (S (one two) .pre .0 .0) (S (one two) .args .c) (at (now (S (one two) .args .xs))) 2 (second two) third (twice two) (c .convert-axis3 .ensures)
+
+returns : tie.Need-returns
+returns c =
+    let w = c .before in
+    let s = S w in
+    let r = after-all (s .args .back) (s .pre .0 .0) (s .args .c) (at (now (s .args .xs))) (s .pre .0 .1) 1 (sym (c .if1 .taken)) (first w) (once w) in
+    (r .0, (s .pre .1 .0, r .1))
+
+convert-axis-requires-2 : tie.Need-convert-axis-requires-2
+convert-axis-requires-2 c κs = let w = c .before .before .before in (sizes (S w), (low (S w) 1 (lit≤ tt) (first w) (once w), S w .pre .1 .0))
+
+returns-2 : tie.Need-returns-2
+returns-2 c =
+    let w = c .before .before in
+    let s = S (one w) in
+    let r = after-all (s .args .back) (s .pre .0 .0) (s .args .c) (at (now (s .args .xs))) (s .pre .0 .1) 2 (sym (c .before .if2 .taken)) (second w) (twice w) in
+    (r .0, (twice w .long, r .1))
+
+convert-axis-requires-3 : tie.Need-convert-axis-requires-3
+convert-axis-requires-3 c κs = let w = c .before .before .before in (sizes (S (one w)), (low (S (one w)) 2 (lit≤ tt) (second w) (twice w), once (one w) .long))
+
+returns-3 : tie.Need-returns-3
+returns-3 c =
+    let w = two c in
+    let s = S (one w) in
+    let ok = s .pre .0 .0 in
+    let a = one w .before in
+    let low = ok .axes-low in
+    let high = ok .axes-high in
+    let e : 3 ≡ s .args .n = omega arith in
+    let r = after-all (s .args .back) ok (s .args .c) (at (now (s .args .xs))) (s .pre .0 .1) 3 e (third c) (thrice c) in
+    (r .0, (twice w .long, r .1))
 
 pub convert-spec : {M : Type 1} → statement M
 convert-spec =
     tie.close
-    (tie.spec Inv-loop μ-loop loop-holds convert-axis-requires (λ c. let h = c .before .before .before .before .pre .0 .axes-high in omega arith) (λ c. omega arith) loop-again returns)
+    (tie.spec
+    (λ c κs. let s = c .before .before in (sizes s, (start-low s, s .pre .1 .1)))
+    returns
+    convert-axis-requires-2
+    returns-2
+    convert-axis-requires-3
+    returns-3)

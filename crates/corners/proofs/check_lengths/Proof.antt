@@ -1,7 +1,6 @@
 -- `corners::check_lengths` meets its contract: 15, then 9.
 use lib.Dec.{leb, eqb}
 use Rattle.lattice.specs.Outcome.{refuseUnless, first}
-use Rattle.coefficients.specs.Corners.{coefficientCount}
 use mathlib.Core.Path.{ap, ap₂, _∙_}
 use Prim.Native.Nat.{ℕ}
 use borrow.Author.Needs.{needs}
@@ -10,9 +9,8 @@ use Rattle.corners.proofs.check_lengths.Tie as tie
 
 returns : tie.Need-returns
 returns c =
-    let s = c .before .before .before .before .before in
-    let b = c .before .before .before .before .block-of in
-    let count = c .before .before .before .coefficient-count .ensures .0 ∙ ap₂ coefficientCount (b .ensures .2) (b .ensures .1) in
+    let s = c .before .before .before .before in
+    let count = c .before .before .before .coefficient-count .ensures .0 in
     c .earlier .ensures
     ∙ ap₂ first (c .before .before .refuse-unless .ensures ∙ ap (λ (n : ℕ). refuseUnless (eqb (s .args .given) n) 15 0) count)
     (c .before .refuse-unless2 .ensures ∙ ap (λ (n : ℕ). refuseUnless (leb n (s .args .room)) 9 0) count)
@@ -21,7 +19,6 @@ pub check-lengths-spec : {M : Type 1} → statement M
 check-lengths-spec =
     tie.close
     (tie.spec
-    (λ c κs. search needs)
     (λ c κs. search needs)
     (λ c κs. search needs)
     (λ c κs. search needs)

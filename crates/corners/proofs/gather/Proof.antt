@@ -1,75 +1,55 @@
--- `corners::gather` meets its contract: the array is filled from the front; each number fits 32 bits.
-use native.Mathlib.Nat.{not-suc-le-zero, le-trans, le-of-eq}
-use borrow.Author.Count.{below-more}
-use Rattle.arith.proofs.Machine.{widen-fits, widened, near}
-use Rattle.lattice.specs.Buffer.{at}
-use Rattle.coefficients.specs.Corners.{coefficientCount}
-use Rattle.coefficients.specs.Blocks.{spot}
-use Rattle.lattice.proofs.BufferLaws.{fill}
-use Rattle.coefficients.proofs.BlockLaws.{orders-some, entries-low, count-low}
-use Rattle.coefficients.proofs.SpotLaws.{spot-in}
-use mathlib.Core.Path.{_≡_, refl, sym, ap, subst, _∙_}
-use Prim.Native.Nat.{ℕ, _≤_, _<_, _^_, _-_, zero-le}
+-- `corners::gather` meets its contract: row after row, the array is filled from the front.
+use mathlib.Core.Path.{_≡_, ap, subst, _∙_}
+use Prim.Native.Nat.{ℕ, _≤_, _<_, _+_, _^_, _-_, _*_, zero-le}
 use native.Mathlib.Omega.{arith}
-use lib.ListN.{length, length-set}
-use lib.IntN.{natAbs}
-use denote.Ref.{now}
+use Rattle.lattice.proofs.DigitsLaws.{group-room}
+use Rattle.coefficients.proofs.BlockLaws.{orders-some, entries-low}
+use Rattle.coefficients.proofs.SpotLaws.{spot-in}
+use Rattle.corners.specs.Back.{Gathers}
 use Rattle.corners.proofs.gather.Statement.{statement}
 use Rattle.corners.proofs.gather.Tie as tie
 
 abbrev Inv-loop : tie.InvT-loop
-Inv-loop c cs m size xs₀ k₀ xs k = (k ≤ size) × (length xs ≡ 27) × ((j : ℕ) → j < k → at xs j ≡ at cs (spot m c j)) × ((j : ℕ) → j < k → natAbs (at cs (spot m c j)) ≤ 2 ^ 31)
+Inv-loop m n r c cs xs₀ g₀ xs g = (g ≤ r) × Gathers m c (m * g) cs xs
 
 abbrev μ-loop : tie.MeasureT-loop
-μ-loop c cs m size xs₀ k₀ xs k = size - k
+μ-loop m n r c cs xs₀ g₀ xs g = r - g
 
-module _ (c : tie.After-spot-at Inv-loop μ-loop) where
-  abbrev S : tie.Start Inv-loop μ-loop
-  S = c .before .before .before
+module _ (c : tie.In-loop Inv-loop μ-loop) where
+  abbrev s : tie.Start Inv-loop μ-loop
+  s = c .before .before
 
-  place-low : c .spot-at .result < coefficientCount (S .args .b .orders) (S .args .b .axes)
-  place-low =
-      let b = S .args .b in
-      let ok = S .pre .0 in
-      let k = c .before .before .loop .k in
-      subst (λ (p : ℕ). p < coefficientCount (b .orders) (b .axes)) (sym (c .spot-at .ensures)) (spot-in (b .orders) (b .axes) (orders-some b ok) (S .args .c) k (S .pre .1) (subst (λ (e : ℕ). k < e) (ok .entries-are) (c .before .loop-test .taken)) (ok .axes-low) (ok .axes-high))
+  -- the row lies in the block
+  room : s .args .m * c .before .loop .g + s .args .m ≤ s .args .m ^ s .args .n
+  room = let h = group-room (s .args .m) (c .before .loop .g) (s .args .r) (c .loop-test .taken) in let e = s .pre .0 .groups-are in omega arith
+
+none : (m j : ℕ) → j < m * 0 → ⊥
+none m j h = omega arith
 
 loop-holds : tie.Need-loop-holds Inv-loop μ-loop
-loop-holds c = (zero-le, refl, (λ j h. absurd (not-suc-le-zero h)), (λ j h. absurd (not-suc-le-zero h)))
+loop-holds c = (zero-le, record { long = c .pre .3; is = λ j h. absurd (none (c .args .m) j h); low = λ j h. absurd (none (c .args .m) j h) })
 
-mul-xs : tie.Need-mul-xs Inv-loop μ-loop
-mul-xs c = let h = place-low c in let l = count-low (S c .args .b) (S c .pre .0) in omega arith
-
-cast-xs : tie.Need-cast-xs Inv-loop μ-loop
-cast-xs c = widen-fits (at (S (c .before) .args .cs .now) (c .before .spot-at .result)) (c .xs .given)
-
-mul-xs-2 : tie.Need-mul-xs-2 Inv-loop μ-loop
-mul-xs-2 c = let h = entries-low (S (c .before) .args .b) (S (c .before) .pre .0) in omega arith
-
-array-set-from-xs : tie.Need-array-set-from-xs Inv-loop μ-loop
-array-set-from-xs c = let h = entries-low (S (c .before) .args .b) (S (c .before) .pre .0) in omega arith
-
-add-k : tie.Need-add-k Inv-loop μ-loop
-add-k c = let h = entries-low (S (c .before) .args .b) (S (c .before) .pre .0) in omega arith
+gather-row-requires : tie.Need-gather-row-requires Inv-loop μ-loop
+gather-row-requires c κs =
+    let i = c .before in
+    let a = s i .args in
+    let ok = s i .pre .0 in
+    let h = room i in
+    let e = entries-low ok in
+    ((ok .orders-low, ok .orders-high, omega arith), (λ t l. rw (s i .pre .2) (spot-in (a .m) (a .n) (orders-some ok) (a .c) (a .m * i .before .loop .g + t) (s i .pre .1) (omega arith) (ok .axes-low) (ok .axes-high)), i .before .loop .inv .1))
 
 loop-again : tie.Need-loop-again Inv-loop μ-loop
-loop-again c =
-    let s = S (c .before) in
-    let w = c .before .before .before .loop in
-    let cs = s .args .cs .now in
-    let e = c .before .spot-at .ensures in
-    let l = entries-low (s .args .b) (s .pre .0) in
-    let n = w .inv .1 in (
-      omega arith,
-      simp length-set (w .inv .1),
-      fill (w .xs) (w .k) (λ j. at cs (spot (s .args .b .orders) (s .args .c) j)) _ (omega arith) (w .inv .2) (widened (at cs (c .before .spot-at .result)) (c .xs .given) ∙ ap (at cs) e),
-      below-more (λ j. natAbs (at cs (spot (s .args .b .orders) (s .args .c) j)) ≤ 2 ^ 31) (w .k) (w .inv .3) (subst (λ (p : ℕ). natAbs (at cs p) ≤ 2 ^ 31) e (near (at cs (c .before .spot-at .result)) (c .xs .given))),
-    )
+loop-again c = let i = c .before .before in (omega arith, rw (more (s i .args .m) (i .before .loop .g)) (c .gather-row .ensures))
+  where
+    more : (m g : ℕ) → m * (g + 1) ≡ m * g + m
+    more m g = omega arith
 
 returns : tie.Need-returns Inv-loop μ-loop
 returns c =
+    let a = c .before .before .args in
     let w = c .before .loop in
-    (λ k l. w .inv .2 k (omega arith), λ k l. le-trans (le-of-eq (ap natAbs (w .inv .2 k (omega arith)))) (w .inv .3 k (omega arith)))
+    let e : w .g ≡ a .r = omega arith in
+    subst (λ (k : ℕ). Gathers (a .m) (a .c) k (a .cs .now) (w .xs)) (ap (λ (k : ℕ). a .m * k) e ∙ c .before .before .pre .0 .groups-are) (w .inv .1)
 
 pub gather-spec : {M : Type 1} → statement M
 gather-spec =
@@ -78,13 +58,8 @@ gather-spec =
     Inv-loop
     μ-loop
     loop-holds
-    (λ c κs. let p = c .before .before .pre .0 in (p .orders-low, p .orders-high))
-    mul-xs
-    (λ c. let h = place-low c in let e = S c .pre .2 in omega arith)
-    cast-xs
-    mul-xs-2
-    array-set-from-xs
-    add-k
+    gather-row-requires
+    (λ c. let i = c .before .before in let h = room i in let p = s i .pre .0 .orders-low in let e = entries-low (s i .pre .0) in omega arith)
     (λ c. omega arith)
     loop-again
     returns)

@@ -1,47 +1,46 @@
--- `hermite::folded` meets its contract: three calls of `combined`, one for each order.
-use native.Mathlib.Nat.{le-trans, lt-of-le-of-lt}
+-- `hermite::folded` meets its contract: the rows by order are the columns of the coefficients' rows.
+use mathlib.Core.Path.{_≡_, ap, _∙_}
+use mathlib.Core.List.{[], _∷_}
+use Prim.Native.Nat.{ℕ, _≤_, _<_}
+use native.Mathlib.Nat.{le-trans}
 use lib.Dec.{lit≤, lit<}
-use lib.Signed.{mag}
-use mir.Facts.{toZ-ofZ}
-use Rattle.arith.proofs.Abs.{sfits-abs}
-use Rattle.lattice.specs.Buffer.{at}
+use lib.IntN.{ℤ, natAbs, _+ℤ_, _*ℤ_, +ℤ-idl}
+use Rattle.arith.specs.Sum.{sum}
 use Rattle.arith.proofs.Choices.{by-3}
+use Rattle.arith.proofs.Machine.{kept, kept-low}
+use Rattle.lattice.specs.Buffer.{at}
 use Rattle.hermite.proofs.DotLaws.{held}
-use Rattle.arith.proofs.Machine.{read}
-use mathlib.Core.Path.{_≡_, _∙_}
-use Prim.Native.Nat.{ℕ, _≤_, _<_, _^_}
-use lib.IntN.{ℤ, natAbs, _+ℤ_, _*ℤ_}
 use borrow.Author.Needs.{needs}
 use Rattle.hermite.proofs.folded.Statement.{statement}
 use Rattle.hermite.proofs.folded.Tie as tie
 
--- a multiplier as the calls take it
-plain : (z : ℤ) → natAbs z ≤ 20 → held z ≡ z
-plain z h = toZ-ofZ (sfits-abs z (lt-of-le-of-lt h (lit< tt)))
+module _ (s : tie.Start) where
+  -- the rows are small
+  low : (o : ℕ) → o < 3 → (natAbs (held (at (s .args .t1) o)) ≤ 20) × (natAbs (held (at (s .args .t2) o)) ≤ 20) × (natAbs (held (at (s .args .t3) o)) ≤ 20)
+  low o l = let h = s .pre .0 o l in (kept-low (at (s .args .t1) o) 20 (h .0) (lit< tt), kept-low (at (s .args .t2) o) 20 (h .1) (lit< tt), kept-low (at (s .args .t3) o) 20 (h .2) (lit< tt))
 
--- one order: what the call asks for, and what it gives
-module _ (s : tie.Start) (o : ℕ) (l : o < 3) where
-  asks : ((natAbs (held (at (s .args .t1) o)) ≤ 32) × (natAbs (held (at (s .args .t2) o)) ≤ 32) × (natAbs (held (at (s .args .t3) o)) ≤ 32)) × ((k : ℕ) → k < 3 → natAbs (at (s .args .w) k) ≤ 2 ^ 50)
-  asks = let h = s .pre .0 o l in ((low (at (s .args .t1) o) (h .0), low (at (s .args .t2) o) (h .1), low (at (s .args .t3) o) (h .2)), λ k i. le-trans (s .pre .1 k i) (lit≤ tt))
-    where
-      low : (z : ℤ) → natAbs z ≤ 20 → natAbs (held z) ≤ 32
-      low z h = rw (plain z h) (le-trans h (lit≤ tt))
-
-  gives : (r : ℤ) → mag r < 2 ^ 63 → r ≡ held (at (s .args .t1) o) *ℤ at (s .args .w) 0 +ℤ held (at (s .args .t2) o) *ℤ at (s .args .w) 1 +ℤ held (at (s .args .t3) o) *ℤ at (s .args .w) 2
-      → held r ≡ at (s .args .t1) o *ℤ at (s .args .w) 0 +ℤ at (s .args .t2) o *ℤ at (s .args .w) 1 +ℤ at (s .args .t3) o *ℤ at (s .args .w) 2
-  gives r ok e =
+  -- one order
+  gives : (o : ℕ) → o < 3 → (r : ℤ) → r ≡ sum 3 (λ i. at (held (at (s .args .t1) o) ∷ held (at (s .args .t2) o) ∷ held (at (s .args .t3) o) ∷ []) i *ℤ at (s .args .w) i)
+      → r ≡ at (s .args .t1) o *ℤ at (s .args .w) 0 +ℤ at (s .args .t2) o *ℤ at (s .args .w) 1 +ℤ at (s .args .t3) o *ℤ at (s .args .w) 2
+  unfolding sum
+  gives o l r e =
       let h = s .pre .0 o l in
-      read r ok ∙ e ∙ rw (plain (at (s .args .t1) o) (h .0), plain (at (s .args .t2) o) (h .1), plain (at (s .args .t3) o) (h .2))
+      e ∙ ap (λ z. z +ℤ held (at (s .args .t2) o) *ℤ at (s .args .w) 1 +ℤ held (at (s .args .t3) o) *ℤ at (s .args .w) 2) (+ℤ-idl (held (at (s .args .t1) o) *ℤ at (s .args .w) 0))
+      ∙ rw (kept (at (s .args .t1) o) 20 (h .0) (lit< tt), kept (at (s .args .t2) o) 20 (h .1) (lit< tt), kept (at (s .args .t3) o) 20 (h .2) (lit< tt))
 
-combined-requires-3 : tie.Need-combined-requires-3
-combined-requires-3 c κs = asks (c .before .before .before .before .before .before .before .before .before .before .before) 2 (lit< tt)
+by-rows-requires : tie.Need-by-rows-requires
+by-rows-requires c κs =
+    let s = c .before .before .before .before .before .before .before .before .before in
+    let x = low s 0 (lit< tt) in
+    let y = low s 1 (lit< tt) in
+    let z = low s 2 (lit< tt) in
+    (by-3 _ (x .0, y .0, z .0) (x .1, y .1, z .1) (x .2, y .2, z .2), λ k l. le-trans (s .pre .1 k l) (lit≤ tt))
 
 returns : tie.Need-returns
 returns c =
-    let second = c .before .before .before .before in
-    let first = second .before .before .before .before in
-    let s = first .before .before .before .before in
-    by-3 _ (gives s 0 (lit< tt) (first .combined .result) (first .combined .ok) (first .combined .ensures)) (gives s 1 (lit< tt) (second .combined2 .result) (second .combined2 .ok) (second .combined2 .ensures)) (gives s 2 (lit< tt) (c .combined3 .result) (c .combined3 .ok) (c .combined3 .ensures))
+    let s = c .before .before .before .before .before .before .before .before .before .before in
+    let h = c .by-rows .ensures in
+    by-3 _ (gives s 0 (lit< tt) _ (h .first)) (gives s 1 (lit< tt) _ (h .second)) (gives s 2 (lit< tt) _ (h .third))
 
 pub folded-spec : {M : Type 1} → statement M
 folded-spec =
@@ -50,13 +49,11 @@ folded-spec =
     (λ c. search needs)
     (λ c. search needs)
     (λ c. search needs)
-    (λ c κs. asks (c .before .before .before) 0 (lit< tt))
     (λ c. search needs)
     (λ c. search needs)
     (λ c. search needs)
-    (λ c κs. asks (c .before .before .before .before .before .before .before) 1 (lit< tt))
     (λ c. search needs)
     (λ c. search needs)
     (λ c. search needs)
-    combined-requires-3
+    by-rows-requires
     returns)

@@ -1,0 +1,61 @@
+-- One end: the rule of its conversion, each way, reads the numbers of its orders only and gives at most 32 times them; three rows by three numbers.
+use mathlib.Core.Path.{_≡_, refl, ap, ap₂, _∙_}
+use mathlib.Core.Bool.{Bool}
+use Prim.Native.Nat.{ℕ, _*_, _^_, _≤_, _<_}
+use native.Mathlib.Nat.{le-trans, le-of-eq, lt-of-le-of-lt, mul-le-mul, mul-le-mul-right}
+use native.Mathlib.Omega.{arith}
+use lib.Dec.{lit≤, lit<}
+use lib.IntN.{ℤ, _*ℤ_, natAbs}
+use Rattle.arith.proofs.Choices.{on-pick, by-m, by-3, by-order}
+use Rattle.arith.proofs.Sums.{sum-ext, total-mono, total-part, abs-weighted}
+use Rattle.arith.specs.Choice.{pick}
+use Rattle.arith.specs.Sum.{sum, total}
+use Rattle.lattice.proofs.Local.{Depends}
+use Rattle.hermite.specs.Hermite.{multiplier, turned, solved, seen, endRule}
+use Rattle.hermite.proofs.HermiteLaws.{turned-size}
+use Rattle.hermite.proofs.BackLaws.{unit, solved-linear, solved-sum, solved-ext}
+
+-- ---- three rows
+
+-- a small row by three numbers does not overflow
+pub row-load : (f g : ℕ → ℤ) → ((o : ℕ) → o < 3 → natAbs (f o) ≤ 20) → ((o : ℕ) → o < 3 → natAbs (g o) ≤ 2 ^ 50) → total 3 (λ i. natAbs (f i) * natAbs (g i)) < 2 ^ 63
+unfolding total
+row-load f g h k =
+    lt-of-le-of-lt (total-mono 3 (λ i. natAbs (f i) * natAbs (g i)) (λ i. 20 * 2 ^ 50) (λ i l. mul-le-mul (h i l) (k i l))) (lit< tt)
+
+-- ---- the rule of an end
+
+pub seen-size : (high : Bool) (o : ℕ) (z : ℤ) → natAbs (seen high o z) ≡ natAbs z
+unfolding seen
+seen-size high o z = on-pick (λ y. natAbs y ≡ natAbs z) high (turned o z) z (λ e. turned-size o z) (λ e. refl)
+
+-- the sums of the sizes of the factors
+solved-total : (m : ℕ) → 2 ≤ m → m ≤ 3 → (o : ℕ) → o < 3 → total 3 (λ k. natAbs (solved m (unit k) o)) ≤ 32
+unfolding solved multiplier total pick
+solved-total =
+    by-m (λ m. (o : ℕ) → o < 3 → total 3 (λ k. natAbs (solved m (unit k) o)) ≤ 32)
+    (by-3 (λ o. total 3 (λ k. natAbs (solved 2 (unit k) o)) ≤ 32) (lit≤ tt) (lit≤ tt) (lit≤ tt))
+    (by-3 (λ o. total 3 (λ k. natAbs (solved 3 (unit k) o)) ≤ 32) (lit≤ tt) (lit≤ tt) (lit≤ tt))
+
+multiplier-total : (m : ℕ) → 2 ≤ m → m ≤ 3 → (k : ℕ) → k < m → total m (λ o. natAbs (multiplier m k o)) ≤ 32
+unfolding total multiplier
+multiplier-total = by-order (λ m k. total m (λ o. natAbs (multiplier m k o)) ≤ 32) (lit≤ tt) (lit≤ tt) (lit≤ tt) (lit≤ tt) (lit≤ tt)
+
+pub solved-size : (m : ℕ) → 2 ≤ m → m ≤ 3 → (y : ℕ → ℤ) → ((k : ℕ) → k < 3 → natAbs (y k) ≤ 2 ^ 50) → (o : ℕ) → o < 3 → natAbs (solved m y o) ≤ 2 ^ 62
+solved-size m m2 m3 y h o l =
+    le-trans (le-of-eq (ap natAbs (solved-linear m y o))) (le-trans (abs-weighted 3 (λ k. solved m (unit k) o) y (2 ^ 50) h) (le-trans (mul-le-mul-right (2 ^ 50) (solved-total m m2 m3 o l)) (lit≤ tt)))
+
+module _ (back : Bool) (m : ℕ) (m2 : 2 ≤ m) (m3 : m ≤ 3) (high : Bool) where
+  pub end-depends : Depends (endRule back m high) (λ k. k < m) (λ t. t < m)
+  unfolding endRule
+  end-depends x y k l h =
+      ap₂ (pick back) (ap (seen high k) (solved-ext m m2 m3 x y k l h))
+      (sum-ext m (λ o. multiplier m k o *ℤ seen high o (x o)) (λ o. multiplier m k o *ℤ seen high o (y o)) (λ o p. ap (λ z. multiplier m k o *ℤ seen high o z) (h o p)))
+
+  pub end-size : (x : ℕ → ℤ) (B k : ℕ) → k < m → ((t : ℕ) → t < m → natAbs (x t) ≤ B) → natAbs (endRule back m high x k) ≤ 32 * B
+  unfolding endRule
+  end-size x B k l h =
+      on-pick (λ z. natAbs z ≤ 32 * B) back (seen high k (solved m x k)) (sum m (λ o. multiplier m k o *ℤ seen high o (x o)))
+      (λ e. le-trans (le-of-eq (seen-size high k (solved m x k) ∙ ap natAbs (solved-sum m m2 m3 x k l))) (le-trans (abs-weighted m (λ t. solved m (unit t) k) x B h)
+      (mul-le-mul-right B (le-trans (total-part m 3 (λ t. natAbs (solved m (unit t) k)) m3) (solved-total m m2 m3 k (omega arith))))))
+      (λ e. le-trans (abs-weighted m (multiplier m k) (λ o. seen high o (x o)) B (λ o p. rw (seen-size high o (x o)) (h o p))) (mul-le-mul-right B (multiplier-total m m2 m3 k l)))
