@@ -1,7 +1,6 @@
 -- What a choice is, by its test; and facts by cases: of both degrees, of the axes, of the orders, of the numbers of two ends.
 use mathlib.Core.Path.{_≡_, refl, sym, subst}
-use mathlib.Core.Bool.{Bool, true, false, _&&_, _||_}
-use mathlib.Core.Logic.{_⊎_, inl, inr}
+use mathlib.Core.Bool.{Bool, true, false, _&&_}
 use Prim.Native.Nat.{ℕ, zero, suc, _+_, _*_, _-_, _≤_, _<_}
 use native.Mathlib.Nat.{not-suc-le-zero}
 use native.Mathlib.Decide.{ℕ-discrete, decLt}
@@ -38,10 +37,6 @@ and-T false y t = absurd t
 
 pub true-and : (a b : Bool) → a ≡ true → b ≡ true → (a && b) ≡ true
 true-and a b e f = rw e f
-
-pub or-true : (a b : Bool) → (a || b) ≡ true → (a ≡ true) ⊎ (b ≡ true)
-or-true true b h = inl refl
-or-true false b h = inr h
 
 -- a test computed over all numbers below a bound
 unfoldable pub all : ℕ → (ℕ → Bool) → Bool

@@ -6,13 +6,10 @@ use native.Mathlib.Numerals.{add-one}
 use mathlib.Core.Path.{_≡_, refl, ap, sym, _∙_}
 use mathlib.Core.Logic.{⊎-elim}
 use mathlib.Core.List.{List, [], _∷_, _++_}
-use lib.Dec.{ltb}
 use lib.IntN.{ℤ, pos}
 use lib.ListN.{length-drop, length, getD, set, take, drop, length-append, List·getD-append}
-use lib.Seq.{sets, sets-eq, ext-getD, drop-cons, set-at, append-snoc, getD-at, getD-append-add, getD-drop, getD-set-same, getD-set-other, take-suc, length-take-le}
+use lib.Seq.{sets, sets-eq, ext-getD, drop-cons, set-at, append-snoc, getD-at, getD-set-same, getD-set-other, take-suc, length-take-le}
 use borrow.Author.Count.{below-more}
-use borrow.Author.Tests.{ltb-true, ltb-false}
-use Rattle.arith.proofs.Choices.{split}
 use Rattle.lattice.specs.Buffer.{at, tabulate, overwrite}
 
 module _ {A : Type 0} where
@@ -55,30 +52,6 @@ module _ {A : Type 0} where
 
     pub filled-all : (n : ℕ) (now : List A) → Filled f old n now → now ≡ overwrite (tabulate n f) old
     filled-all n now e = e ∙ ap (λ (k : ℕ). tabulate n f ++ drop k old) (sym (length-tabulate n f))
-
-  -- a list that was filled from the front up to n, and holds the rest already
-  pub filled-rest : (f : ℕ → A) (old : List A) (n m : ℕ) (now : List A) (d : A) → n ≤ m → length old ≡ m → ((j : ℕ) → n ≤ j → j < m → getD old j d ≡ f j) → Filled f old n now → now ≡ tabulate m f
-  filled-rest f old n m now d h l rest e =
-      ext-getD d now (tabulate m f) (filled-length f old n now (omega arith) e ∙ l ∙ sym (length-tabulate m f)) each
-    where
-      front : (j : ℕ) → j < n → getD now j d ≡ f j
-      front j k = ap (λ (xs : List A). getD xs j d) e ∙ List·getD-append (tabulate n f) (drop n old) d j (rw (length-tabulate n f) k) ∙ getD-tabulate n f j d k
-
-      back : (j : ℕ) → n ≤ j → j < m → getD now j d ≡ f j
-      back j k u =
-          let s : j ≡ length (tabulate n f) + (j - n) = omega (arith, length-tabulate n f) in
-          let t : n + (j - n) ≡ j = omega arith in
-          ap (λ (xs : List A). getD xs j d) e
-          ∙ ap (λ (i : ℕ). getD (tabulate n f ++ drop n old) i d) s
-          ∙ getD-append-add (tabulate n f) (drop n old) (j - n) d
-          ∙ getD-drop n old (j - n) d
-          ∙ ap (λ (i : ℕ). getD old i d) t
-          ∙ rest j k u
-
-      each : (j : ℕ) → j < length now → getD now j d ≡ getD (tabulate m f) j d
-      each j k =
-          let u : j < m = omega (arith, filled-length f old n now (omega arith) e) in
-          split (ltb j n) (λ t. front j (ltb-true j n t)) (λ t. back j (ltb-false j n t) u) ∙ sym (getD-tabulate m f j d u)
 
   -- ---- runs of stores
 

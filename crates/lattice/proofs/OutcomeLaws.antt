@@ -30,11 +30,6 @@ module _ {A : Type 0} where
   first-assoc (done tt) b o = refl
   first-assoc (refused n p) b o = refl
 
-  -- a refusal is the test's where what comes after is done
-  pub first-refused : {B : Type 0} (a : Check) (v : A) (o : Outcome B) (k p : ℕ) → first a (done v) ≡ refused k p → first a o ≡ refused k p
-  first-refused (done tt) v o k p e = cc
-  first-refused (refused m q) v o k p e = cc
-
   -- what a slice holds where the call was done, and where it was refused
   pub when-done : {B : Type 0} {a : Outcome A} {v : A} (new old : B) → a ≡ done v → new ≡ whenDone a new old
   when-done new old e = sym (ap (λ (x : Outcome A). whenDone x new old) e)

@@ -1,13 +1,12 @@
 -- What callers may use of a shape that is not refused: ranges of its counts, of m, of the numbers of entries and nodes.
 use mathlib.Core.Path.{_≡_, refl, ap, sym, _∙_}
-use mathlib.Core.Bool.{Bool, true, false, _&&_, _||_}
-use mathlib.Core.Logic.{⊎-elim, _⊎_, inl, inr}
+use mathlib.Core.Bool.{Bool, true, false, _&&_}
 use Prim.Native.Nat.{ℕ, _*_, _^_, _≤_, _<_}
 use native.Mathlib.Nat.{pow-zero, pow-suc, one-mul, mul-one, mul-le-mul, pow-le-pow-left, pow-le-pow-right, le-trans, one-le-pow}
 use native.Mathlib.Omega.{arith}
 use lib.Dec.{leb, ltb, eqb, lit<}
 use borrow.Author.Tests.{ltb-true, ltb-false, leb-true, eqb-true, eq-eqb, lt-ltb, le-ltb, le-leb}
-use Rattle.arith.proofs.Choices.{pick-true, pick-false, on-pick, and-true, true-and, or-true}
+use Rattle.arith.proofs.Choices.{pick-true, pick-false, on-pick, and-true, true-and}
 use Rattle.lattice.specs.declared.Shape.{Shape}
 use Rattle.lattice.specs.Outcome.{Check, done, refused, refuseUnless, first}
 use Rattle.lattice.specs.Digits.{span}
@@ -72,11 +71,6 @@ table-shape s l h =
     sym (first-passed (refuseUnless (leb 1 (s .axes) && leb (s .axes) 3) 1 0) (first (degreeOutcome (s .degree)) (countsOutcome (s .axes) (count s)))
     (passes (leb 1 (s .axes) && leb (s .axes) 3) 1 0 (true-and (leb 1 (s .axes)) (leb (s .axes) 3) (le-leb 1 (s .axes) l) (le-leb (s .axes) 3 h))))
 
-pub degree-either : (d : ℕ) → degreeOutcome d ≡ done tt → (d ≡ 3) ⊎ (d ≡ 5)
-unfolding degreeOutcome
-degree-either d h =
-    ⊎-elim (λ p. inl (eqb-true d 3 p)) (λ p. inr (eqb-true d 5 p)) (or-true (eqb d 3) (eqb d 5) (refuse-done (eqb d 3 || eqb d 5) 2 0 h))
-
 pub shaped : (s : Shape) → shapeOutcome s ≡ done tt → Shaped s
 unfolding shapeOutcome
 shaped s h =
@@ -88,7 +82,6 @@ shaped s h =
     record {
       axes-low = n .0;
       axes-high = n .1;
-      degree-is = degree-either (s .degree) (g .0);
       low = λ a l. count-range (s .axes) (count s a) a (c a l) .0;
       high = λ a l. count-range (s .axes) (count s a) a (c a l) .1;
       used = λ a l. count-used (s .axes) (count s a) a (c a (within a (s .axes) l (n .1))) l .0;

@@ -1,6 +1,5 @@
 -- A table's shape: its axis number n, its degree d and three node counts; refusals 1, 2 and 3.
 use mathlib.Core.Path.{_≡_}
-use mathlib.Core.Logic.{_⊎_}
 use Prim.Native.Nat.{ℕ, _*_, _^_, _≤_, _<_}
 use mathlib.Core.Bool.{Bool, _&&_, _||_}
 use lib.Dec.{leb, ltb, eqb}
@@ -57,7 +56,6 @@ shapeOutcome s = first (axesOutcome (s .axes)) (first (degreeOutcome (s .degree)
 pub record Shaped (s : Shape) : Type 0 where
   pub axes-low : 1 ≤ s .axes
   pub axes-high : s .axes ≤ 3
-  pub degree-is : (s .degree ≡ 3) ⊎ (s .degree ≡ 5)
   pub low : (a : ℕ) → a < 3 → 1 ≤ count s a
   pub high : (a : ℕ) → a < 3 → count s a ≤ 64
   pub used : (a : ℕ) → a < s .axes → 2 ≤ count s a
