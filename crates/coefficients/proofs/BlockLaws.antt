@@ -3,9 +3,10 @@ use mathlib.Core.Path.{_≡_, sym, ap, subst, _∙_}
 use mathlib.Core.Bool.{Bool}
 use mathlib.Core.List.{List}
 use Prim.Native.Nat.{ℕ, suc, _+_, _-_, _*_, _/_, _%_, _^_, _≤_, _<_}
-use native.Mathlib.Nat.{le-trans, mul-le-mul-right, pow-succ', eq-of-mul-eq-mul-left, pow-le-pow-right, div-add-mod, mod-lt}
+use native.Mathlib.Nat.{le-trans, le-of-eq, lt-of-lt-of-le, mul-le-mul-right, pow-succ', eq-of-mul-eq-mul-left, pow-le-pow-right, div-add-mod, mod-lt}
 use native.Mathlib.Decide.{ℕ-discrete}
 use native.Mathlib.Omega.{arith}
+use lib.Pow.{pow-mono}
 use lib.Dec.{eqb, lit<, lit≤}
 use lib.IntN.{ℤ}
 use lib.ListN.{length}
@@ -15,7 +16,7 @@ use Rattle.lattice.specs.Flat.{pass}
 use Rattle.lattice.proofs.Local.{Depends}
 use Rattle.lattice.proofs.PassesLaws.{passes, passes-sweep, pass-same, passes-size, some-groups, place-in}
 use Rattle.lattice.proofs.ShapeLaws.{pow-range}
-use Rattle.lattice.proofs.DigitsLaws.{high-digit, low-digit, pair-in}
+use Rattle.lattice.proofs.DigitsLaws.{high-digit, low-digit, pair-in, group-room}
 use Rattle.hermite.proofs.EndLaws.{end-depends, end-size}
 use Rattle.coefficients.specs.Corners.{coefficientCount}
 use Rattle.coefficients.specs.Blocks.{Sizes, ruleAt, converted, Within, StartsWith, scatter}
@@ -44,6 +45,17 @@ module _ {m n r : ℕ} (ok : Sizes m n r) where
 
   groups-is : (j : ℕ) → suc j ≡ n → r ≡ m ^ j
   groups-is j e = eq-of-mul-eq-mul-left m orders-some r (m ^ j) (ok .groups-are ∙ ap (λ (k : ℕ). m ^ k) (sym e) ∙ pow-succ' m j)
+
+  pub size-low : m * r ≤ 27
+  size-low = le-trans (le-of-eq (ok .groups-are)) entries-low
+
+  -- the corners are eight at most
+  pub corner-low : (c : ℕ) → c < 2 ^ n → c < 8
+  corner-low c h = lt-of-lt-of-le h (pow-mono (ok .axes-high))
+
+  -- a row lies in the block
+  pub row-room : (g : ℕ) → g < r → m * g + m ≤ m ^ n
+  row-room g l = let h = group-room m g r l in let e = ok .groups-are in omega arith
 
   -- a number of the block by its groups
   pub in-groups : (k : ℕ) → k < m ^ n → k < m * r

@@ -2,7 +2,7 @@
 use mathlib.Core.Path.{_≡_, sym, subst}
 use mathlib.Core.List.{List}
 use Prim.Native.Nat.{ℕ, _≤_, _<_, _^_, _*_}
-use native.Mathlib.Nat.{le-trans, le-of-eq}
+use native.Mathlib.Nat.{le-trans}
 use native.Mathlib.Omega.{arith}
 use lib.Dec.{lit≤}
 use lib.IntN.{ℤ}
@@ -10,14 +10,14 @@ use denote.Ref.{now}
 use Rattle.lattice.specs.Buffer.{at}
 use Rattle.lattice.specs.Digits.{digit}
 use Rattle.coefficients.specs.Blocks.{Within}
-use Rattle.coefficients.proofs.BlockLaws.{entries-low, After, after-first, after-next, after-low, after-all}
+use Rattle.coefficients.proofs.BlockLaws.{size-low, After, after-first, after-next, after-low, after-all}
 use Rattle.coefficients.proofs.convert.Statement.{statement}
 use Rattle.coefficients.proofs.convert.Tie as tie
 
 -- what is asked of the sizes
 module _ (s : tie.Start) where
   sizes : (2 ≤ s .args .m) × (s .args .m ≤ 3) × (s .args .m * s .args .r ≤ 27)
-  sizes = let ok = s .pre .0 .0 in (ok .orders-low, ok .orders-high, le-trans (le-of-eq (ok .groups-are)) (entries-low ok))
+  sizes = let ok = s .pre .0 .0 in (ok .orders-low, ok .orders-high, size-low ok)
 
   start-low : Within (2 ^ 50) (s .args .m * s .args .r) (at (now (s .args .xs)))
   start-low k l = le-trans (s .pre .0 .1 k (subst (λ (e : ℕ). k < e) (s .pre .0 .0 .groups-are) l)) (lit≤ tt)

@@ -2,17 +2,16 @@
 use mathlib.Core.Path.{_≡_, refl, sym, ap, subst, _∙_}
 use mathlib.Core.List.{List}
 use Prim.Native.Nat.{ℕ, _≤_, _<_, _+_, _^_, _-_, _*_, zero-le}
-use native.Mathlib.Nat.{mul-zero, lt-of-lt-of-le, le-trans, le-of-eq}
+use native.Mathlib.Nat.{mul-zero}
 use native.Mathlib.Omega.{arith}
 use lib.Dec.{lit≤}
-use lib.Pow.{pow-mono}
 use lib.IntN.{ℤ, natAbs}
 use lib.ListN.{length}
 use denote.Ref.{now}
 use Rattle.lattice.specs.Buffer.{at}
 use Rattle.cell.specs.Cell.{startOf}
 use Rattle.coefficients.specs.Blocks.{spot, wanted, scatter, Stands}
-use Rattle.coefficients.proofs.BlockLaws.{orders-some, entries-low, count-low, in-groups}
+use Rattle.coefficients.proofs.BlockLaws.{orders-some, size-low, corner-low, count-low, in-groups}
 use Rattle.coefficients.proofs.SpotLaws.{scatter-length, stands-none, stands-corner, stands-all}
 use Rattle.coefficients.proofs.FillLaws.{block-is, block-low}
 use Rattle.coefficients.proofs.fill.Statement.{statement}
@@ -30,12 +29,6 @@ module _ (c : tie.In-loop Inv-loop μ-loop) where
 
   corner : c .before .loop .c < 2 ^ s .args .n
   corner = subst (λ (k : ℕ). c .before .loop .c < k) (c .before .before .power .ensures) (c .loop-test .taken)
-
-  few : c .before .loop .c < 8
-  few = lt-of-lt-of-le corner (pow-mono (s .pre .0 .0 .axes-high))
-
-  size-low : s .args .m * s .args .r ≤ 27
-  size-low = le-trans (le-of-eq (s .pre .0 .0 .groups-are)) (entries-low (s .pre .0 .0))
 
 -- a corner's block, loaded and converted
 module _ (c : tie.After-convert Inv-loop μ-loop) where
@@ -80,7 +73,7 @@ load-requires c κs =
     let h = s i .pre .0 .1 .inside (i .before .loop .c) (corner i) in
     let e = c .before .corner-start .ensures in
     let g = s i .pre .0 .0 .groups-are in
-    (size-low i, omega arith, i .before .loop .inv .1)
+    (size-low (s i .pre .0 .0), omega arith, i .before .loop .inv .1)
 
 convert-requires : tie.Need-convert-requires Inv-loop μ-loop
 convert-requires c κs =
@@ -112,12 +105,12 @@ fill-spec =
     μ-loop
     (λ c κs. (lit≤ tt, c .pre .0 .0 .axes-high))
     loop-holds
-    (λ c. let h = size-low c in omega arith)
-    (λ c κs. (few c, s c .pre .0 .1 .small))
+    (λ c. let h = size-low (s c .pre .0 .0) in omega arith)
+    (λ c κs. (corner-low (s c .pre .0 .0) _ (corner c), s c .pre .0 .1 .small))
     load-requires
     convert-requires
     (λ c κs. let d = c .before .before in (s (i d) .pre .0 .0, corner (i d), low d))
-    (λ c. let h = few (i (c .before .before .before)) in omega arith)
+    (λ c. let j = i (c .before .before .before) in let h = corner-low (s j .pre .0 .0) (j .before .loop .c) (corner j) in omega arith)
     (λ c. omega arith)
     loop-again
     returns)

@@ -6,9 +6,8 @@ use Prim.Native.Nat.{ℕ, _≤_, _+_, _^_, _-_, _*_, zero-le}
 use native.Mathlib.Nat.{mul-zero, lt-of-lt-of-le}
 use native.Mathlib.Omega.{arith}
 use Rattle.lattice.specs.Buffer.{at}
-use Rattle.lattice.proofs.DigitsLaws.{group-room}
 use Rattle.coefficients.specs.Blocks.{spot, scatter}
-use Rattle.coefficients.proofs.BlockLaws.{orders-some, entries-low, count-low}
+use Rattle.coefficients.proofs.BlockLaws.{orders-some, entries-low, count-low, row-room}
 use Rattle.coefficients.proofs.SpotLaws.{spot-in, scatter-add}
 use Rattle.coefficients.proofs.store.Statement.{statement}
 use Rattle.coefficients.proofs.store.Tie as tie
@@ -25,7 +24,7 @@ module _ (c : tie.In-loop Inv-loop μ-loop) where
 
   -- the row lies in the block
   room : s .args .m * c .before .loop .g + s .args .m ≤ s .args .m ^ s .args .n
-  room = let h = group-room (s .args .m) (c .before .loop .g) (s .args .r) (c .loop-test .taken) in let e = s .pre .0 .groups-are in omega arith
+  room = row-room (s .pre .0) (c .before .loop .g) (c .loop-test .taken)
 
 loop-holds : tie.Need-loop-holds Inv-loop μ-loop
 unfolding scatter

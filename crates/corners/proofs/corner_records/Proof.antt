@@ -2,10 +2,8 @@
 use mathlib.Core.Path.{_≡_, refl, sym, ap, subst, _∙_}
 use mathlib.Core.List.{List}
 use Prim.Native.Nat.{ℕ, _≤_, _<_, _+_, _^_, _-_, _*_, zero-le}
-use native.Mathlib.Nat.{lt-of-lt-of-le, le-trans, le-of-eq}
 use native.Mathlib.Omega.{arith}
 use lib.Dec.{lit≤}
-use lib.Pow.{pow-mono}
 use lib.IntN.{ℤ}
 use lib.ListN.{length}
 use denote.Ref.{now}
@@ -15,7 +13,7 @@ use Rattle.lattice.specs.Outcome.{Check, done, firstOf}
 use Rattle.lattice.specs.Buffer.{at}
 use Rattle.lattice.proofs.OutcomeLaws.{firstOf-stops, firstOf-more, done-refused}
 use Rattle.coefficients.specs.Blocks.{scatter}
-use Rattle.coefficients.proofs.BlockLaws.{entries-low, count-low}
+use Rattle.coefficients.proofs.BlockLaws.{size-low, corner-low, count-low}
 use Rattle.coefficients.proofs.SpotLaws.{scatter-length}
 use Rattle.corners.specs.Back.{blockTest, entryOf, entryTest}
 use Rattle.corners.proofs.BackLaws.{limits-hold, tests-are, filled, count-is, rows}
@@ -42,12 +40,6 @@ module _ (c : tie.In-loop Inv-loop μ-loop) where
 
   corner : c .before .loop .c < 2 ^ S .args .n
   corner = subst (λ (k : ℕ). c .before .loop .c < k) (c .before .before .power .ensures) (c .loop-test .taken)
-
-  few : c .before .loop .c < 8
-  few = lt-of-lt-of-le corner (pow-mono (S .pre .0 .axes-high))
-
-  size-low : S .args .m * S .args .r ≤ 27
-  size-low = le-trans (le-of-eq (S .pre .0 .groups-are)) (entries-low (S .pre .0))
 
 -- the block of a corner
 module _ (c : tie.After-convert Inv-loop μ-loop) where
@@ -104,7 +96,7 @@ store-requires : tie.Need-store-requires Inv-loop μ-loop
 store-requires c κs =
     let w = c .before .before .before in
     let ok = S (i w) .pre .0 in
-    (ok .axes-high, size-low (i w), few (i w), λ j h. w .convert .ensures .1 .1 j (subst (λ (e : ℕ). j < e) (ok .groups-are) h), λ j h. limits-hold ok (limits w) (i w .before .before .before .entry-limits .ensures) j (subst (λ (e : ℕ). j < e) (ok .groups-are) h))
+    (ok .axes-high, size-low ok, corner-low ok (k w) (corner (i w)), λ j h. w .convert .ensures .1 .1 j (subst (λ (e : ℕ). j < e) (ok .groups-are) h), λ j h. limits-hold ok (limits w) (i w .before .before .before .entry-limits .ensures) j (subst (λ (e : ℕ). j < e) (ok .groups-are) h))
 
 returns : tie.Need-returns Inv-loop μ-loop
 returns c =
@@ -149,12 +141,12 @@ corner-records-spec =
     loop-holds
     (λ c κs. let j = c .before in (S j .pre .0, corner j, S j .pre .1, j .before .loop .inv .1))
     convert-requires
-    (λ c. let h = size-low (i c) in omega arith)
+    (λ c. let h = size-low (S (i c) .pre .0) in omega arith)
     store-requires
     (λ c. search needs)
     returns
     (λ c. search needs)
-    (λ c. let h = few (i (d (c .before .before))) in omega arith)
+    (λ c. let w = d (c .before .before) in let h = corner-low (S (i w) .pre .0) (k w) (corner (i w)) in omega arith)
     (λ c. omega arith)
     loop-again
     returns-2)

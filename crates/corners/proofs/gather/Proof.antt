@@ -2,8 +2,7 @@
 use mathlib.Core.Path.{_≡_, ap, subst, _∙_}
 use Prim.Native.Nat.{ℕ, _≤_, _<_, _+_, _^_, _-_, _*_, zero-le}
 use native.Mathlib.Omega.{arith}
-use Rattle.lattice.proofs.DigitsLaws.{group-room}
-use Rattle.coefficients.proofs.BlockLaws.{orders-some, entries-low}
+use Rattle.coefficients.proofs.BlockLaws.{orders-some, entries-low, row-room}
 use Rattle.coefficients.proofs.SpotLaws.{spot-in}
 use Rattle.corners.specs.Back.{Gathers}
 use Rattle.corners.proofs.gather.Statement.{statement}
@@ -21,7 +20,7 @@ module _ (c : tie.In-loop Inv-loop μ-loop) where
 
   -- the row lies in the block
   room : s .args .m * c .before .loop .g + s .args .m ≤ s .args .m ^ s .args .n
-  room = let h = group-room (s .args .m) (c .before .loop .g) (s .args .r) (c .loop-test .taken) in let e = s .pre .0 .groups-are in omega arith
+  room = row-room (s .pre .0) (c .before .loop .g) (c .loop-test .taken)
 
 none : (m j : ℕ) → j < m * 0 → ⊥
 none m j h = omega arith
