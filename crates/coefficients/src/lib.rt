@@ -240,10 +240,11 @@ pub fn coefficients(s: Shape, records: &[i32], cell: [u32; 3], out: &mut [i32]) 
         return asked;
     }
     let l = cell::lay_out(s, cell);
-    if cell::corners_within(s.axes, s, records, cell, l) {
-        let xs = cell_coefficients(s.axes as usize, l, records);
-        copy_out(coefficient_count(s.axes, s.degree), &xs, out);
-        return asked;
+    let tested = cell::check_corners(s, records, cell, l);
+    if let Answer::Refused(_) = tested {
+        return tested;
     }
-    cell::check_corners(s, records, cell, l)
+    let xs = cell_coefficients(s.axes as usize, l, records);
+    copy_out(coefficient_count(s.axes, s.degree), &xs, out);
+    tested
 }

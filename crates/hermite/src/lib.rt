@@ -7,7 +7,7 @@ ghost use Rattle.arith.specs.Int.{roundHalfUp};
 ghost use Rattle.arith.specs.Sum.{sum, total};
 ghost use Rattle.lattice.specs.Buffer.{at};
 ghost use Rattle.hermite.specs.Hermite.{multiplier, turned, solved, seen, endRule, Kind, kindOf, weight, stageSum};
-ghost use Rattle.hermite.specs.Stage.{steps, RowsOn, Folds, bothEnds, load, shiftOf};
+ghost use Rattle.hermite.specs.Stage.{steps, RowsOn, Solution, Folds, bothEnds, load, shiftOf};
 
 // A cell has 256 steps an axis.
 pub const STEPS: u32 = 256;
@@ -20,16 +20,6 @@ const MULTIPLIERS: [[i64; 3]; 6] = [
     [2, 0, 0],
     [10, 1, 0],
     [20, 4, 1],
-];
-
-// What undoes them: twice each number of an end from the coefficients counted from it.
-const SOLUTIONS: [[i64; 3]; 6] = [
-    [1, 0, 0],
-    [-6, 2, 0],
-    [0, 0, 2],
-    [1, 0, 0],
-    [-10, 2, 0],
-    [20, -8, 2],
 ];
 
 // The first three weights of a dose or a slope, a and b being the distances 256 - u and u.
@@ -155,15 +145,25 @@ fn end_coefficients(m: usize, x: [i64; 3]) -> [i64; 3]
     by_rows(MULTIPLIERS[3], MULTIPLIERS[4], MULTIPLIERS[5], x)
 }
 
+// The numbers of the low end, doubled, from its coefficients, b and c being the second and the third row of the table.
+fn solution(b: [i64; 3], c: [i64; 3], y: [i64; 3]) -> [i64; 3]
+    requires { ⌜ (natAbs (at b 0) ≤ 20) × (natAbs (at c 0) ≤ 20) × (natAbs (at c 1) ≤ 20) ⌝ }
+    requires { ⌜ ((o : ℕ) → o < 3 → natAbs (at y o) ≤ 2 ^ 50) ⌝ }
+    ensures { λ r. ⌜ Solution (at b) (at c) (at y) (at r) ⌝ }
+{
+    let d = 2 * y[1] - b[0] * y[0];
+    [y[0], d, 2 * y[2] - c[0] * y[0] - c[1] * d]
+}
+
 // And back: its numbers, doubled.
 fn end_numbers(m: usize, y: [i64; 3]) -> [i64; 3]
     requires { ⌜ (2 ≤ m) × (m ≤ 3) × ((o : ℕ) → o < 3 → natAbs (at y o) ≤ 2 ^ 50) ⌝ }
     ensures { λ r. ⌜ ((o : ℕ) → o < 3 → at r o ≡ solved m (at y) o) ⌝ }
 {
     if m == 2 {
-        return by_rows(SOLUTIONS[0], SOLUTIONS[1], SOLUTIONS[2], y);
+        return solution(MULTIPLIERS[1], MULTIPLIERS[2], y);
     }
-    by_rows(SOLUTIONS[3], SOLUTIONS[4], SOLUTIONS[5], y)
+    solution(MULTIPLIERS[4], MULTIPLIERS[5], y)
 }
 
 // The coefficients of an end, counted from it, from its numbers; or back, its numbers, doubled, from these.

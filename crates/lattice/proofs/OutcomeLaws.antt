@@ -67,10 +67,6 @@ passed-not a e d = true-false (sym (ap passed d) ∙ e)
     true-false : true ≡ false → ⊥
     true-false e = let z : _≡_ {A = ℕ} 0 1 = cc in absurd (omega arith)
 
-pub when-stopped : {B : Type 0} (a : Check) (new old : B) → passed a ≡ false → old ≡ whenDone a new old
-when-stopped (done tt) new old e = cc
-when-stopped (refused n p) new old e = refl
-
 pub firstOf-each : (n : ℕ) (test : ℕ → Check) → firstOf n test ≡ done tt → (a : ℕ) → a < n → test a ≡ done tt
 unfolding firstOf
 firstOf-each zero test h a l = absurd (not-suc-le-zero l)

@@ -1,16 +1,16 @@
 -- `coefficients::coefficients` meets its contract: refused, the slice stays as it is; else it is overwritten by the cell's coefficients.
-use mathlib.Core.Path.{_≡_, refl, sym, ap, subst, _∙_}
+use mathlib.Core.Path.{_≡_, sym, ap, subst, _∙_}
 use mathlib.Core.List.{List}
 use Prim.Native.Nat.{ℕ, _≤_}
 use lib.IntN.{ℤ}
 use lib.ListN.{length}
 use denote.Ref.{now}
 use Rattle.lattice.specs.Answer.{meaning}
-use Rattle.lattice.specs.Outcome.{Check, done, passed as passedBy}
+use Rattle.lattice.specs.Outcome.{Check, done}
 use Rattle.lattice.specs.Buffer.{at, tabulate, overwrite}
 use Rattle.lattice.specs.Shape.{orders}
 use Rattle.lattice.specs.Records.{recordsField}
-use Rattle.lattice.proofs.OutcomeLaws.{refused-first, first-passed, when-done, when-refused, when-stopped, passed-done}
+use Rattle.lattice.proofs.OutcomeLaws.{refused-first, first-passed, when-done, when-refused}
 use Rattle.lattice.proofs.ShapeLaws.{orders-range}
 use Rattle.cell.specs.Cell.{placeAt, cornersOutcome}
 use Rattle.coefficients.specs.Corners.{coefficientList, askedOutcome, coefficientsOutcome, coefficientsWrites}
@@ -44,20 +44,20 @@ module _ (c : tie.After-enum-told2) where
   outcome = first-passed (askedOutcome (start .args .s) (length (now (start .args .records))) (placeAt (start .args .cell)) (length (now (start .args .out)))) tests passed
 
 -- nor by 5
-module _ (c : tie.Then1) where
+module _ (c : tie.After-enum-told4) where
   abbrev two : tie.After-enum-told2
-  two = c .before .before .before
+  two = c .before .before .before .before
 
   tested : tests two ≡ done tt
   unfolding tests
-  tested = passed-done (tests two) (sym (c .before .corners-within .ensures) ∙ c .if1 .taken)
+  tested = sym (c .before .before .check-corners .ensures) ∙ ap meaning (c .enum-told4 .given .1)
 
-  gathered : Gathered (c .before .before .lay-out .result .orders) (start two .args .s .axes) (c .before .before .lay-out .result) (now (start two .args .records))
+  gathered : Gathered (c .before .before .before .lay-out .result .orders) (start two .args .s .axes) (c .before .before .before .lay-out .result) (now (start two .args .records))
   unfolding tests
   gathered =
       let f = facts two in
       let a = start two .args in
-      let l = c .before .before .lay-out in
+      let l = c .before .before .before .lay-out in
       subst (λ (m : ℕ). Gathered m (a .s .axes) (l .result) (now (a .records))) (sym (l .ensures .orders-are)) (corners-gathered (a .s) (f .shape) (placeAt (a .cell)) (f .here) (now (a .records)) (f .many) (l .result) (l .ensures) tested)
 
 returns : tie.Need-returns
@@ -69,12 +69,24 @@ returns c =
     let h = refused-first (cornersOutcome (a .s) (now (a .records)) (placeAt (a .cell))) (sym (w .check-asked .ensures) ∙ e) in
     (e ∙ sym h, when-refused (written (w .before)) (now (a .out)) h)
 
+check-corners-requires : tie.Need-check-corners-requires
+check-corners-requires c κs = let f = facts (c .before) in ((f .shape, f .many), (f .here, c .lay-out .ensures))
+
+returns-2 : tie.Need-returns-2
+unfolding coefficientsWrites tests
+returns-2 c =
+    let d = c .before .before in
+    let t = d .before .before in
+    let e = ap meaning (c .enum-told3 .given .1) in
+    let h = outcome t ∙ sym (d .check-corners .ensures) ∙ e in
+    (e ∙ sym h, when-refused (written (start t)) (now (start t .args .out)) h)
+
 cell-coefficients-requires : tie.Need-cell-coefficients-requires
 cell-coefficients-requires c κs =
     let t = c .before in
     let f = facts (two t) .shape in
     let m = orders-range (start (two t) .args .s .degree) in
-    let e = t .before .before .lay-out .ensures .orders-are in
+    let e = t .before .before .before .lay-out .ensures .orders-are in
     (subst (λ (k : ℕ). 2 ≤ k) (sym e) (m .0), subst (λ (k : ℕ). k ≤ 3) (sym e) (m .1), f .axes-low, f .axes-high, gathered t)
 
 copy-out-requires : tie.Need-copy-out-requires
@@ -84,9 +96,9 @@ copy-out-requires c κs =
     let e = n .coefficient-count .ensures in
     (e .1, rw (e .0) (f .roomy))
 
-returns-2 : tie.Need-returns-2
+returns-3 : tie.Need-returns-3
 unfolding coefficientsWrites
-returns-2 c =
+returns-3 c =
     let n = c .before .before .before .before in
     let x = n .before in
     let t = x .before .before in
@@ -94,24 +106,13 @@ returns-2 c =
     let s = start d in
     let a = s .args in
     let f = facts d in
-    let l = t .before .before .lay-out in
+    let l = t .before .before .before .lay-out in
     let h = outcome d ∙ tested t in (
-      ap meaning (d .enum-told2 .given .1) ∙ sym h,
+      ap meaning (t .enum-told4 .given .1) ∙ sym h,
       c .before .copy-out .ensures ∙ ap (λ (k : ℕ). overwrite (tabulate k (at (x .cell-coefficients .result))) (now (a .out))) (n .coefficient-count .ensures .0)
           ∙ ap (λ (ys : List ℤ). overwrite ys (now (a .out))) (list-is (a .s) (f .shape) (placeAt (a .cell)) (f .here) (now (a .records)) (f .many) (l .result) (l .ensures) (x .cell-coefficients .result) (x .cell-coefficients .ensures))
           ∙ when-done (written s) (now (a .out)) h,
     )
-
-check-corners-requires : tie.Need-check-corners-requires
-check-corners-requires c κs = let d = c .before .before in let f = facts (d .before) in ((f .shape, f .many), (f .here, d .lay-out .ensures))
-
-returns-3 : tie.Need-returns-3
-unfolding coefficientsWrites tests
-returns-3 c =
-    let w = c .before .before in
-    let d = w .before .before in
-    let a = start d .args in
-    (c .check-corners .ensures ∙ sym (outcome d), when-stopped (coefficientsOutcome (a .s) (now (a .records)) (placeAt (a .cell)) (length (now (a .out)))) (written (start d)) (now (start d .args .out)) (ap (λ (x : Check). passedBy x) (outcome d) ∙ sym (w .corners-within .ensures) ∙ c .before .if1 .left))
 
 pub coefficients-spec : {M : Type 1} → statement M
 coefficients-spec =
@@ -122,12 +123,13 @@ coefficients-spec =
     returns
     (λ c. search needs)
     (λ c κs. (facts c .shape, facts c .here))
-    (λ c κs. let f = facts (c .before) in ((f .shape, f .many, refl), (f .here, c .lay-out .ensures)))
+    check-corners-requires
+    (λ c. search needs)
+    returns-2
+    (λ c. search needs)
     (λ c. search needs)
     cell-coefficients-requires
     (λ c κs. facts (two (c .before .before)) .shape .axes-high)
     copy-out-requires
     (λ c. search needs)
-    returns-2
-    check-corners-requires
     returns-3)
