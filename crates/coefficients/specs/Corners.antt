@@ -83,9 +83,13 @@ coefficientsField m n cs p = at cs (number n (λ a. 2 * m) p)
 unfoldable pub doubledEntry : ℕ → ℕ → List ℤ → ℕ → ℤ
 doubledEntry m n cs i = sweep (axes n) (λ a. backward m) (coefficientsField m n cs) (cornerNumbers m n i)
 
--- a doubled entry is whole, and the entry within its limit
+-- a number doubled once per axis is whole, and then within the limit
+abbrev pub wholeWithin : ℕ → ℕ → ℤ → Bool
+wholeWithin n limit z = eqb (natAbs z % 2 ^ n) 0 && leb (natAbs z / 2 ^ n) limit
+
+-- so is entry i
 unfoldable pub allowed : ℕ → ℕ → ℕ → ℤ → Bool
-allowed m n i z = eqb (natAbs z % 2 ^ n) 0 && leb (natAbs z / 2 ^ n) (entryLimit m n (cornerNumbers m n i))
+allowed m n i z = wholeWithin n (entryLimit m n (cornerNumbers m n i)) z
 
 -- 13: coefficients that no permitted corner records have
 unfoldable pub possibleOutcome : ℕ → ℕ → List ℤ → Check

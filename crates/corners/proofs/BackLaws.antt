@@ -22,13 +22,13 @@ use Rattle.lattice.proofs.DigitsLaws.{digit-below, low-digit}
 use Rattle.lattice.proofs.OutcomeLaws.{firstOf-same, firstOf-rows}
 use Rattle.cell.specs.Cell.{limitOf, limitIn, Limits}
 use Rattle.cell.proofs.CornerLaws.{digits-total}
-use Rattle.coefficients.specs.Corners.{coefficientCount, cornerNumbers, doubledEntry, allowed, possibleOutcome}
+use Rattle.coefficients.specs.Corners.{wholeWithin, coefficientCount, cornerNumbers, doubledEntry, allowed, possibleOutcome}
 use Rattle.coefficients.specs.Blocks.{Sizes, blockNumbers, spot, converted, scatter}
 use Rattle.coefficients.proofs.NumberLaws.{count-split}
 use Rattle.coefficients.proofs.BlockLaws.{orders-some}
 use Rattle.coefficients.proofs.SpotLaws.{numbers-are, entry-of, scatter-length}
 use Rattle.coefficients.proofs.ConvertLaws.{converted-same, backward-block}
-use Rattle.corners.specs.Back.{Gathers, wholeWithin, blockTest, entryOf, entryTest}
+use Rattle.corners.specs.Back.{Gathers, blockTest, entryOf, entryTest}
 
 -- one coefficient more
 pub gathers-more : (m c k : ℕ) (cs xs : List ℤ) (v : ℤ) → k < 27 → Gathers m c k cs xs → v ≡ at cs (spot m c k) → natAbs v ≤ 2 ^ 31 → Gathers m c (k + 1) cs (set xs k v)

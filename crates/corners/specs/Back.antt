@@ -1,16 +1,14 @@
 -- How the code works coefficients back, corner by corner.
 use mathlib.Core.Path.{_≡_}
-use Prim.Native.Nat.{ℕ, _%_, _/_, _^_, _≤_, _<_}
-use mathlib.Core.Bool.{Bool, _&&_}
+use Prim.Native.Nat.{ℕ, _^_, _≤_, _<_}
 use mathlib.Core.List.{List}
-use lib.Dec.{leb, eqb}
 use lib.IntN.{ℤ, natAbs}
 use lib.ListN.{length}
 use Rattle.arith.specs.Int.{floorDiv}
 use Rattle.lattice.specs.Outcome.{Check, refuseUnless}
 use Rattle.lattice.specs.Buffer.{at}
 use Rattle.cell.specs.Cell.{limitIn}
-use Rattle.coefficients.specs.Corners.{allowed, doubledEntry}
+use Rattle.coefficients.specs.Corners.{wholeWithin, allowed, doubledEntry}
 use Rattle.coefficients.specs.Blocks.{spot}
 
 -- the first k numbers are the coefficients of corner c, counted from it, each within 32 bits
@@ -18,10 +16,6 @@ pub record Gathers (m c k : ℕ) (cs xs : List ℤ) : Type 0 where
   pub long : length xs ≡ 27
   pub is : (j : ℕ) → j < k → at xs j ≡ at cs (spot m c j)
   pub low : (j : ℕ) → j < k → natAbs (at xs j) ≤ 2 ^ 31
-
--- a number doubled once per axis is whole, and then within the limit
-abbrev pub wholeWithin : ℕ → ℕ → ℤ → Bool
-wholeWithin n limit z = eqb (natAbs z % 2 ^ n) 0 && leb (natAbs z / 2 ^ n) limit
 
 -- the test of number k of a corner's block after back
 abbrev pub blockTest : ℕ → List ℤ → (ℕ → ℤ) → ℕ → Check

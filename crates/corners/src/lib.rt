@@ -9,9 +9,9 @@ ghost use Rattle.lattice.specs.Answer.{meaning};
 ghost use Rattle.lattice.specs.Buffer.{at};
 ghost use Rattle.lattice.specs.Shape.{ordersOf};
 ghost use Rattle.cell.specs.Cell.{Limits};
-ghost use Rattle.coefficients.specs.Corners.{coefficientCount, possibleOutcome, numbersOutcome, backOutcome, backWrites};
+ghost use Rattle.coefficients.specs.Corners.{wholeWithin, coefficientCount, possibleOutcome, numbersOutcome, backOutcome, backWrites};
 ghost use Rattle.coefficients.specs.Blocks.{Sizes, spot, Within, scatter};
-ghost use Rattle.corners.specs.Back.{Gathers, wholeWithin, blockTest, entryOf};
+ghost use Rattle.corners.specs.Back.{Gathers, blockTest, entryOf};
 use lattice::Answer;
 
 // The coefficients of row g of corner c, counted from it.

@@ -20,9 +20,10 @@ use Rattle.lattice.specs.Answer.{meaning}
 use Rattle.lattice.specs.Outcome.{done, refuseUnless, firstOf}
 use Rattle.lattice.specs.Buffer.{at}
 use Rattle.lattice.proofs.OutcomeLaws.{firstOf-stops, firstOf-more, done-refused}
+use Rattle.coefficients.specs.Corners.{wholeWithin}
 use Rattle.coefficients.specs.Blocks.{scatter}
 use Rattle.coefficients.proofs.SpotLaws.{scatter-more}
-use Rattle.corners.specs.Back.{wholeWithin, blockTest}
+use Rattle.corners.specs.Back.{blockTest}
 use borrow.Author.Needs.{needs}
 use Rattle.corners.proofs.store.Statement.{statement}
 use Rattle.corners.proofs.store.Tie as tie
