@@ -1,3 +1,4 @@
+-- `cell::all_within` meets its contract: no record before the one at hand has an entry beyond its limit.
 use mathlib.Core.Path.{_≡_, refl, sym, ap, subst, _∙_}
 use Prim.Native.Nat.{ℕ, _≤_, _+_, _-_}
 use native.Mathlib.Omega.{arith}

@@ -1,3 +1,4 @@
+-- `cell::beyond` meets its contract: two comparisons with a limit that is not negative.
 use mathlib.Core.Path.{_≡_, refl, sym, _∙_}
 use mathlib.Core.Bool.{true, false}
 use Prim.Native.Nat.{ℕ, zero, suc, _<_, _^_}

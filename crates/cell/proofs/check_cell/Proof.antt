@@ -1,3 +1,4 @@
+-- `cell::check_cell` meets its contract: the tests of three axes, of which the first refusal stands.
 use mathlib.Core.Path.{_≡_, sym, ap, _∙_}
 use mathlib.Core.List.{[], _∷_}
 use Prim.Native.Nat.{ℕ, _+_}

@@ -1,3 +1,4 @@
+-- `cell::check_corners` meets its contract: no corner before the one at hand has an entry beyond its limit.
 use Rattle.arith.proofs.Machine.{shifted}
 use Rattle.cell.proofs.CellLaws.{laid-small}
 use Rattle.lattice.specs.Outcome.{done, refused, firstOf}

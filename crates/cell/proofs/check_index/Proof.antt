@@ -1,3 +1,4 @@
+-- `cell::check_index` meets its contract: the tests of a used and of an unused axis.
 use borrow.Author.Needs.{needs}
 use Rattle.cell.proofs.check_index.Statement.{statement}
 use Rattle.cell.proofs.check_index.Tie as tie

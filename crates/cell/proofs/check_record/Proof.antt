@@ -1,3 +1,4 @@
+-- `cell::check_record` meets its contract: no entry before the one at hand is beyond its limit.
 use mathlib.Core.Path.{_≡_, refl, sym, subst, _∙_}
 use Prim.Native.Nat.{ℕ, _≤_, _+_, _-_}
 use native.Mathlib.Omega.{arith}

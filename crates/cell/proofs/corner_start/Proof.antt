@@ -1,3 +1,4 @@
+-- `cell::corner_start` meets its contract: the base and the strides of the corner's ends; their sum fits.
 use native.Mathlib.Omega.{arith}
 use Rattle.cell.proofs.CellLaws.{Steps, small-steps}
 use borrow.Author.Needs.{needs}

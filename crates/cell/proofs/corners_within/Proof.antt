@@ -1,3 +1,4 @@
+-- `cell::corners_within` meets its contract: the sizes of each degree and number of axes as literals are those of the cell.
 use mathlib.Core.Path.{_≡_, refl, sym, ap, subst, _∙_}
 use mathlib.Core.List.{List}
 use Prim.Native.Nat.{ℕ, _≤_, _<_, _+_, _^_}

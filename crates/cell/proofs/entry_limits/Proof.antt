@@ -1,3 +1,4 @@
+-- `cell::entry_limits` meets its contract: the rows of the constant table are the limits, by a computed test.
 use mathlib.Core.Bool.{Bool, _&&_}
 use mathlib.Core.List.{List, [], _∷_}
 use lib.Dec.{T, eqb, eqb→eq}

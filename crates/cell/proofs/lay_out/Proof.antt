@@ -1,3 +1,4 @@
+-- `cell::lay_out` meets its contract: the base and the strides are those of the cell; their products fit.
 use mathlib.Core.List.{List}
 use native.Mathlib.Nat.{mul-le-mul}
 use native.Mathlib.Decide.{decLt}

@@ -1,3 +1,4 @@
+-- `cell::record_within` meets its contract: the flag says whether an entry so far is beyond its limit.
 use mathlib.Core.Path.{_≡_, refl, sym, ap, _∙_}
 use Prim.Native.Nat.{ℕ, _≤_, _+_, _-_}
 use native.Mathlib.Omega.{arith}

@@ -1,3 +1,4 @@
+-- `lattice::check_axes` meets its contract: the test is the definition's.
 use mathlib.Core.Logic.{⊎-elim}
 use borrow.Author.Tests.{le-leb, lt-leb}
 use Rattle.lattice.specs.Shape.{axesOutcome}

@@ -1,3 +1,4 @@
+-- `lattice::check_count` meets its contract: the tests of a used and of an unused axis.
 use mathlib.Core.Logic.{⊎-elim}
 use borrow.Author.Tests.{le-leb, lt-leb}
 use Rattle.lattice.specs.Shape.{countAllowed}

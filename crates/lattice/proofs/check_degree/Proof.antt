@@ -1,3 +1,4 @@
+-- `lattice::check_degree` meets its contract: the test is the definition's.
 use mathlib.Core.Logic.{⊎-elim}
 use borrow.Author.Tests.{eq-eqb, ne-eqb}
 use Rattle.lattice.specs.Shape.{degreeOutcome}

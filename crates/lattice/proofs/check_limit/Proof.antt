@@ -1,3 +1,4 @@
+-- `lattice::check_limit` meets its contract: no number before the one at hand is beyond the limit.
 use Rattle.arith.proofs.Machine.{widen-fits, widened}
 use lib.Signed.{mag}
 use mathlib.Core.List.{List}

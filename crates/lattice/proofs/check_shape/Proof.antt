@@ -1,3 +1,4 @@
+-- `lattice::check_shape` meets its contract: 1, then the tests of the table.
 use mathlib.Core.Path.{sym, ap, _∙_}
 use borrow.Author.Needs.{needs}
 use Rattle.lattice.specs.Answer.{meaning}

@@ -1,3 +1,4 @@
+-- `lattice::check_table` meets its contract: 2, then 3.
 use mathlib.Core.Path.{sym, ap, _∙_}
 use Prim.Native.Nat.{ℕ}
 use borrow.Author.Needs.{needs}

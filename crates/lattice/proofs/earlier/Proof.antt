@@ -1,3 +1,4 @@
+-- `lattice::earlier` meets its contract: the first refusal of two, else none.
 use mathlib.Core.Path.{sym, ap, _∙_}
 use Rattle.lattice.specs.Answer.{meaning}
 use Rattle.lattice.proofs.OutcomeLaws.{refused-first, first-passed}

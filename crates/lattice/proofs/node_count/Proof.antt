@@ -1,3 +1,4 @@
+-- `lattice::node_count` meets its contract: the product of three counts, which fits.
 use Rattle.lattice.specs.Shape.{count}
 use Rattle.lattice.proofs.ShapeLaws.{plane-high, nodes-high, nodes-is}
 use mathlib.Core.Path.{sym}

@@ -1,3 +1,4 @@
+-- `lattice::orders` meets its contract: 2 for degree 3, else 3.
 use borrow.Author.Tests.{eq-eqb, ne-eqb}
 use Rattle.arith.proofs.Choices.{pick-true, pick-false}
 use Rattle.lattice.specs.Shape.{ordersOf}

@@ -1,3 +1,4 @@
+-- `lattice::record_entries` meets its contract: the power of m for each number of axes.
 use native.Mathlib.Nat.{mul-le-mul}
 use Rattle.lattice.specs.declared.Shape.{Shape}
 use Rattle.lattice.specs.Shape.{orders, entries, Shaped}

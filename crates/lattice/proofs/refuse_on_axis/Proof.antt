@@ -1,3 +1,4 @@
+-- `lattice::refuse_on_axis` meets its contract: the test of a used axis or that of an unused one.
 use borrow.Author.Tests.{lt-ltb, le-ltb}
 use Rattle.arith.specs.Choice.{pick}
 use mathlib.Core.Path.{_∙_}

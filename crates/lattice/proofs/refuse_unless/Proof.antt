@@ -1,3 +1,4 @@
+-- `lattice::refuse_unless` meets its contract: passed, or the refusal.
 use borrow.Author.Needs.{needs}
 use Rattle.lattice.proofs.refuse_unless.Statement.{statement}
 use Rattle.lattice.proofs.refuse_unless.Tie as tie

@@ -1,3 +1,4 @@
+-- `lattice::table_entries` meets its contract: nodes times the entries of a record, which fit.
 use Rattle.lattice.specs.Shape.{size}
 use Rattle.lattice.proofs.ShapeLaws.{size-high}
 use native.Mathlib.Omega.{arith}
