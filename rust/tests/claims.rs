@@ -100,6 +100,22 @@ fn in_block(shape: Shape, cell: [u32; 3], node: usize) -> bool {
     })
 }
 
+// Both tables answer, and alike, at some random steps of a cell.
+fn assert_alike(random: &mut Random, tables: &[Estimated; 2], cell: [u32; 3], times: usize) {
+    let axes = tables[0].shape.axes;
+    for _ in 0..times {
+        let mut u = [0; 3];
+        u[..axes as usize].fill_with(|| random.below(257) as u32);
+        for along in kinds(axes) {
+            let [one, two] = tables
+                .each_ref()
+                .map(|table| table.ask(Where::Cell(cell, u), along));
+            assert!(one.is_ok());
+            assert_eq!(one, two, "{:?} {cell:?} {u:?}", tables[0].shape);
+        }
+    }
+}
+
 #[test]
 fn samples_outside_the_block_do_not_count() {
     let mut random = Random::new(2);
@@ -115,16 +131,7 @@ fn samples_outside_the_block_do_not_count() {
                 }
             }
             let tables = [samples, other].map(|samples| Estimated::new(shape, &samples));
-            for _ in 0..20 {
-                let mut u = [0; 3];
-                u[..axes as usize].fill_with(|| random.below(257) as u32);
-                for along in kinds(axes) {
-                    let [one, two] = tables
-                        .each_ref()
-                        .map(|t| t.ask(Where::Cell(cell, u), along));
-                    assert_eq!(one, two, "{shape:?} {cell:?} {u:?}");
-                }
-            }
+            assert_alike(&mut random, &tables, cell, 20);
         }
     }
 }
@@ -164,15 +171,7 @@ fn a_table_that_grows_keeps_its_answers() {
                 })
             };
             for cell in cells(small).into_iter().filter(same_block) {
-                let mut u = [0; 3];
-                u[..axes as usize].fill_with(|| random.below(257) as u32);
-                for along in kinds(axes) {
-                    let [one, two] = tables
-                        .each_ref()
-                        .map(|t| t.ask(Where::Cell(cell, u), along));
-                    assert_eq!(one, two, "{small:?} {large:?} {cell:?} {u:?}");
-                    assert!(one.is_ok());
-                }
+                assert_alike(&mut random, &tables, cell, 1);
             }
         }
     }
