@@ -1,4 +1,4 @@
-//! Links the static library, and LittleCMS for the benchmarks where it is installed.
+//! Links the static library; for the benchmarks also a dose in C, and LittleCMS where it is installed.
 
 use std::env;
 use std::fs;
@@ -7,6 +7,7 @@ use std::process::Command;
 
 fn main() {
     link_library();
+    build_c();
     probe_lcms2();
 }
 
@@ -31,6 +32,21 @@ fn link_library() {
     } else {
         println!("cargo:warning=liblukhtari.a is missing: run `rt staticlib lukhtari`");
     }
+}
+
+// Compiles the dose in C that the benchmarks measure.
+fn build_c() {
+    let out = PathBuf::from(env::var_os("OUT_DIR").unwrap());
+    let object = out.join("dose.o");
+    println!("cargo:rerun-if-changed=src/bench/dose.c");
+    let built = Command::new("gcc")
+        .args(["-O3", "-fPIC", "-Wall", "-Wextra", "-I", "../include", "-c"])
+        .arg("src/bench/dose.c")
+        .arg("-o")
+        .arg(&object)
+        .status();
+    assert!(matches!(built, Ok(status) if status.success()), "gcc");
+    println!("cargo:rustc-link-arg-bins={}", object.display());
 }
 
 // Sets the cfg `lcms2` if a C program that calls LittleCMS can be linked.

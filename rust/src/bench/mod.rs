@@ -1,5 +1,5 @@
-//! The library's calls beside hand-written Rust of the same whole calls, the published method in
-//! f64, and LittleCMS where it is installed. All times are of one run, in nanoseconds a call; in
+//! The library's calls beside hand-written Rust and C of the same whole calls, the published method
+//! in f64, and LittleCMS where it is installed. All times are of one run, in nanoseconds a call; in
 //! brackets is the library's time divided by the other's.
 //!
 //! Doses and slopes by hand are of two kinds: specialised, with one copy of the code for each
@@ -8,6 +8,7 @@
 
 #![allow(dead_code)]
 
+mod c;
 mod clock;
 mod conversion;
 mod double;
@@ -23,11 +24,12 @@ use std::env;
 
 // All parts, or those named by the arguments.
 pub fn run() {
-    let parts: [(&str, fn()); 5] = [
+    let parts: [(&str, fn()); 6] = [
         ("estimation", estimation::run),
         ("conversion", conversion::run),
         ("queries", queries::run),
         ("floats", floats::run),
+        ("c", c::run),
         ("lcms", lcms::run),
     ];
     let named: Vec<String> = env::args().skip(1).collect();
