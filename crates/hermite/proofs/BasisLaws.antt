@@ -1,21 +1,23 @@
--- The code's basis is the definition's: three rows of the table by three weights, and the high end's numbers mirrored.
+-- The code's basis is the definition's: the columns of the table by three weights, and the high end's numbers mirrored.
 use mathlib.Core.Path.{_≡_, refl, sym, ap, ap₂, _∙_}
 use mathlib.Core.Bool.{Bool, true, false}
 use mathlib.Core.List.{List, [], _∷_}
 use Prim.Native.Nat.{ℕ, zero, suc, _+_, _*_, _-_, _^_, _≤_, _<_}
-use native.Mathlib.Nat.{le-trans, mul-le-mul-right}
+use native.Mathlib.Nat.{le-trans, le-of-eq, mul-le-mul-right}
 use native.Mathlib.Omega.{arith}
 use borrow.Author.Tests.{ltb-true, ltb-false}
 use lib.Dec.{ltb, lit≤, lit<}
 use lib.IntN.{ℤ, pos, negℤ, _+ℤ_, _-ℤ_, _*ℤ_, natAbs, negℤ-negℤ, +ℤ-idl, zero-*ℤ}
 use Rattle.arith.proofs.Choices.{by-m, pick-true, pick-false, on-pick, by-3}
-use Rattle.arith.proofs.Sums.{abs-weighted, sum-three, sum-zero}
+use Rattle.arith.proofs.Machine.{Size, kept}
+use Rattle.arith.proofs.Sums.{abs-weighted, sum-ext, sum-three, sum-zero}
 use Rattle.arith.specs.Choice.{pick}
 use Rattle.arith.specs.Sum.{sum, total}
 use Rattle.lattice.specs.Buffer.{at}
 use Rattle.hermite.specs.declared.Basis.{Basis}
 use Rattle.hermite.specs.Hermite.{multiplier, turned, Kind, kindOf, weight, basis}
-use Rattle.hermite.specs.Stage.{steps, Folds}
+use Rattle.hermite.specs.Stage.{steps, RowsOn, Folds}
+use Rattle.hermite.proofs.DotLaws.{held}
 use Rattle.hermite.proofs.Ends.{nothing-turned}
 use Rattle.hermite.proofs.HermiteLaws.{endBasis, facing, basis-low, basis-high}
 use Rattle.hermite.proofs.WeightLaws.{weight-size}
@@ -42,20 +44,38 @@ module _ (x : List ℤ) (p q r : ℤ) where
       (b ∙ +ℤ-idl (negℤ (at x 1)) ∙ sym (pick-false flag (negℤ (negℤ (at x 1))) (negℤ (at x 1)) e))
       (c ∙ sym (pick-false flag (negℤ (at x 2)) (at x 2) e))
 
--- ---- three rows by three weights
+-- ---- the table as the code reads it
 
-pub multiplier-size : (m : ℕ) → 2 ≤ m → m ≤ 3 → (o : ℕ) → o < 3 → (natAbs (multiplier m 0 o) ≤ 20) × (natAbs (multiplier m 1 o) ≤ 20) × (natAbs (multiplier m 2 o) ≤ 20)
+pub multiplier-size : (m : ℕ) → 2 ≤ m → m ≤ 3 → (k : ℕ) → k < 3 → (o : ℕ) → o < 3 → natAbs (multiplier m k o) ≤ 20
 unfolding multiplier
 multiplier-size =
-    by-m (λ m. (o : ℕ) → o < 3 → (natAbs (multiplier m 0 o) ≤ 20) × (natAbs (multiplier m 1 o) ≤ 20) × (natAbs (multiplier m 2 o) ≤ 20))
-    (by-3 (λ o. (natAbs (multiplier 2 0 o) ≤ 20) × (natAbs (multiplier 2 1 o) ≤ 20) × (natAbs (multiplier 2 2 o) ≤ 20)) (lit≤ tt, lit≤ tt, lit≤ tt) (lit≤ tt, lit≤ tt, lit≤ tt) (lit≤ tt, lit≤ tt, lit≤ tt))
-    (by-3 (λ o. (natAbs (multiplier 3 0 o) ≤ 20) × (natAbs (multiplier 3 1 o) ≤ 20) × (natAbs (multiplier 3 2 o) ≤ 20)) (lit≤ tt, lit≤ tt, lit≤ tt) (lit≤ tt, lit≤ tt, lit≤ tt) (lit≤ tt, lit≤ tt, lit≤ tt))
+    by-m (λ m. (k : ℕ) → k < 3 → (o : ℕ) → o < 3 → natAbs (multiplier m k o) ≤ 20)
+    (by-3 (λ k. (o : ℕ) → o < 3 → natAbs (multiplier 2 k o) ≤ 20) (row 2 0 (lit≤ tt) (lit≤ tt) (lit≤ tt)) (row 2 1 (lit≤ tt) (lit≤ tt) (lit≤ tt)) (row 2 2 (lit≤ tt) (lit≤ tt) (lit≤ tt)))
+    (by-3 (λ k. (o : ℕ) → o < 3 → natAbs (multiplier 3 k o) ≤ 20) (row 3 0 (lit≤ tt) (lit≤ tt) (lit≤ tt)) (row 3 1 (lit≤ tt) (lit≤ tt) (lit≤ tt)) (row 3 2 (lit≤ tt) (lit≤ tt) (lit≤ tt)))
+  where
+    row : (m k : ℕ) → natAbs (multiplier m k 0) ≤ 20 → natAbs (multiplier m k 1) ≤ 20 → natAbs (multiplier m k 2) ≤ 20 → (o : ℕ) → o < 3 → natAbs (multiplier m k o) ≤ 20
+    row m k = by-3 (λ o. natAbs (multiplier m k o) ≤ 20)
 
-pub rows-sum : (m : ℕ) (w W : ℕ → ℤ) → ((k : ℕ) → k < 3 → w k ≡ W k) → (o : ℕ)
-    → multiplier m 0 o *ℤ w 0 +ℤ multiplier m 1 o *ℤ w 1 +ℤ multiplier m 2 o *ℤ w 2 ≡ sum 3 (λ k. multiplier m k o *ℤ W k)
-unfolding sum
-rows-sum m w W h o =
-    ap₂ _+ℤ_ (ap₂ _+ℤ_ (ap (λ z. multiplier m 0 o *ℤ z) (h 0 (lit< tt)) ∙ sym (+ℤ-idl (multiplier m 0 o *ℤ W 0))) (ap (λ z. multiplier m 1 o *ℤ z) (h 1 (lit< tt)))) (ap (λ z. multiplier m 2 o *ℤ z) (h 2 (lit< tt)))
+-- a number that is a multiplier
+module _ (m : ℕ) (m2 : 2 ≤ m) (m3 : m ≤ 3) (k : ℕ) (lk : k < 3) (o : ℕ) (lo : o < 3) (z : ℤ) (e : z ≡ multiplier m k o) where
+  pub multiplier-small : natAbs z ≤ 20
+  multiplier-small = le-trans (le-of-eq (ap natAbs e)) (multiplier-size m m2 m3 k lk o lo)
+
+  pub multiplier-read : held z ≡ multiplier m k o
+  multiplier-read = ap held e ∙ kept (multiplier m k o) 20 (multiplier-size m m2 m3 k lk o lo) (lit< tt)
+
+  abbrev pub sized-multiplier : Size (held z)
+  sized-multiplier = record { v = multiplier m k o; B = 20; Ob = Unit {0}; is = λ t. multiplier-read; ok = λ t. multiplier-size m m2 m3 k lk o lo }
+
+-- rows that are A's, by numbers that are X's
+pub rows-on : (a b c x r : ℕ → ℤ) → RowsOn a b c x r → (A : ℕ → ℕ → ℤ) (X : ℕ → ℤ)
+    → ((i : ℕ) → i < 3 → a i ≡ A 0 i) → ((i : ℕ) → i < 3 → b i ≡ A 1 i) → ((i : ℕ) → i < 3 → c i ≡ A 2 i) → ((i : ℕ) → i < 3 → x i ≡ X i)
+    → (o : ℕ) → o < 3 → r o ≡ sum 3 (λ i. A o i *ℤ X i)
+rows-on a b c x r h A X ha hb hc hx =
+    by-3 (λ o. r o ≡ sum 3 (λ i. A o i *ℤ X i)) (h .first ∙ one a 0 ha) (h .second ∙ one b 1 hb) (h .third ∙ one c 2 hc)
+  where
+    one : (f : ℕ → ℤ) (o : ℕ) → ((i : ℕ) → i < 3 → f i ≡ A o i) → sum 3 (λ i. f i *ℤ x i) ≡ sum 3 (λ i. A o i *ℤ X i)
+    one f o g = sum-ext 3 (λ i. f i *ℤ x i) (λ i. A o i *ℤ X i) (λ i l. ap₂ _*ℤ_ (g i l) (hx i l))
 
 -- ---- both ends
 
@@ -115,10 +135,10 @@ three f a b c = omega arith
 pub part-size : (k : Kind) (m : ℕ) → 2 ≤ m → m ≤ 3 → (a b : ℤ) → natAbs a ≤ 256 → natAbs b ≤ 256 → (o : ℕ) → o < 3 → natAbs (sum 3 (λ i. multiplier m i o *ℤ weight k a b (2 * m - 1) i)) ≤ 2 ^ 62
 part-size k m m2 m3 a b ha hb o l =
     le-trans (abs-weighted 3 (λ i. multiplier m i o) (weight k a b (2 * m - 1)) (2 ^ 43) (weight-size k (2 * m - 1) a b (omega arith) (omega arith) ha hb))
-    (le-trans (mul-le-mul-right (2 ^ 43) (few (multiplier-size m m2 m3 o l))) (lit≤ tt))
+    (le-trans (mul-le-mul-right (2 ^ 43) (three (λ i. natAbs (multiplier m i o)) (few 0 (lit< tt)) (few 1 (lit< tt)) (few 2 (lit< tt)))) (lit≤ tt))
   where
-    few : (natAbs (multiplier m 0 o) ≤ 20) × (natAbs (multiplier m 1 o) ≤ 20) × (natAbs (multiplier m 2 o) ≤ 20) → total 3 (λ i. natAbs (multiplier m i o)) ≤ 60
-    few h = three (λ i. natAbs (multiplier m i o)) (h .0) (h .1) (h .2)
+    few : (k : ℕ) → k < 3 → natAbs (multiplier m k o) ≤ 20
+    few k h = multiplier-size m m2 m3 k h o l
 
 -- the parts of both ends as the code has them make a basis
 module _ (flag : Bool) (m u : ℕ) (b : Basis) (m2 : 2 ≤ m) (m3 : m ≤ 3) (h : u ≤ steps) (p q : ℤ) (ep : p ≡ pos (steps - u)) (eq : q ≡ pos u) (E : ℕ → ℤ) where

@@ -5,13 +5,17 @@ use Prim.Native.Nat.{ℕ, _*_, _^_, _≤_, _<_}
 use native.Mathlib.Nat.{le-trans, le-of-eq, lt-of-le-of-lt, mul-le-mul, mul-le-mul-right}
 use native.Mathlib.Omega.{arith}
 use lib.Dec.{lit≤, lit<}
-use lib.IntN.{ℤ, _*ℤ_, natAbs}
+use lib.IntN.{ℤ, pos, _-ℤ_, _*ℤ_, natAbs}
 use Rattle.arith.proofs.Choices.{on-pick, by-m, by-3, by-order}
 use Rattle.arith.proofs.Sums.{sum-ext, total-mono, total-part, abs-weighted}
 use Rattle.arith.specs.Choice.{pick}
 use Rattle.arith.specs.Sum.{sum, total}
 use Rattle.lattice.proofs.Local.{Depends}
+use mir.Syntax.{w64}
+use mir.Val.{SFits}
+use Rattle.arith.proofs.Machine.{Size, sized, sizes, fits?, value?}
 use Rattle.hermite.specs.Hermite.{multiplier, turned, solved, seen, endRule}
+use Rattle.hermite.proofs.DotLaws.{held}
 use Rattle.hermite.proofs.HermiteLaws.{turned-size}
 use Rattle.hermite.proofs.BackLaws.{unit, solved-linear, solved-sum, solved-ext}
 
@@ -22,6 +26,56 @@ pub row-load : (f g : ℕ → ℤ) → ((o : ℕ) → o < 3 → natAbs (f o) ≤
 unfolding total
 row-load f g h k =
     lt-of-le-of-lt (total-mono 3 (λ i. natAbs (f i) * natAbs (g i)) (λ i. 20 * 2 ^ 50) (λ i l. mul-le-mul (h i l) (k i l))) (lit< tt)
+
+-- ---- back
+
+-- twice an end's numbers from its coefficients x, y, z by the multipliers p, q, r: no step overflows
+pub record Solves (p q r x y z : ℤ) : Type 0 where
+  pub yy : SFits w64 (pos 2 *ℤ y)
+  pub px : SFits w64 (p *ℤ x)
+  pub d : SFits w64 (held (pos 2 *ℤ y) -ℤ held (p *ℤ x))
+  pub zz : SFits w64 (pos 2 *ℤ z)
+  pub qx : SFits w64 (q *ℤ x)
+  pub less-qx : SFits w64 (held (pos 2 *ℤ z) -ℤ held (q *ℤ x))
+  pub rd : SFits w64 (r *ℤ held (held (pos 2 *ℤ y) -ℤ held (p *ℤ x)))
+  pub less-rd : SFits w64 (held (held (pos 2 *ℤ z) -ℤ held (q *ℤ x)) -ℤ held (r *ℤ held (held (pos 2 *ℤ y) -ℤ held (p *ℤ x))))
+  pub second : held (held (pos 2 *ℤ y) -ℤ held (p *ℤ x)) ≡ pos 2 *ℤ y -ℤ p *ℤ x
+  pub third : held (held (held (pos 2 *ℤ z) -ℤ held (q *ℤ x)) -ℤ held (r *ℤ held (held (pos 2 *ℤ y) -ℤ held (p *ℤ x)))) ≡ pos 2 *ℤ z -ℤ q *ℤ x -ℤ r *ℤ (pos 2 *ℤ y -ℤ p *ℤ x)
+
+module _ (p q r x y z : ℤ) (hp : natAbs p ≤ 20) (hq : natAbs q ≤ 20) (hr : natAbs r ≤ 20) (hx : natAbs x ≤ 2 ^ 50) (hy : natAbs y ≤ 2 ^ 50) (hz : natAbs z ≤ 2 ^ 50) where
+  abbrev k-p : Size p
+  k-p = sized p 20 hp
+
+  abbrev k-q : Size q
+  k-q = sized q 20 hq
+
+  abbrev k-r : Size r
+  k-r = sized r 20 hr
+
+  abbrev k-x : Size x
+  k-x = sized x (2 ^ 50) hx
+
+  abbrev k-y : Size y
+  k-y = sized y (2 ^ 50) hy
+
+  abbrev k-z : Size z
+  k-z = sized z (2 ^ 50) hz
+
+  ruleset known = (k-p, k-q, k-r, k-x, k-y, k-z, sizes)
+
+  pub solves-fit : Solves p q r x y z
+  solves-fit = record {
+    yy = fits? (search known depth 40 fits 3000) (omega arith);
+    px = fits? (search known depth 40 fits 3000) (omega arith);
+    d = fits? (search known depth 40 fits 3000) (omega arith);
+    zz = fits? (search known depth 40 fits 3000) (omega arith);
+    qx = fits? (search known depth 40 fits 3000) (omega arith);
+    less-qx = fits? (search known depth 40 fits 3000) (omega arith);
+    rd = fits? (search known depth 40 fits 3000) (omega arith);
+    less-rd = fits? (search known depth 40 fits 3000) (omega arith);
+    second = value? (search known depth 40 fits 3000) (omega arith);
+    third = value? (search known depth 40 fits 3000) (omega arith);
+  }
 
 -- ---- the rule of an end
 

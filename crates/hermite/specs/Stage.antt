@@ -20,12 +20,6 @@ pub record RowsOn (a b c x r : ℕ → ℤ) : Type 0 where
   pub second : r 1 ≡ sum 3 (λ o. b o *ℤ x o)
   pub third : r 2 ≡ sum 3 (λ o. c o *ℤ x o)
 
--- twice the numbers of an end from its coefficients y, by the second and the third row of the table
-pub record Solution (b c y r : ℕ → ℤ) : Type 0 where
-  pub first : r 0 ≡ y 0
-  pub second : r 1 ≡ pos 2 *ℤ y 1 -ℤ b 0 *ℤ y 0
-  pub third : r 2 ≡ pos 2 *ℤ y 2 -ℤ c 0 *ℤ y 0 -ℤ c 1 *ℤ (pos 2 *ℤ y 1 -ℤ b 0 *ℤ y 0)
-
 -- b holds what a stage at step u takes of the numbers of the low and of the high end, 0 from order m on
 pub record Folds (k : Kind) (m u : ℕ) (b : Basis) : Type 0 where
   pub m-low : 2 ≤ m

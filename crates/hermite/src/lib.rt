@@ -3,11 +3,11 @@ ghost use mathlib.Core.Path.{_≡_};
 ghost use Prim.Native.Nat.{ℕ, _+_, _*_, _-_, _<_, _≤_, _^_};
 ghost use lib.IntN.{pos, negℤ, natAbs, _+ℤ_, _*ℤ_};
 ghost use Rattle.arith.specs.Choice.{pick};
-ghost use Rattle.arith.specs.Int.{roundHalfUp};
+ghost use Rattle.arith.specs.Int.{roundHalfUp, _^ℤ_};
 ghost use Rattle.arith.specs.Sum.{sum, total};
 ghost use Rattle.lattice.specs.Buffer.{at};
 ghost use Rattle.hermite.specs.Hermite.{multiplier, turned, solved, seen, endRule, Kind, kindOf, weight, stageSum};
-ghost use Rattle.hermite.specs.Stage.{steps, RowsOn, Solution, Folds, bothEnds, load, shiftOf};
+ghost use Rattle.hermite.specs.Stage.{steps, RowsOn, Folds, bothEnds, load, shiftOf};
 
 // A cell has 256 steps an axis.
 pub const STEPS: u32 = 256;
@@ -22,24 +22,56 @@ const MULTIPLIERS: [[i64; 3]; 6] = [
     [20, 4, 1],
 ];
 
+// What coefficient k, counted from an end, takes of the numbers of that end.
+fn row(m: usize, k: usize) -> [i64; 3]
+    requires { ⌜ (2 ≤ m) × (m ≤ 3) × (k < 3) ⌝ }
+    ensures { λ r. ⌜ ((o : ℕ) → at r o ≡ multiplier m k o) ⌝ }
+{
+    if m == 2 {
+        return MULTIPLIERS[k];
+    }
+    MULTIPLIERS[3 + k]
+}
+
+// What the coefficients of an end take of its number of order o.
+fn column(m: usize, o: usize) -> [i64; 3]
+    requires { ⌜ (2 ≤ m) × (m ≤ 3) × (o < 3) ⌝ }
+    ensures { λ r. ⌜ ((k : ℕ) → k < 3 → at r k ≡ multiplier m k o) ⌝ }
+{
+    let a = row(m, 0);
+    let b = row(m, 1);
+    let c = row(m, 2);
+    [a[o], b[o], c[o]]
+}
+
+// The products a^(2m - 2 - k) b^k.
+fn products(m: usize, a: i64, b: i64) -> [i64; 3]
+    requires { ⌜ (2 ≤ m) × (m ≤ 3) × (natAbs a ≤ 256) × (natAbs b ≤ 256) ⌝ }
+    ensures { λ r. ⌜ ((k : ℕ) → k < 3 → at r k ≡ a ^ℤ (2 * m - 2 - k) *ℤ b ^ℤ k) ⌝ }
+{
+    let c = a * a;
+    let d = a * b;
+    let e = b * b;
+    if m == 2 {
+        return [c, d, e];
+    }
+    [c * c, c * d, c * e]
+}
+
 // The first three weights of a dose or a slope, a and b being the distances 256 - u and u.
 fn weights(slope: bool, m: usize, a: i64, b: i64) -> [i64; 3]
     requires { ⌜ (2 ≤ m) × (m ≤ 3) × (natAbs a ≤ 256) × (natAbs b ≤ 256) ⌝ }
     ensures { λ r. ⌜ ((k : ℕ) → k < 3 → at r k ≡ weight (kindOf slope) a b (2 * m - 1) k) ⌝ }
 {
-    let c = a * a;
-    let d = a * b;
-    if m == 2 {
-        if slope {
-            return [0 - 3 * c, c - 2 * d, 2 * d - b * b];
-        }
-        return [c * a, c * b, d * b];
-    }
+    let p = products(m, a, b);
+    let x = p[0];
+    let y = p[1];
+    let z = p[2];
     if slope {
-        return [0 - 5 * (c * c), c * (c - 4 * d), d * (2 * c - 3 * d)];
+        let d = (2 * m - 1) as i64;
+        return [0 - d * x, x - (d - 1) * y, 2 * y - (d - 2) * z];
     }
-    let e = c * a;
-    [e * c, e * d, d * d * a]
+    [a * x, a * y, a * z]
 }
 
 // The sum of m products of three; for m = 2 the third is 0.
@@ -47,10 +79,11 @@ fn dot(m: usize, x: [i64; 3], y: [i64; 3]) -> i64
     requires { ⌜ (total 3 (λ i. natAbs (at x i) * natAbs (at y i)) < 2 ^ 63) × (m ≡ 2 → at y 2 ≡ pos 0) ⌝ }
     ensures { λ r. ⌜ r ≡ sum 3 (λ i. at x i *ℤ at y i) ⌝ }
 {
+    let two = x[0] * y[0] + x[1] * y[1];
     if m == 2 {
-        return x[0] * y[0] + x[1] * y[1];
+        return two;
     }
-    x[0] * y[0] + x[1] * y[1] + x[2] * y[2]
+    two + x[2] * y[2]
 }
 
 // Three rows of small factors, each by the same three numbers.
@@ -65,30 +98,24 @@ fn by_rows(a: [i64; 3], b: [i64; 3], c: [i64; 3], x: [i64; 3]) -> [i64; 3]
     [first, second, third]
 }
 
-// The multipliers of three coefficients by the weights, order by order.
-fn folded(x: [i64; 3], y: [i64; 3], z: [i64; 3], w: [i64; 3]) -> [i64; 3]
-    requires { ⌜ ((o : ℕ) → o < 3 → (natAbs (at x o) ≤ 20) × (natAbs (at y o) ≤ 20) × (natAbs (at z o) ≤ 20)) ⌝ }
-    requires { ⌜ ((k : ℕ) → k < 3 → natAbs (at w k) ≤ 2 ^ 43) ⌝ }
-    ensures { λ r. ⌜ ((o : ℕ) → o < 3 → at r o ≡ at x o *ℤ at w 0 +ℤ at y o *ℤ at w 1 +ℤ at z o *ℤ at w 2) ⌝ }
-{
-    by_rows(
-        [x[0], y[0], z[0]],
-        [x[1], y[1], z[1]],
-        [x[2], y[2], z[2]],
-        w,
-    )
-}
-
 // What a stage takes of the numbers of the end at distance b, the other end being at distance a; not yet turned.
-fn end_basis(slope: bool, m: usize, a: i64, b: i64) -> [i64; 3]
+fn folded(slope: bool, m: usize, a: i64, b: i64) -> [i64; 3]
     requires { ⌜ (2 ≤ m) × (m ≤ 3) × (natAbs a ≤ 256) × (natAbs b ≤ 256) ⌝ }
     ensures { λ r. ⌜ ((o : ℕ) → o < 3 → at r o ≡ sum 3 (λ k. multiplier m k o *ℤ weight (kindOf slope) a b (2 * m - 1) k)) ⌝ }
 {
     let w = weights(slope, m, a, b);
+    by_rows(column(m, 0), column(m, 1), column(m, 2), w)
+}
+
+// The same with the degree as a constant.
+fn end_basis(slope: bool, m: usize, a: i64, b: i64) -> [i64; 3]
+    requires { ⌜ (2 ≤ m) × (m ≤ 3) × (natAbs a ≤ 256) × (natAbs b ≤ 256) ⌝ }
+    ensures { λ r. ⌜ ((o : ℕ) → o < 3 → at r o ≡ sum 3 (λ k. multiplier m k o *ℤ weight (kindOf slope) a b (2 * m - 1) k)) ⌝ }
+{
     if m == 2 {
-        return folded(MULTIPLIERS[0], MULTIPLIERS[1], MULTIPLIERS[2], w);
+        return folded(slope, 2, a, b);
     }
-    folded(MULTIPLIERS[3], MULTIPLIERS[4], MULTIPLIERS[5], w)
+    folded(slope, 3, a, b)
 }
 
 // The numbers of an end as the high one: order 1 is subtracted, and a derivative changes its sign.
@@ -139,20 +166,7 @@ fn end_coefficients(m: usize, x: [i64; 3]) -> [i64; 3]
     requires { ⌜ (2 ≤ m) × (m ≤ 3) × ((o : ℕ) → o < 3 → natAbs (at x o) ≤ 2 ^ 50) ⌝ }
     ensures { λ r. ⌜ ((k : ℕ) → k < 3 → at r k ≡ sum m (λ o. multiplier m k o *ℤ at x o)) ⌝ }
 {
-    if m == 2 {
-        return by_rows(MULTIPLIERS[0], MULTIPLIERS[1], MULTIPLIERS[2], x);
-    }
-    by_rows(MULTIPLIERS[3], MULTIPLIERS[4], MULTIPLIERS[5], x)
-}
-
-// The numbers of the low end, doubled, from its coefficients, b and c being the second and the third row of the table.
-fn solution(b: [i64; 3], c: [i64; 3], y: [i64; 3]) -> [i64; 3]
-    requires { ⌜ (natAbs (at b 0) ≤ 20) × (natAbs (at c 0) ≤ 20) × (natAbs (at c 1) ≤ 20) ⌝ }
-    requires { ⌜ ((o : ℕ) → o < 3 → natAbs (at y o) ≤ 2 ^ 50) ⌝ }
-    ensures { λ r. ⌜ Solution (at b) (at c) (at y) (at r) ⌝ }
-{
-    let d = 2 * y[1] - b[0] * y[0];
-    [y[0], d, 2 * y[2] - c[0] * y[0] - c[1] * d]
+    by_rows(row(m, 0), row(m, 1), row(m, 2), x)
 }
 
 // And back: its numbers, doubled.
@@ -160,14 +174,15 @@ fn end_numbers(m: usize, y: [i64; 3]) -> [i64; 3]
     requires { ⌜ (2 ≤ m) × (m ≤ 3) × ((o : ℕ) → o < 3 → natAbs (at y o) ≤ 2 ^ 50) ⌝ }
     ensures { λ r. ⌜ ((o : ℕ) → o < 3 → at r o ≡ solved m (at y) o) ⌝ }
 {
-    if m == 2 {
-        return solution(MULTIPLIERS[1], MULTIPLIERS[2], y);
-    }
-    solution(MULTIPLIERS[4], MULTIPLIERS[5], y)
+    let b = row(m, 1);
+    let c = row(m, 2);
+    let f = y[0];
+    let d = 2 * y[1] - b[0] * f;
+    [f, d, 2 * y[2] - c[0] * f - c[1] * d]
 }
 
 // The coefficients of an end, counted from it, from its numbers; or back, its numbers, doubled, from these.
-pub fn convert_end(back: bool, m: usize, high: bool, x: [i64; 3]) -> [i64; 3]
+fn converted(back: bool, m: usize, high: bool, x: [i64; 3]) -> [i64; 3]
     requires { ⌜ (2 ≤ m) × (m ≤ 3) × ((o : ℕ) → o < 3 → natAbs (at x o) ≤ 2 ^ 50) ⌝ }
     ensures { λ r. ⌜ ((k : ℕ) → k < 3 → at r k ≡ endRule back m high (at x) k) ⌝ }
 {
@@ -175,6 +190,17 @@ pub fn convert_end(back: bool, m: usize, high: bool, x: [i64; 3]) -> [i64; 3]
         return facing(high, end_numbers(m, x));
     }
     end_coefficients(m, facing(high, x))
+}
+
+// The same with the degree as a constant.
+pub fn convert_end(back: bool, m: usize, high: bool, x: [i64; 3]) -> [i64; 3]
+    requires { ⌜ (2 ≤ m) × (m ≤ 3) × ((o : ℕ) → o < 3 → natAbs (at x o) ≤ 2 ^ 50) ⌝ }
+    ensures { λ r. ⌜ ((k : ℕ) → k < 3 → at r k ≡ endRule back m high (at x) k) ⌝ }
+{
+    if m == 2 {
+        return converted(back, 2, high, x);
+    }
+    converted(back, 3, high, x)
 }
 
 // One stage: the numbers of the two ends, by their basis, rounded by 2^(k+1).

@@ -1,41 +1,24 @@
--- `hermite::convert_end` meets its contract: order 1 of the high end turned before the table, and back after it.
-use mathlib.Core.Path.{sym, ap, _∙_}
-use Prim.Native.Nat.{_≤_}
-use native.Mathlib.Nat.{le-trans}
+-- `hermite::convert_end` meets its contract, by the two degrees.
+use mathlib.Core.Path.{_≡_, sym, ap, _∙_}
+use Prim.Native.Nat.{ℕ}
 use native.Mathlib.Omega.{arith}
-use lib.Dec.{lit≤}
-use lib.IntN.{_*ℤ_}
-use Rattle.arith.proofs.Choices.{pick-true, pick-false}
-use Rattle.arith.proofs.Sums.{sum-ext}
 use Rattle.lattice.specs.Buffer.{at}
-use Rattle.hermite.specs.Hermite.{multiplier, seen, endRule}
-use Rattle.hermite.proofs.EndLaws.{seen-size, solved-size}
+use Rattle.hermite.specs.Hermite.{endRule}
 use borrow.Author.Needs.{needs}
 use Rattle.hermite.proofs.convert_end.Statement.{statement}
 use Rattle.hermite.proofs.convert_end.Tie as tie
 
-facing-requires : tie.Need-facing-requires
-facing-requires c κs o l = let s = c .before .before in rw (c .end-numbers .ensures o l) (solved-size (s .args .m) (s .pre .0) (s .pre .1) (at (s .args .x)) (s .pre .2) o l)
+same : (s : tie.Start) (k n : ℕ) → n ≡ s .args .m → endRule (s .args .back) n (s .args .high) (at (s .args .x)) k ≡ endRule (s .args .back) (s .args .m) (s .args .high) (at (s .args .x)) k
+same s k n e = ap (λ (i : ℕ). endRule (s .args .back) i (s .args .high) (at (s .args .x)) k) e
 
 returns : tie.Need-returns
-unfolding endRule
-returns c k l = let s = c .before .before .before in c .facing .ensures k l ∙ ap (seen (s .args .high) k) (c .before .end-numbers .ensures k l) ∙ sym (pick-true (s .args .back) _ _ (c .before .before .if1 .taken))
-
-end-coefficients-requires : tie.Need-end-coefficients-requires
-end-coefficients-requires c κs =
-    let s = c .before .before in
-    (s .pre .0, s .pre .1, λ o l. rw (c .facing2 .ensures o l, seen-size (s .args .high) o (at (s .args .x) o)) (s .pre .2 o l))
+returns c k l = c .converted .ensures k l ∙ same (c .before .before) k 2 (sym (c .before .if1 .taken))
 
 returns-2 : tie.Need-returns-2
-unfolding endRule
 returns-2 c k l =
-    let s = c .before .before .before in
-    let f = c .before .facing2 in
-    c .end-coefficients .ensures k l
-    ∙ sum-ext (s .args .m) (λ o. multiplier (s .args .m) k o *ℤ at (f .result) o) (λ o. multiplier (s .args .m) k o *ℤ seen (s .args .high) o (at (s .args .x) o)) (λ o p. ap (λ z. multiplier (s .args .m) k o *ℤ z) (f .ensures o (omega arith)))
-    ∙ sym (pick-false (s .args .back) _ _ (c .before .before .if1 .left))
+    let s = c .before .before in
+    let e : 3 ≡ s .args .m = omega (arith, c .before .if1 .left) in
+    c .converted2 .ensures k l ∙ same s k 3 e
 
 pub convert-end-spec : {M : Type 1} → statement M
-convert-end-spec =
-    tie.close
-    (tie.spec (λ c κs. search needs) facing-requires returns (λ c κs o l. le-trans (c .before .pre .2 o l) (lit≤ tt)) end-coefficients-requires returns-2)
+convert-end-spec = tie.close (tie.spec (λ c κs. search needs) returns (λ c κs. search needs) returns-2)

@@ -6,35 +6,35 @@ use borrow.Author.Needs.{needs}
 use Rattle.hermite.proofs.dot.Statement.{statement}
 use Rattle.hermite.proofs.dot.Tie as tie
 
-mul-result : tie.Need-mul-result
-mul-result c = let p = c .before .before .before in one-fits (at (p .args .t2)) (at (p .args .t3)) (p .pre .0) 0 (lit< tt) (c .before .result .given) (c .result2 .given)
+mul-two : tie.Need-mul-two
+mul-two c = let p = c .before .before in one-fits (at (p .args .t2)) (at (p .args .t3)) (p .pre .0) 0 (lit< tt) (c .before .two .given) (c .two2 .given)
 
-mul-result-2 : tie.Need-mul-result-2
-mul-result-2 c = let p = c .before .before .before .before .before in one-fits (at (p .args .t2)) (at (p .args .t3)) (p .pre .0) 1 (lit< tt) (c .before .result3 .given) (c .result4 .given)
+mul-two-2 : tie.Need-mul-two-2
+mul-two-2 c = let p = c .before .before .before .before in one-fits (at (p .args .t2)) (at (p .args .t3)) (p .pre .0) 1 (lit< tt) (c .before .two3 .given) (c .two4 .given)
 
-add-result : tie.Need-add-result
-add-result c = let p = c .before .before .before .before .before in two-fits (at (p .args .t2)) (at (p .args .t3)) (p .pre .0) (c .before .before .before .result .given) (c .before .before .result2 .given) (c .before .result3 .given) (c .result4 .given)
+add-two : tie.Need-add-two
+add-two c = let p = c .before .before .before .before in two-fits (at (p .args .t2)) (at (p .args .t3)) (p .pre .0) (c .before .before .before .two .given) (c .before .before .two2 .given) (c .before .two3 .given) (c .two4 .given)
 
 returns : tie.Need-returns
-returns c = let p = c .before .before .before .before .before in two-whole (at (p .args .t2)) (at (p .args .t3)) (p .pre .0) (c .before .before .before .result .given) (c .before .before .result2 .given) (c .before .result3 .given) (c .result4 .given) (p .pre .1 (c .before .before .before .before .if1 .taken))
+returns c =
+    let s = c .before in
+    let p = s .before .before .before .before in
+    two-whole (at (p .args .t2)) (at (p .args .t3)) (p .pre .0) (s .before .before .before .two .given) (s .before .before .two2 .given) (s .before .two3 .given) (s .two4 .given) (p .pre .1 (c .if1 .taken))
 
-mul-result-3 : tie.Need-mul-result-3
-mul-result-3 c = let p = c .before .before .before in one-fits (at (p .args .t2)) (at (p .args .t3)) (p .pre .0) 0 (lit< tt) (c .before .result5 .given) (c .result6 .given)
+mul-result : tie.Need-mul-result
+mul-result c = let p = c .before .before .before .before .before .before .before in one-fits (at (p .args .t2)) (at (p .args .t3)) (p .pre .0) 2 (lit< tt) (c .before .result .given) (c .result2 .given)
 
-mul-result-4 : tie.Need-mul-result-4
-mul-result-4 c = let p = c .before .before .before .before .before in one-fits (at (p .args .t2)) (at (p .args .t3)) (p .pre .0) 1 (lit< tt) (c .before .result7 .given) (c .result8 .given)
-
-add-result-2 : tie.Need-add-result-2
-add-result-2 c = let p = c .before .before .before .before .before in two-fits (at (p .args .t2)) (at (p .args .t3)) (p .pre .0) (c .before .before .before .result5 .given) (c .before .before .result6 .given) (c .before .result7 .given) (c .result8 .given)
-
-mul-result-5 : tie.Need-mul-result-5
-mul-result-5 c = let p = c .before .before .before .before .before .before .before in one-fits (at (p .args .t2)) (at (p .args .t3)) (p .pre .0) 2 (lit< tt) (c .before .result9 .given) (c .result10 .given)
-
-add-result-3 : tie.Need-add-result-3
-add-result-3 c = let p = c .before .before .before .before .before .before .before in three-fits (at (p .args .t2)) (at (p .args .t3)) (p .pre .0) (c .before .before .before .before .before .result5 .given) (c .before .before .before .before .result6 .given) (c .before .before .before .result7 .given) (c .before .before .result8 .given) (c .before .result9 .given) (c .result10 .given)
+add-result : tie.Need-add-result
+add-result c =
+    let s = c .before .before .before in
+    let p = s .before .before .before .before in
+    three-fits (at (p .args .t2)) (at (p .args .t3)) (p .pre .0) (s .before .before .before .two .given) (s .before .before .two2 .given) (s .before .two3 .given) (s .two4 .given) (c .before .result .given) (c .result2 .given)
 
 returns-2 : tie.Need-returns-2
-returns-2 c = let p = c .before .before .before .before .before .before .before in whole (at (p .args .t2)) (at (p .args .t3)) (p .pre .0) (c .before .before .before .before .before .result5 .given) (c .before .before .before .before .result6 .given) (c .before .before .before .result7 .given) (c .before .before .result8 .given) (c .before .result9 .given) (c .result10 .given)
+returns-2 c =
+    let s = c .before .before .before in
+    let p = s .before .before .before .before in
+    whole (at (p .args .t2)) (at (p .args .t3)) (p .pre .0) (s .before .before .before .two .given) (s .before .before .two2 .given) (s .before .two3 .given) (s .two4 .given) (c .before .result .given) (c .result2 .given)
 
 pub dot-spec : {M : Type 1} → statement M
 dot-spec =
@@ -42,21 +42,14 @@ dot-spec =
     (tie.spec
     (λ c. search needs)
     (λ c. search needs)
-    mul-result
+    mul-two
     (λ c. search needs)
     (λ c. search needs)
-    mul-result-2
-    add-result
+    mul-two-2
+    add-two
     returns
     (λ c. search needs)
     (λ c. search needs)
-    mul-result-3
-    (λ c. search needs)
-    (λ c. search needs)
-    mul-result-4
-    add-result-2
-    (λ c. search needs)
-    (λ c. search needs)
-    mul-result-5
-    add-result-3
+    mul-result
+    add-result
     returns-2)

@@ -1,59 +1,51 @@
--- `hermite::folded` meets its contract: the rows by order are the columns of the coefficients' rows.
+-- `hermite::folded` meets its contract: the columns of the table by the weights.
 use mathlib.Core.Path.{_≡_, ap, _∙_}
-use mathlib.Core.List.{[], _∷_}
-use Prim.Native.Nat.{ℕ, _≤_, _<_}
-use native.Mathlib.Nat.{le-trans}
+use Prim.Native.Nat.{ℕ, _≤_, _<_, _^_, _-_, _*_}
+use native.Mathlib.Nat.{le-trans, le-of-eq}
+use native.Mathlib.Omega.{arith}
 use lib.Dec.{lit≤, lit<}
-use lib.IntN.{ℤ, natAbs, _+ℤ_, _*ℤ_, +ℤ-idl}
-use Rattle.arith.specs.Sum.{sum}
-use Rattle.arith.proofs.Choices.{by-3}
-use Rattle.arith.proofs.Machine.{kept, kept-low}
+use lib.IntN.{natAbs}
 use Rattle.lattice.specs.Buffer.{at}
+use Rattle.hermite.specs.Hermite.{multiplier, kindOf, weight}
 use Rattle.hermite.proofs.DotLaws.{held}
+use Rattle.hermite.proofs.WeightLaws.{weight-size, weight-held, held-size}
+use Rattle.hermite.proofs.BasisLaws.{multiplier-small, rows-on}
 use borrow.Author.Needs.{needs}
 use Rattle.hermite.proofs.folded.Statement.{statement}
 use Rattle.hermite.proofs.folded.Tie as tie
 
-module _ (s : tie.Start) where
-  -- the rows are small
-  low : (o : ℕ) → o < 3 → (natAbs (held (at (s .args .t1) o)) ≤ 20) × (natAbs (held (at (s .args .t2) o)) ≤ 20) × (natAbs (held (at (s .args .t3) o)) ≤ 20)
-  low o l = let h = s .pre .0 o l in (kept-low (at (s .args .t1) o) 20 (h .0) (lit< tt), kept-low (at (s .args .t2) o) 20 (h .1) (lit< tt), kept-low (at (s .args .t3) o) 20 (h .2) (lit< tt))
+-- the weights' sizes, and what they are of the arguments
+module _ (c : tie.After-weights) where
+  small : (k : ℕ) → k < 3 → natAbs (at (c .weights .result) k) ≤ 2 ^ 43
+  small k l =
+      let s = c .before in
+      le-trans (le-of-eq (ap natAbs (c .weights .ensures k l)))
+      (weight-size (kindOf (s .args .slope)) (2 * s .args .m - 1) (held (s .args .a)) (held (s .args .b)) (omega arith) (omega arith) (held-size (s .args .a) (s .fits .a) (s .pre .2)) (held-size (s .args .b) (s .fits .b) (s .pre .3)) k l)
 
-  -- one order
-  gives : (o : ℕ) → o < 3 → (r : ℤ) → r ≡ sum 3 (λ i. at (held (at (s .args .t1) o) ∷ held (at (s .args .t2) o) ∷ held (at (s .args .t3) o) ∷ []) i *ℤ at (s .args .w) i)
-      → r ≡ at (s .args .t1) o *ℤ at (s .args .w) 0 +ℤ at (s .args .t2) o *ℤ at (s .args .w) 1 +ℤ at (s .args .t3) o *ℤ at (s .args .w) 2
-  unfolding sum
-  gives o l r e =
-      let h = s .pre .0 o l in
-      e ∙ ap (λ z. z +ℤ held (at (s .args .t2) o) *ℤ at (s .args .w) 1 +ℤ held (at (s .args .t3) o) *ℤ at (s .args .w) 2) (+ℤ-idl (held (at (s .args .t1) o) *ℤ at (s .args .w) 0))
-      ∙ rw (kept (at (s .args .t1) o) 20 (h .0) (lit< tt), kept (at (s .args .t2) o) 20 (h .1) (lit< tt), kept (at (s .args .t3) o) 20 (h .2) (lit< tt))
+  plain : (k : ℕ) → k < 3 → at (c .weights .result) k ≡ weight (kindOf (c .before .args .slope)) (c .before .args .a) (c .before .args .b) (2 * c .before .args .m - 1) k
+  plain k l =
+      let s = c .before in
+      c .weights .ensures k l ∙ weight-held (s .args .a) (s .args .b) (s .fits .a) (s .fits .b) (kindOf (s .args .slope)) (2 * s .args .m - 1) k
 
 by-rows-requires : tie.Need-by-rows-requires
 by-rows-requires c κs =
-    let s = c .before .before .before .before .before .before .before .before .before in
-    let x = low s 0 (lit< tt) in
-    let y = low s 1 (lit< tt) in
-    let z = low s 2 (lit< tt) in
-    (by-3 _ (x .0, y .0, z .0) (x .1, y .1, z .1) (x .2, y .2, z .2), λ k l. le-trans (s .pre .1 k l) (lit≤ tt))
+    let w = c .before .before .before in
+    let s = w .before in (
+      λ k l. (
+        multiplier-small (s .args .m) (s .pre .0) (s .pre .1) k l 0 (lit< tt) _ (c .before .before .column .ensures k l),
+        multiplier-small (s .args .m) (s .pre .0) (s .pre .1) k l 1 (lit< tt) _ (c .before .column2 .ensures k l),
+        multiplier-small (s .args .m) (s .pre .0) (s .pre .1) k l 2 (lit< tt) _ (c .column3 .ensures k l),
+      ),
+      λ k l. le-trans (small w k l) (lit≤ tt),
+    )
 
 returns : tie.Need-returns
 returns c =
-    let s = c .before .before .before .before .before .before .before .before .before .before in
-    let h = c .by-rows .ensures in
-    by-3 _ (gives s 0 (lit< tt) _ (h .first)) (gives s 1 (lit< tt) _ (h .second)) (gives s 2 (lit< tt) _ (h .third))
+    let w = c .before .before .before .before in
+    let s = w .before in
+    rows-on (at (c .before .before .before .column .result)) (at (c .before .before .column2 .result)) (at (c .before .column3 .result)) (at (w .weights .result)) (at (c .by-rows .result)) (c .by-rows .ensures)
+    (λ o k. multiplier (s .args .m) k o) (weight (kindOf (s .args .slope)) (s .args .a) (s .args .b) (2 * s .args .m - 1))
+    (c .before .before .before .column .ensures) (c .before .before .column2 .ensures) (c .before .column3 .ensures) (plain w)
 
 pub folded-spec : {M : Type 1} → statement M
-folded-spec =
-    tie.close
-    (tie.spec
-    (λ c. search needs)
-    (λ c. search needs)
-    (λ c. search needs)
-    (λ c. search needs)
-    (λ c. search needs)
-    (λ c. search needs)
-    (λ c. search needs)
-    (λ c. search needs)
-    (λ c. search needs)
-    by-rows-requires
-    returns)
+folded-spec = tie.close (tie.spec (λ c κs. search needs) (λ c κs. search needs) (λ c κs. search needs) (λ c κs. search needs) by-rows-requires returns)

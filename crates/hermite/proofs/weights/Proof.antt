@@ -1,89 +1,91 @@
--- `hermite::weights` meets its contract: every product is small, and each case is the definition's.
-use mathlib.Core.Bool.{true, false}
-use Rattle.arith.proofs.Machine.{Size, held, sizes, fits?, value?}
-use Rattle.hermite.specs.Hermite.{kindOf}
-use Rattle.hermite.proofs.WeightLaws.{cubic-slope, cubic-value, quintic-slope, quintic-value, weights-row}
-use mathlib.Core.Path.{_≡_, _∙_}
+-- `hermite::weights` meets its contract: the weights from the products of the distances, by the two cases of the flag.
+use lib.Dec.{lit<}
+use Prim.Native.Nat.{ℕ, _<_, _≤_, _^_, _-_, _*_}
+use native.Mathlib.Nat.{le-trans, le-of-eq}
 use native.Mathlib.Omega.{arith}
+use mathlib.Core.Bool.{true, false}
+use mathlib.Core.Path.{_≡_, ap, ap₂, _∙_}
+use lib.IntN.{pos, natAbs, _*ℤ_}
 use mir.Syntax.{w64}
-use mir.Val.{toZ, ofZ}
+use mir.Val.{toZ}
+use mir.Facts.{toZ-ofZ}
+use Rattle.arith.proofs.Machine.{Size, sized, held as known, s-mul, s-bits, kept, is-nat, fits?, value?}
+use Rattle.lattice.specs.Buffer.{at}
+use Rattle.hermite.specs.Hermite.{kindOf}
+use Rattle.hermite.proofs.DotLaws.{held}
+use Rattle.hermite.proofs.WeightLaws.{product, product-size, value-weight, slope-weights, weights-row, Slopes, slopes-fit}
+use borrow.Author.Needs.{needs}
 use Rattle.hermite.proofs.weights.Statement.{statement}
 use Rattle.hermite.proofs.weights.Tie as tie
 
-abbrev k-a : (c : tie.Start) → Size (toZ w64 (ofZ w64 (c .args .a)))
-k-a c = held w64 (c .args .a) 256 (c .fits .a) (c .pre .2)
+module _ (c : tie.After-products) where
+  -- a product of the distances, as the array has it
+  product-held : (k : ℕ) → k < 3 → held (at (c .products .result) k) ≡ product (c .before .args .a) (c .before .args .b) (c .before .args .m) k
+  product-held k l =
+      let s = c .before in
+      ap held (c .products .ensures k l ∙ ap₂ (λ x y. product x y (s .args .m) k) (toZ-ofZ (s .fits .a)) (toZ-ofZ (s .fits .b)))
+      ∙ kept (product (s .args .a) (s .args .b) (s .args .m) k) (2 ^ 40) (product-size (s .args .m) (s .pre .0) (s .pre .1) (s .args .a) (s .args .b) (s .pre .2) (s .pre .3) k l) (lit< tt)
 
-abbrev k-b : (c : tie.Start) → Size (toZ w64 (ofZ w64 (c .args .b)))
-k-b c = held w64 (c .args .b) 256 (c .fits .b) (c .pre .3)
+  small : (k : ℕ) → k < 3 → natAbs (held (at (c .products .result) k)) ≤ 2 ^ 40
+  small k l = let s = c .before in rw (product-held k l) (product-size (s .args .m) (s .pre .0) (s .pre .1) (s .args .a) (s .args .b) (s .pre .2) (s .pre .3) k l)
 
-ruleset known = (k-a, k-b, sizes)
+  -- the degree
+  degree : toZ w64 (2 * c .before .args .m - 1) ≡ pos (2 * c .before .args .m - 1)
+  degree = is-nat w64 (2 * c .before .args .m - 1) 5 (omega arith) (lit< tt)
+
+  slopes : Slopes (toZ w64 (2 * c .before .args .m - 1)) (held (at (c .products .result) 0)) (held (at (c .products .result) 1)) (held (at (c .products .result) 2))
+  slopes = slopes-fit (toZ w64 (2 * c .before .args .m - 1)) (held (at (c .products .result) 0)) (held (at (c .products .result) 1)) (held (at (c .products .result) 2))
+      (le-trans (le-of-eq (ap natAbs degree)) (omega arith)) (small 0 (lit< tt)) (small 1 (lit< tt)) (small 2 (lit< tt))
+
+  -- a weight of a dose
+  abbrev times : (k : ℕ) → k < 3 → Size (held (c .before .args .a) *ℤ held (at (c .products .result) k))
+  times k l = s-mul _ _ (known w64 (c .before .args .a) 256 (c .before .fits .a) (c .before .pre .2)) (sized _ (2 ^ 40) (small k l))
 
 returns : tie.Need-returns
 unfolding kindOf
 returns c =
-    let s = c .before .before in
-    let w = cubic-slope (s .args .a) (s .args .b) in
-    weights-row (s .args .slope) true (s .args .m) 2 (c .if2 .taken) (c .before .if1 .taken) (s .args .a) (s .args .b) _ _ _
-    (value? (search known depth 40 fits 3000) (omega arith) ∙ w .0) (value? (search known depth 40 fits 3000) (omega arith) ∙ w .1) (value? (search known depth 40 fits 3000) (omega arith) ∙ w .2)
+    let q = c .before .before .before .before in
+    let s = q .before in
+    let w = slope-weights (s .args .a) (s .args .b) (s .args .m) (s .pre .0) (s .pre .1) in
+    let x = product-held q 0 (lit< tt) in
+    let y = product-held q 1 (lit< tt) in
+    let z = product-held q 2 (lit< tt) in
+    weights-row (s .args .slope) true (c .if1 .taken) (s .args .a) (s .args .b) (2 * s .args .m - 1) _ _ _
+    (slopes q .first ∙ rw (degree q, x) (w .0)) (slopes q .second ∙ rw (degree q, x, y) (w .1)) (slopes q .third ∙ rw (degree q, y, z) (w .2))
 
 returns-2 : tie.Need-returns-2
 unfolding kindOf
 returns-2 c =
-    let s = c .before .before in
-    let w = cubic-value (s .args .a) (s .args .b) in
-    weights-row (s .args .slope) false (s .args .m) 2 (c .if2 .left) (c .before .if1 .taken) (s .args .a) (s .args .b) _ _ _
-    (value? (search known depth 40 fits 3000) (omega arith) ∙ w .0) (value? (search known depth 40 fits 3000) (omega arith) ∙ w .1) (value? (search known depth 40 fits 3000) (omega arith) ∙ w .2)
-
-returns-3 : tie.Need-returns-3
-unfolding kindOf
-returns-3 c =
-    let s = c .before .before in
-    let w = quintic-slope (s .args .a) (s .args .b) in
-    let e : s .args .m ≡ 3 = omega arith in
-    weights-row (s .args .slope) true (s .args .m) 3 (c .if3 .taken) e (s .args .a) (s .args .b) _ _ _
-    (value? (search known depth 40 fits 3000) (omega arith) ∙ w .0) (value? (search known depth 40 fits 3000) (omega arith) ∙ w .1) (value? (search known depth 40 fits 3000) (omega arith) ∙ w .2)
-
-returns-4 : tie.Need-returns-4
-unfolding kindOf
-returns-4 c =
-    let s = c .before .before in
-    let w = quintic-value (s .args .a) (s .args .b) in
-    let e : s .args .m ≡ 3 = omega arith in
-    weights-row (s .args .slope) false (s .args .m) 3 (c .if3 .left) e (s .args .a) (s .args .b) _ _ _
-    (value? (search known depth 40 fits 3000) (omega arith) ∙ w .0) (value? (search known depth 40 fits 3000) (omega arith) ∙ w .1) (value? (search known depth 40 fits 3000) (omega arith) ∙ w .2)
+    let q = c .before .before .before .before in
+    let s = q .before in
+    let w = value-weight (s .args .a) (s .args .b) (s .args .m) (s .pre .0) (s .pre .1) in
+    weights-row (s .args .slope) false (c .if1 .left) (s .args .a) (s .args .b) (2 * s .args .m - 1) _ _ _
+    (value? (s-bits w64 _ (times q 0 (lit< tt))) (omega arith) ∙ rw (product-held q 0 (lit< tt)) (w 0 (lit< tt)))
+    (value? (s-bits w64 _ (times q 1 (lit< tt))) (omega arith) ∙ rw (product-held q 1 (lit< tt)) (w 1 (lit< tt)))
+    (value? (s-bits w64 _ (times q 2 (lit< tt))) (omega arith) ∙ rw (product-held q 2 (lit< tt)) (w 2 (lit< tt)))
 
 pub weights-spec : {M : Type 1} → statement M
 weights-spec =
     tie.close
     (tie.spec
-    (λ c. fits? (search known depth 40 fits 3000) (omega arith))
-    (λ c. fits? (search known depth 40 fits 3000) (omega arith))
-    (λ c. fits? (search known depth 40 fits 3000) (omega arith))
-    (λ c. fits? (search known depth 40 fits 3000) (omega arith))
-    (λ c. fits? (search known depth 40 fits 3000) (omega arith))
-    (λ c. fits? (search known depth 40 fits 3000) (omega arith))
-    (λ c. fits? (search known depth 40 fits 3000) (omega arith))
-    (λ c. fits? (search known depth 40 fits 3000) (omega arith))
-    (λ c. fits? (search known depth 40 fits 3000) (omega arith))
+    (λ c κs. search needs)
+    (λ c. search needs)
+    (λ c. search needs)
+    (λ c. search needs)
+    (λ c. search needs)
+    (λ c. search needs)
+    (λ c. search needs)
+    (λ c. slopes (c .before .before .before .before) .dx)
+    (λ c. slopes (c .before .before .before .before) .less-dx)
+    (λ c. slopes (c .before .before .before .before) .e)
+    (λ c. slopes (c .before .before .before .before) .ey)
+    (λ c. slopes (c .before .before .before .before) .less-ey)
+    (λ c. slopes (c .before .before .before .before) .yy)
+    (λ c. slopes (c .before .before .before .before) .f)
+    (λ c. slopes (c .before .before .before .before) .fz)
+    (λ c. slopes (c .before .before .before .before) .less-fz)
     returns
-    (λ c. fits? (search known depth 40 fits 3000) (omega arith))
-    (λ c. fits? (search known depth 40 fits 3000) (omega arith))
-    (λ c. fits? (search known depth 40 fits 3000) (omega arith))
-    returns-2
-    (λ c. fits? (search known depth 40 fits 3000) (omega arith))
-    (λ c. fits? (search known depth 40 fits 3000) (omega arith))
-    (λ c. fits? (search known depth 40 fits 3000) (omega arith))
-    (λ c. fits? (search known depth 40 fits 3000) (omega arith))
-    (λ c. fits? (search known depth 40 fits 3000) (omega arith))
-    (λ c. fits? (search known depth 40 fits 3000) (omega arith))
-    (λ c. fits? (search known depth 40 fits 3000) (omega arith))
-    (λ c. fits? (search known depth 40 fits 3000) (omega arith))
-    (λ c. fits? (search known depth 40 fits 3000) (omega arith))
-    (λ c. fits? (search known depth 40 fits 3000) (omega arith))
-    returns-3
-    (λ c. fits? (search known depth 40 fits 3000) (omega arith))
-    (λ c. fits? (search known depth 40 fits 3000) (omega arith))
-    (λ c. fits? (search known depth 40 fits 3000) (omega arith))
-    (λ c. fits? (search known depth 40 fits 3000) (omega arith))
-    (λ c. fits? (search known depth 40 fits 3000) (omega arith))
-    returns-4)
+    (λ c. fits? (times (c .before .before .before .before) 0 (lit< tt)) (omega arith))
+    (λ c. fits? (times (c .before .before .before .before) 1 (lit< tt)) (omega arith))
+    (λ c. fits? (times (c .before .before .before .before) 2 (lit< tt)) (omega arith))
+    returns-2)
