@@ -7,9 +7,9 @@ use native.Mathlib.Nat.{le-trans, le-of-eq, mul-le-mul-right}
 use native.Mathlib.Omega.{arith}
 use borrow.Author.Tests.{ltb-true, ltb-false}
 use lib.Dec.{ltb, lit≤, lit<}
-use lib.IntN.{ℤ, pos, negℤ, _+ℤ_, _-ℤ_, _*ℤ_, natAbs, negℤ-negℤ, +ℤ-idl, zero-*ℤ}
+use lib.IntN.{ℤ, pos, negℤ, _-ℤ_, _*ℤ_, natAbs, negℤ-negℤ, +ℤ-idl, zero-*ℤ}
 use Rattle.arith.proofs.Choices.{by-m, pick-true, pick-false, on-pick, by-3}
-use Rattle.arith.proofs.Machine.{Size, kept}
+use Rattle.arith.proofs.Machine.{kept}
 use Rattle.arith.proofs.Sums.{abs-weighted, sum-ext, sum-three, sum-zero}
 use Rattle.arith.specs.Choice.{pick}
 use Rattle.arith.specs.Sum.{sum, total}
@@ -63,9 +63,6 @@ module _ (m : ℕ) (m2 : 2 ≤ m) (m3 : m ≤ 3) (k : ℕ) (lk : k < 3) (o : ℕ
 
   pub multiplier-read : held z ≡ multiplier m k o
   multiplier-read = ap held e ∙ kept (multiplier m k o) 20 (multiplier-size m m2 m3 k lk o lo) (lit< tt)
-
-  abbrev pub sized-multiplier : Size (held z)
-  sized-multiplier = record { v = multiplier m k o; B = 20; Ob = Unit {0}; is = λ t. multiplier-read; ok = λ t. multiplier-size m m2 m3 k lk o lo }
 
 -- rows that are A's, by numbers that are X's
 pub rows-on : (a b c x r : ℕ → ℤ) → RowsOn a b c x r → (A : ℕ → ℕ → ℤ) (X : ℕ → ℤ)

@@ -13,7 +13,7 @@ use Rattle.arith.specs.Sum.{sum, total}
 use Rattle.lattice.proofs.Local.{Depends}
 use mir.Syntax.{w64}
 use mir.Val.{SFits}
-use Rattle.arith.proofs.Machine.{Size, sized, sizes, fits?, value?}
+use Rattle.arith.proofs.Machine.{sized, sizes, fits?, value?}
 use Rattle.hermite.specs.Hermite.{multiplier, turned, solved, seen, endRule}
 use Rattle.hermite.proofs.DotLaws.{held}
 use Rattle.hermite.proofs.HermiteLaws.{turned-size}
@@ -43,38 +43,18 @@ pub record Solves (p q r x y z : ℤ) : Type 0 where
   pub third : held (held (held (pos 2 *ℤ z) -ℤ held (q *ℤ x)) -ℤ held (r *ℤ held (held (pos 2 *ℤ y) -ℤ held (p *ℤ x)))) ≡ pos 2 *ℤ z -ℤ q *ℤ x -ℤ r *ℤ (pos 2 *ℤ y -ℤ p *ℤ x)
 
 module _ (p q r x y z : ℤ) (hp : natAbs p ≤ 20) (hq : natAbs q ≤ 20) (hr : natAbs r ≤ 20) (hx : natAbs x ≤ 2 ^ 50) (hy : natAbs y ≤ 2 ^ 50) (hz : natAbs z ≤ 2 ^ 50) where
-  abbrev k-p : Size p
-  k-p = sized p 20 hp
-
-  abbrev k-q : Size q
-  k-q = sized q 20 hq
-
-  abbrev k-r : Size r
-  k-r = sized r 20 hr
-
-  abbrev k-x : Size x
-  k-x = sized x (2 ^ 50) hx
-
-  abbrev k-y : Size y
-  k-y = sized y (2 ^ 50) hy
-
-  abbrev k-z : Size z
-  k-z = sized z (2 ^ 50) hz
-
-  ruleset known = (k-p, k-q, k-r, k-x, k-y, k-z, sizes)
-
   pub solves-fit : Solves p q r x y z
   solves-fit = record {
-    yy = fits? (search known depth 40 fits 3000) (omega arith);
-    px = fits? (search known depth 40 fits 3000) (omega arith);
-    d = fits? (search known depth 40 fits 3000) (omega arith);
-    zz = fits? (search known depth 40 fits 3000) (omega arith);
-    qx = fits? (search known depth 40 fits 3000) (omega arith);
-    less-qx = fits? (search known depth 40 fits 3000) (omega arith);
-    rd = fits? (search known depth 40 fits 3000) (omega arith);
-    less-rd = fits? (search known depth 40 fits 3000) (omega arith);
-    second = value? (search known depth 40 fits 3000) (omega arith);
-    third = value? (search known depth 40 fits 3000) (omega arith);
+    yy = fits? (search (sizes, sized, hy) depth 40) (omega arith);
+    px = fits? (search (sizes, sized, hp, hx) depth 40) (omega arith);
+    d = fits? (search (sizes, sized, hp, hx, hy) depth 40) (omega arith);
+    zz = fits? (search (sizes, sized, hz) depth 40) (omega arith);
+    qx = fits? (search (sizes, sized, hq, hx) depth 40) (omega arith);
+    less-qx = fits? (search (sizes, sized, hq, hx, hz) depth 40) (omega arith);
+    rd = fits? (search (sizes, sized, hp, hr, hx, hy) depth 40) (omega arith);
+    less-rd = fits? (search (sizes, sized, hp, hq, hr, hx, hy, hz) depth 40) (omega arith);
+    second = value? (search (sizes, sized, hp, hx, hy) depth 40) (omega arith);
+    third = value? (search (sizes, sized, hp, hq, hr, hx, hy, hz) depth 40) (omega arith);
   }
 
 -- ---- the rule of an end

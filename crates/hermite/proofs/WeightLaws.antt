@@ -13,7 +13,7 @@ use mir.Val.{SFits}
 use mir.Facts.{toZ-ofZ}
 use Rattle.arith.specs.Int.{_^ℤ_}
 use Rattle.arith.proofs.Abs.{abs-mul-le, abs-minus}
-use Rattle.arith.proofs.Machine.{Size, sized, sizes, fits?, value?}
+use Rattle.arith.proofs.Machine.{sized, sizes, fits?, value?}
 use Rattle.arith.proofs.Quote.{quotes, ring! }
 use Rattle.lattice.specs.Buffer.{at}
 use Rattle.hermite.specs.Hermite.{Kind, value, slope, kindOf, weight}
@@ -112,34 +112,20 @@ pub record Slopes (d x y z : ℤ) : Type 0 where
   pub third : held (held (pos 2 *ℤ y) -ℤ held (held (d -ℤ pos 2) *ℤ z)) ≡ pos 2 *ℤ y -ℤ (d -ℤ pos 2) *ℤ z
 
 module _ (d x y z : ℤ) (hd : natAbs d ≤ 5) (hx : natAbs x ≤ 2 ^ 40) (hy : natAbs y ≤ 2 ^ 40) (hz : natAbs z ≤ 2 ^ 40) where
-  abbrev k-d : Size d
-  k-d = sized d 5 hd
-
-  abbrev k-x : Size x
-  k-x = sized x (2 ^ 40) hx
-
-  abbrev k-y : Size y
-  k-y = sized y (2 ^ 40) hy
-
-  abbrev k-z : Size z
-  k-z = sized z (2 ^ 40) hz
-
-  ruleset known = (k-d, k-x, k-y, k-z, sizes)
-
   pub slopes-fit : Slopes d x y z
   slopes-fit = record {
-    dx = fits? (search known depth 40 fits 3000) (omega arith);
-    less-dx = fits? (search known depth 40 fits 3000) (omega arith);
-    e = fits? (search known depth 40 fits 3000) (omega arith);
-    ey = fits? (search known depth 40 fits 3000) (omega arith);
-    less-ey = fits? (search known depth 40 fits 3000) (omega arith);
-    yy = fits? (search known depth 40 fits 3000) (omega arith);
-    f = fits? (search known depth 40 fits 3000) (omega arith);
-    fz = fits? (search known depth 40 fits 3000) (omega arith);
-    less-fz = fits? (search known depth 40 fits 3000) (omega arith);
-    first = value? (search known depth 40 fits 3000) (omega arith);
-    second = value? (search known depth 40 fits 3000) (omega arith);
-    third = value? (search known depth 40 fits 3000) (omega arith);
+    dx = fits? (search (sizes, sized, hd, hx) depth 40) (omega arith);
+    less-dx = fits? (search (sizes, sized, hd, hx) depth 40) (omega arith);
+    e = fits? (search (sizes, sized, hd) depth 40) (omega arith);
+    ey = fits? (search (sizes, sized, hd, hy) depth 40) (omega arith);
+    less-ey = fits? (search (sizes, sized, hd, hx, hy) depth 40) (omega arith);
+    yy = fits? (search (sizes, sized, hy) depth 40) (omega arith);
+    f = fits? (search (sizes, sized, hd) depth 40) (omega arith);
+    fz = fits? (search (sizes, sized, hd, hz) depth 40) (omega arith);
+    less-fz = fits? (search (sizes, sized, hd, hy, hz) depth 40) (omega arith);
+    first = value? (search (sizes, sized, hd, hx) depth 40) (omega arith);
+    second = value? (search (sizes, sized, hd, hx, hy) depth 40) (omega arith);
+    third = value? (search (sizes, sized, hd, hy, hz) depth 40) (omega arith);
   }
 
 module _ (a b : ℤ) (fa : SFits w64 a) (fb : SFits w64 b) where

@@ -1,6 +1,5 @@
 -- `hermite::converted` meets its contract: order 1 of the high end turned before the table, and back after it.
 use mathlib.Core.Path.{sym, ap, _∙_}
-use Prim.Native.Nat.{_≤_}
 use native.Mathlib.Nat.{le-trans}
 use native.Mathlib.Omega.{arith}
 use lib.Dec.{lit≤}

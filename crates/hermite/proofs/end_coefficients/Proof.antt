@@ -1,6 +1,5 @@
 -- `hermite::end_coefficients` meets its contract: rows of the table on the numbers, of which a cubic has two.
-use mathlib.Core.Path.{_≡_, refl, ap, _∙_}
-use Prim.Native.Nat.{_≤_}
+use mathlib.Core.Path.{refl, ap, _∙_}
 use lib.Dec.{lit<}
 use lib.IntN.{_*ℤ_, zero-*ℤ}
 use Rattle.arith.proofs.Sums.{sum-three}

@@ -1,8 +1,8 @@
 -- `hermite::end_numbers` meets its contract: multipliers and coefficients are small, so that nothing overflows.
 use mathlib.Core.Path.{_≡_, _∙_}
-use lib.Dec.{lit<, lit≤}
+use lib.Dec.{lit<}
 use Prim.Native.Nat.{ℕ, _<_, _≤_, _^_}
-use lib.IntN.{ℤ, pos, natAbs}
+use lib.IntN.{ℤ, natAbs}
 use Rattle.arith.proofs.Choices.{by-3}
 use Rattle.arith.proofs.Machine.{kept, kept-low}
 use Rattle.lattice.specs.Buffer.{at}
