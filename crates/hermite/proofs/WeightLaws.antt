@@ -34,7 +34,7 @@ module _ (a b : ℤ) where
     ring! (a ∷ b ∷ []) (search quotes depth 40) (search quotes depth 40) tt,
   )
 
-  pub quintic-products : (a *ℤ a *ℤ (a *ℤ a) ≡ product 3 0) × (a *ℤ a *ℤ (a *ℤ b) ≡ product 3 1) × (a *ℤ a *ℤ (b *ℤ b) ≡ product 3 2)
+  pub quintic-products : (a *ℤ a *ℤ (a *ℤ a) ≡ product 3 0) × (a *ℤ a *ℤ (a *ℤ b) ≡ product 3 1) × (a *ℤ b *ℤ (a *ℤ b) ≡ product 3 2)
   quintic-products = (
     ring! (a ∷ b ∷ []) (search quotes depth 40) (search quotes depth 40) tt,
     ring! (a ∷ b ∷ []) (search quotes depth 40) (search quotes depth 40) tt,

@@ -51,11 +51,10 @@ fn products(m: usize, a: i64, b: i64) -> [i64; 3]
 {
     let c = a * a;
     let d = a * b;
-    let e = b * b;
     if m == 2 {
-        return [c, d, e];
+        return [c, d, b * b];
     }
-    [c * c, c * d, c * e]
+    [c * c, c * d, d * d]
 }
 
 // The first three weights of a dose or a slope, a and b being the distances 256 - u and u.
