@@ -141,8 +141,8 @@ pub fn basis_at(slope: bool, m: usize, u: u32) -> Basis
 {
     let a = (STEPS - u) as i64;
     let b = u as i64;
-    let low = end_basis(slope, m, a, b);
     let high = mirrored(slope, end_basis(slope, m, b, a));
+    let low = end_basis(slope, m, a, b);
     Basis {
         low: low,
         high: high,
