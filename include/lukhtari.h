@@ -3,31 +3,61 @@
  * A table is a shape with one sample for each node. lukhtari_estimate makes each node's record
  * from the samples; doses and slopes are then asked for by table position, by cell or by float.
  *
- * Axes are x, y, z in this order. Samples, records and coefficients stand with x fastest. A cell
- * has 256 steps an axis. A slice is a pointer and a length; a slice of length 0 is not read.
- * Slices lent to one call must not overlap where one of them is written.
+ * Nodes, cells and positions. Axes are x, y, z in this order, numbered 0, 1, 2; a shape uses the
+ * first 1, 2 or 3. With cx and cy the node counts of x and y, node (i, j, k) has number
+ * i + cx * (j + cy * k). Cell (i, j, k) lies between node (i, j, k) and the next one on each used
+ * axis; the last cell of an axis has the index count - 2. A position counts 256 steps a cell: node
+ * i stands at position 256 * i. Within a cell a step u runs from 0 to 256. A node between two cells
+ * is read in the upper one, the last node in the last cell. Indices, positions and steps are 0 on
+ * unused axes, node counts 1.
  *
- * Every result has a number and a place. Number 0 means not refused, and then place is 0. Any
- * other number is a refusal: no buffer is written, and value, axes, counts and length are 0. A
+ * Samples and records. A sample is a dose in units; samples stand in order of node numbers. Let m
+ * be 2 for degree 3 and 3 for degree 5. A node's record has m^axes entries. The entry of orders
+ * (a, b, c), each from 0 to m - 1 and 0 on an unused axis, has number a + m * (b + m * c) and
+ * stands at index node * m^axes + number of the records. Along an axis order 0 is the value, order
+ * 1 twice the slope per cell, order 2 the second derivative per cell squared; an entry with orders
+ * on several axes is so derived along each of them. A sample lies within +-32768, an entry within
+ * +-32768 * 2^(a + b + c).
+ *
+ * Coefficients. Coefficient (a, b, c) of a cell, each index from 0 to degree and 0 on an unused
+ * axis, has number a + s * (b + s * c) with s = degree + 1, and lies within +-2^30. It is held
+ * doubled once for each used axis. With t = u / 256 on each axis the exact dose is the sum over all
+ * coefficients, divided by 2^axes, of the coefficient times t^a * (1 - t)^(degree - a) along x and
+ * alike with b along y and c along z. A cell's corner records are those of the nodes at its 2^axes
+ * corners, x fastest; together they have as many entries as the cell has coefficients.
+ *
+ * Answers. A dose is in units, a slope in units per cell. Axes are worked off one by one, in the
+ * order x, y, z, a slope's axis last; each but the last rounds to an eighth of a unit, the last to
+ * a unit, to the nearest and halves up. Doses and slopes lie below 2^24 in size.
+ *
+ * The table file. Numbers of 4 bytes, lowest byte first, unsigned but for the samples, which are in
+ * two's complement. n is the number of axes:
+ *
+ *    byte 0              n
+ *    byte 4              n node counts, x first
+ *    byte 4 + 4 * n      number of samples, the product of the node counts
+ *    byte 8 + 4 * n      the samples in order of node numbers; nothing follows them
+ *
+ * Slices. A slice is a pointer and its number of elements. The pointer is aligned and valid for so
+ * many elements until the call returns. Slices lent to one call do not overlap where one of them
+ * is written. With length 0 the pointer may be NULL: it is not used, and since every call needs
+ * elements, the call is refused. What a buffer holds before a call has no effect on the call.
+ *
+ * Results. Every result has a number and a place. Number 0 means not refused, and then place is 0.
+ * Any other number is a refusal, one of enum lukhtari_refusal: no buffer is written, and value,
+ * axes, counts and length are 0. Place is the first offending index as said there, else 0. A
  * buffer longer than needed keeps its tail.
  *
- *    1  the number of axes is not 1, 2 or 3
- *    2  the degree is neither 3 nor 5
- *    3  a node count is not allowed; place: the axis
- *    4  the samples or records lent are not exactly as many as the shape has
- *    5  a sample or entry is beyond its limit; place: its index in the slice
- *    6  the file's bytes end early; place: the number of bytes lent
- *    7  the file has bytes left over; place: the index of the first
- *    8  the file's number of samples is not the product of its node counts
- *    9  a buffer to be written is shorter than needed
- *   10  a float is NaN or infinite; place: the axis
- *   11  a position is below 0 or beyond the last node, an in-cell step is above 256, or either is
- *       not 0 on an unused axis; place: the axis
- *   12  the axis of a slope is not used
- *   13  no permitted corner records have these coefficients
- *   14  a cell index is above the axis's node count less 2, or not 0 on an unused axis; place: the
- *       axis
- *   15  the coefficients lent are not exactly (degree + 1)^axes
+ * Refusals come before reading. Every call but lukhtari_read gives each refusal but 5 and 13 by the
+ * numbers and lengths handed over, before it reads an element of a slice. lukhtari_read reads the
+ * numbers before the samples one by one, none beyond the bytes lent, and gives each refusal but 5
+ * before it reads a sample.
+ *
+ * Surroundings. The archive is for x86-64 Linux. It needs memcpy and memset and nothing else, uses
+ * no heap and has no data that changes: calls may run at the same time, in threads and in signal
+ * handlers, as long as no slice that one of them writes is lent to another. The stack of a call is
+ * at most LUKHTARI_STACK_.. bytes, as measured; on top comes what memcpy and memset use, and the
+ * dynamic linker where it binds them at their first call.
  */
 #ifndef LUKHTARI_H
 #define LUKHTARI_H
@@ -38,6 +68,90 @@
 #ifdef __cplusplus
 extern "C" {
 #endif
+
+/* The number of this interface; another number means other structs or calls. */
+#define LUKHTARI_INTERFACE 1
+
+/* Steps of a cell along an axis. */
+#define LUKHTARI_STEPS 256
+
+/* Least and largest node count of a used axis, and the most nodes of a table. */
+#define LUKHTARI_COUNT_MIN 2
+#define LUKHTARI_COUNT_MAX 64
+#define LUKHTARI_NODES_MAX 262144
+
+/* The largest size of a sample, of an entry whose orders add up to a number (0 to 6), and of a
+ * coefficient. */
+#define LUKHTARI_SAMPLE_LIMIT 32768
+#define LUKHTARI_ENTRY_LIMIT(orders) (LUKHTARI_SAMPLE_LIMIT * (1 << (orders)))
+#define LUKHTARI_COEFFICIENT_LIMIT 1073741824
+
+/* Doses and slopes are smaller than this in size. */
+#define LUKHTARI_ANSWER_LIMIT 16777216
+
+/* The largest sizes of buffers: entries of one record and of all records of a table; coefficients
+ * of a cell, which are as many as the entries of its corner records; bytes of a table file. */
+#define LUKHTARI_RECORD_ENTRIES_MAX 27
+#define LUKHTARI_ENTRIES_MAX 7077888
+#define LUKHTARI_COEFFICIENTS_MAX 216
+#define LUKHTARI_FILE_BYTES_MAX 1048596
+
+/* The same sizes for the axes, degree and nodes of an accepted shape; for other numbers they mean
+ * nothing. Constant where the arguments are, which may be evaluated more than once. */
+#define LUKHTARI_POWER(base, axes)                                                                 \
+    ((size_t)(base) * ((axes) > 1 ? (size_t)(base) : 1) * ((axes) > 2 ? (size_t)(base) : 1))
+#define LUKHTARI_NODES(x, y, z) ((size_t)(x) * (size_t)(y) * (size_t)(z))
+#define LUKHTARI_RECORD_ENTRIES(axes, degree) LUKHTARI_POWER(((degree) + 1) / 2, axes)
+#define LUKHTARI_ENTRIES(axes, degree, nodes)                                                      \
+    ((size_t)(nodes) * LUKHTARI_RECORD_ENTRIES(axes, degree))
+#define LUKHTARI_COEFFICIENTS(axes, degree) LUKHTARI_POWER((degree) + 1, axes)
+#define LUKHTARI_FILE_BYTES(axes, nodes) (4 * (2 + (size_t)(axes) + (size_t)(nodes)))
+
+/* Bytes of stack, at most: of lukhtari_estimate; of lukhtari_coefficients and lukhtari_corners; of
+ * each dose and slope; of lukhtari_read and lukhtari_write. */
+#define LUKHTARI_STACK_ESTIMATE 8192
+#define LUKHTARI_STACK_CONVERSION 4096
+#define LUKHTARI_STACK_QUERY 2048
+#define LUKHTARI_STACK_FILE 1024
+
+/* The numbers of refusals. */
+enum lukhtari_refusal {
+    /* The call gave its full result. */
+    LUKHTARI_NOT_REFUSED = 0,
+    /* The number of axes is not 1, 2 or 3. */
+    LUKHTARI_REFUSED_AXES = 1,
+    /* The degree is neither 3 nor 5. */
+    LUKHTARI_REFUSED_DEGREE = 2,
+    /* A node count is not allowed; place: the axis. */
+    LUKHTARI_REFUSED_NODE_COUNT = 3,
+    /* The samples or records lent are not exactly as many as the shape has. */
+    LUKHTARI_REFUSED_LENGTH = 4,
+    /* A sample or entry is beyond its limit; place: its index in the slice. Queries and
+     * lukhtari_coefficients look at the corner records of their cell alone, in corner order. */
+    LUKHTARI_REFUSED_BEYOND_LIMIT = 5,
+    /* The file's bytes end early; place: the number of bytes lent. */
+    LUKHTARI_REFUSED_FILE_ENDS_EARLY = 6,
+    /* The file has bytes left over; place: the index of the first. */
+    LUKHTARI_REFUSED_FILE_LEFT_OVER = 7,
+    /* The file's number of samples is not the product of its node counts. */
+    LUKHTARI_REFUSED_FILE_SAMPLE_COUNT = 8,
+    /* A buffer to be written is shorter than needed. */
+    LUKHTARI_REFUSED_BUFFER_TOO_SHORT = 9,
+    /* A float is NaN or infinite; place: the axis. */
+    LUKHTARI_REFUSED_NOT_FINITE = 10,
+    /* A position is below 0 or beyond the last node, an in-cell step is above 256, or either is
+     * not 0 on an unused axis; place: the axis. */
+    LUKHTARI_REFUSED_POSITION = 11,
+    /* The axis of a slope is not used. */
+    LUKHTARI_REFUSED_SLOPE_AXIS = 12,
+    /* No permitted corner records have these coefficients. */
+    LUKHTARI_REFUSED_NO_CORNER_RECORDS = 13,
+    /* A cell index is above the axis's node count less 2, or not 0 on an unused axis; place: the
+     * axis. */
+    LUKHTARI_REFUSED_CELL = 14,
+    /* The coefficients lent are not exactly (degree + 1)^axes. */
+    LUKHTARI_REFUSED_COEFFICIENT_COUNT = 15
+};
 
 /* A table's number of axes (1 to 3), degree (3 or 5) and node counts: 2 to 64 on each used axis,
  * 1 on an unused one. */
@@ -98,6 +212,26 @@ typedef struct lukhtari_written {
     uint64_t place;
     uint64_t length;
 } lukhtari_written;
+
+/* The structs are laid out as the archive was built for. */
+#if defined(__cplusplus) && __cplusplus >= 201103L
+#define LUKHTARI_SIZE(type, size) static_assert(sizeof(type) == (size), #type)
+#elif !defined(__cplusplus) && defined(__STDC_VERSION__) && __STDC_VERSION__ >= 201112L
+#define LUKHTARI_SIZE(type, size) _Static_assert(sizeof(type) == (size), #type)
+#endif
+#ifdef LUKHTARI_SIZE
+LUKHTARI_SIZE(size_t, 8);
+LUKHTARI_SIZE(lukhtari_shape, 20);
+LUKHTARI_SIZE(lukhtari_index, 12);
+LUKHTARI_SIZE(lukhtari_position, 12);
+LUKHTARI_SIZE(lukhtari_float_position, 12);
+LUKHTARI_SIZE(lukhtari_done, 16);
+LUKHTARI_SIZE(lukhtari_whole, 24);
+LUKHTARI_SIZE(lukhtari_real, 24);
+LUKHTARI_SIZE(lukhtari_table, 32);
+LUKHTARI_SIZE(lukhtari_written, 24);
+#undef LUKHTARI_SIZE
+#endif
 
 /* Writes the records of all nodes, estimated from the samples. A record has 2^axes entries for
  * degree 3 and 3^axes for degree 5. Samples lie within +-32768.

@@ -1,4 +1,9 @@
 //! The C interface as declared in `lukhtari.h`. The calls of the crate's root are safe to use.
+//!
+//! A slice is a pointer and its number of elements. It is lent to a call if, until it returns,
+//! the pointer is aligned and valid for so many elements: to be read behind `*const`, to be read and
+//! written behind `*mut`, where it overlaps no other slice of the call. A slice of length 0 is lent
+//! with any pointer, null included: the pointer is not used, and the call is refused.
 
 /// Number of axes, degree and node counts of a table.
 #[repr(C)]
@@ -12,17 +17,19 @@ pub struct Shape {
     pub counts: [u32; 3],
 }
 
-/// A cell's indices, or the steps within a cell.
+/// A cell's indices, the steps within a cell, or node counts.
 #[repr(C)]
 #[derive(Clone, Copy, Debug, PartialEq, Eq)]
 pub struct Index {
+    /// x, y, z; 0 on unused axes, for node counts 1
     pub at: [u32; 3],
 }
 
-/// A table position in steps.
+/// A table position in steps, 256 a cell.
 #[repr(C)]
 #[derive(Clone, Copy, Debug, PartialEq, Eq)]
 pub struct Position {
+    /// x, y, z; 0 on unused axes
     pub at: [i32; 3],
 }
 
@@ -30,8 +37,11 @@ pub struct Position {
 #[repr(C)]
 #[derive(Clone, Copy, Debug, PartialEq)]
 pub struct FloatPosition {
+    /// along x
     pub x: f32,
+    /// along y, 0 where it is not used
     pub y: f32,
+    /// along z, 0 where it is not used
     pub z: f32,
 }
 
@@ -39,7 +49,9 @@ pub struct FloatPosition {
 #[repr(C)]
 #[derive(Clone, Copy, Debug, PartialEq, Eq)]
 pub struct Done {
+    /// 0, or the number of the refusal
     pub number: u32,
+    /// Place of the refusal, else 0
     pub place: u64,
 }
 
@@ -47,8 +59,11 @@ pub struct Done {
 #[repr(C)]
 #[derive(Clone, Copy, Debug, PartialEq, Eq)]
 pub struct Whole {
+    /// 0, or the number of the refusal
     pub number: u32,
+    /// Place of the refusal, else 0
     pub place: u64,
+    /// Dose in units or slope in units per cell, 0 where refused
     pub value: i32,
 }
 
@@ -56,8 +71,11 @@ pub struct Whole {
 #[repr(C)]
 #[derive(Clone, Copy, Debug, PartialEq)]
 pub struct Real {
+    /// 0, or the number of the refusal
     pub number: u32,
+    /// Place of the refusal, else 0
     pub place: u64,
+    /// Dose in units or slope in units per cell, 0 where refused
     pub value: f32,
 }
 
@@ -65,9 +83,13 @@ pub struct Real {
 #[repr(C)]
 #[derive(Clone, Copy, Debug, PartialEq, Eq)]
 pub struct Table {
+    /// 0, or the number of the refusal
     pub number: u32,
+    /// Place of the refusal, else 0
     pub place: u64,
+    /// 1, 2 or 3, and 0 where refused
     pub axes: u32,
+    /// 1 on unused axes, and 0 where refused
     pub counts: [u32; 3],
 }
 
@@ -75,13 +97,21 @@ pub struct Table {
 #[repr(C)]
 #[derive(Clone, Copy, Debug, PartialEq, Eq)]
 pub struct Written {
+    /// 0, or the number of the refusal
     pub number: u32,
+    /// Place of the refusal, else 0
     pub place: u64,
+    /// Number of bytes, 0 where refused
     pub length: u64,
 }
 
 // estimate
 extern "C" {
+    /// Writes the records of all nodes: see [`estimate`](crate::estimate).
+    ///
+    /// # Safety
+    ///
+    /// The slices `samples` and `records` are lent as the [module](self) says.
     pub fn lukhtari_estimate(
         shape: Shape,
         samples: *const i32,
@@ -93,6 +123,11 @@ extern "C" {
 
 // coefficients
 extern "C" {
+    /// Writes the coefficients of a cell: see [`coefficients`](crate::coefficients).
+    ///
+    /// # Safety
+    ///
+    /// The slices `records` and `out` are lent as the [module](self) says.
     pub fn lukhtari_coefficients(
         shape: Shape,
         records: *const i32,
@@ -102,6 +137,11 @@ extern "C" {
         out_len: usize,
     ) -> Done;
 
+    /// Writes the corner records of coefficients: see [`corners`](crate::corners).
+    ///
+    /// # Safety
+    ///
+    /// The slices `coefficients` and `out` are lent as the [module](self) says.
     pub fn lukhtari_corners(
         axes: u32,
         degree: u32,
@@ -114,6 +154,11 @@ extern "C" {
 
 // whole
 extern "C" {
+    /// Dose at a table position: see [`dose`](crate::dose).
+    ///
+    /// # Safety
+    ///
+    /// The slice `records` is lent as the [module](self) says.
     pub fn lukhtari_dose(
         shape: Shape,
         records: *const i32,
@@ -121,6 +166,11 @@ extern "C" {
         position: Position,
     ) -> Whole;
 
+    /// Slope at a table position: see [`slope`](crate::slope).
+    ///
+    /// # Safety
+    ///
+    /// The slice `records` is lent as the [module](self) says.
     pub fn lukhtari_slope(
         shape: Shape,
         records: *const i32,
@@ -129,6 +179,11 @@ extern "C" {
         axis: u32,
     ) -> Whole;
 
+    /// Dose within a cell: see [`dose_in_cell`](crate::dose_in_cell).
+    ///
+    /// # Safety
+    ///
+    /// The slice `records` is lent as the [module](self) says.
     pub fn lukhtari_dose_in_cell(
         shape: Shape,
         records: *const i32,
@@ -137,6 +192,11 @@ extern "C" {
         u: Index,
     ) -> Whole;
 
+    /// Slope within a cell: see [`slope_in_cell`](crate::slope_in_cell).
+    ///
+    /// # Safety
+    ///
+    /// The slice `records` is lent as the [module](self) says.
     pub fn lukhtari_slope_in_cell(
         shape: Shape,
         records: *const i32,
@@ -149,6 +209,11 @@ extern "C" {
 
 // real
 extern "C" {
+    /// Dose at a position in cells: see [`dose_float`](crate::dose_float).
+    ///
+    /// # Safety
+    ///
+    /// The slice `records` is lent as the [module](self) says.
     pub fn lukhtari_dose_float(
         shape: Shape,
         records: *const i32,
@@ -156,6 +221,11 @@ extern "C" {
         position: FloatPosition,
     ) -> Real;
 
+    /// Slope at a position in cells: see [`slope_float`](crate::slope_float).
+    ///
+    /// # Safety
+    ///
+    /// The slice `records` is lent as the [module](self) says.
     pub fn lukhtari_slope_float(
         shape: Shape,
         records: *const i32,
@@ -167,6 +237,11 @@ extern "C" {
 
 // file
 extern "C" {
+    /// Reads a table file: see [`read`](crate::read).
+    ///
+    /// # Safety
+    ///
+    /// The slices `bytes` and `samples` are lent as the [module](self) says.
     pub fn lukhtari_read(
         bytes: *const u8,
         bytes_len: usize,
@@ -174,6 +249,11 @@ extern "C" {
         samples_len: usize,
     ) -> Table;
 
+    /// Writes a table file: see [`write`](crate::write).
+    ///
+    /// # Safety
+    ///
+    /// The slices `samples` and `bytes` are lent as the [module](self) says.
     pub fn lukhtari_write(
         axes: u32,
         counts: Index,

@@ -6,6 +6,7 @@ use crate::{ffi, Refusal};
 /// Number of axes and node counts of a file that was read.
 #[derive(Clone, Copy, Debug, PartialEq, Eq)]
 pub struct Table {
+    /// 1, 2 or 3
     pub axes: u32,
     /// 1 on unused axes
     pub counts: [u32; 3],

@@ -3,14 +3,19 @@
 //! A table is a [`Shape`] with one sample for each node. Estimation makes each node's record from
 //! the samples; doses and slopes are then asked for by table position, by cell or by float. Every
 //! call either answers or gives a [`Refusal`] with its number and place, and a refused call
-//! leaves every lent buffer as it was. All calls are made by the static library `liblukhtari.a`.
+//! leaves every lent buffer as it was. All calls are made by the static library `liblukhtari.a`;
+//! the crate uses neither `std` nor other crates.
 //!
 //! Samples, records and coefficients stand in slices with x fastest. A position counts 256 steps
 //! for each cell. Arrays of three hold one number for each axis, x first, and 0 on unused axes
 //! (node counts hold 1 there).
 
+#![no_std]
+#![warn(missing_docs)]
+
 mod answer;
 pub mod ffi;
+pub mod limits;
 mod refusal;
 mod shape;
 
@@ -31,3 +36,8 @@ pub use real::{dose_float, slope_float};
 
 mod file;
 pub use file::{read, write, Table};
+
+// The examples of the README are run.
+#[cfg(doctest)]
+#[doc = include_str!("../../README.md")]
+struct Readme;

@@ -1,21 +1,56 @@
 //! Refusals.
 
-use std::error::Error;
-use std::fmt;
+use core::error::Error;
+use core::fmt;
 
 /// Why a call was refused: the number of the reason, and the first offending index.
 ///
 /// ```
 /// use lukhtari::Refusal;
 /// let refusal = Refusal { number: 11, place: 2 };
+/// assert_eq!(refusal.number, Refusal::POSITION);
 /// assert_eq!(refusal.to_string(), "refused 11: the position on axis 2 is outside the table");
 /// ```
 #[derive(Clone, Copy, Debug, PartialEq, Eq)]
 pub struct Refusal {
-    /// 1 to 15
+    /// 1 to 15, the constants below
     pub number: u32,
     /// An index counted from 0, and 0 where the reason names none
     pub place: u64,
+}
+
+/// The numbers of refusals.
+impl Refusal {
+    /// The number of axes is not 1, 2 or 3.
+    pub const AXES: u32 = 1;
+    /// The degree is neither 3 nor 5.
+    pub const DEGREE: u32 = 2;
+    /// A node count is not allowed; the place is the axis.
+    pub const NODE_COUNT: u32 = 3;
+    /// The samples or records lent are not exactly as many as the shape has.
+    pub const LENGTH: u32 = 4;
+    /// A sample or entry is beyond its limit; the place is its index in the slice.
+    pub const BEYOND_LIMIT: u32 = 5;
+    /// The file's bytes end early; the place is their number.
+    pub const FILE_ENDS_EARLY: u32 = 6;
+    /// The file has bytes left over; the place is the index of the first.
+    pub const FILE_LEFT_OVER: u32 = 7;
+    /// The file's number of samples is not the product of its node counts.
+    pub const FILE_SAMPLE_COUNT: u32 = 8;
+    /// A buffer to be written is shorter than needed.
+    pub const BUFFER_TOO_SHORT: u32 = 9;
+    /// A float is NaN or infinite; the place is the axis.
+    pub const NOT_FINITE: u32 = 10;
+    /// A position or in-cell step is outside the table or cell; the place is the axis.
+    pub const POSITION: u32 = 11;
+    /// The axis of a slope is not used.
+    pub const SLOPE_AXIS: u32 = 12;
+    /// No permitted corner records have these coefficients.
+    pub const NO_CORNER_RECORDS: u32 = 13;
+    /// A cell index is outside the table; the place is the axis.
+    pub const CELL: u32 = 14;
+    /// The coefficients lent are not exactly as many as a cell has.
+    pub const COEFFICIENT_COUNT: u32 = 15;
 }
 
 impl fmt::Display for Refusal {
@@ -23,24 +58,26 @@ impl fmt::Display for Refusal {
         let Refusal { number, place } = *self;
         write!(f, "refused {number}: ")?;
         match number {
-            1 => write!(f, "the number of axes is not 1, 2 or 3"),
-            2 => write!(f, "the degree is neither 3 nor 5"),
-            3 => write!(f, "the node count of axis {place} is not allowed"),
-            4 => write!(f, "the samples or records are not as many as the shape has"),
-            5 => write!(f, "the number at index {place} is beyond its limit"),
-            6 => write!(f, "the file ends early, after {place} bytes"),
-            7 => write!(f, "the file has bytes left over, from byte {place} on"),
-            8 => write!(
+            Self::AXES => write!(f, "the number of axes is not 1, 2 or 3"),
+            Self::DEGREE => write!(f, "the degree is neither 3 nor 5"),
+            Self::NODE_COUNT => write!(f, "the node count of axis {place} is not allowed"),
+            Self::LENGTH => write!(f, "the samples or records are not as many as the shape has"),
+            Self::BEYOND_LIMIT => write!(f, "the number at index {place} is beyond its limit"),
+            Self::FILE_ENDS_EARLY => write!(f, "the file ends early, after {place} bytes"),
+            Self::FILE_LEFT_OVER => write!(f, "the file has bytes left over, from byte {place} on"),
+            Self::FILE_SAMPLE_COUNT => write!(
                 f,
                 "the file's sample count is not the product of its node counts"
             ),
-            9 => write!(f, "the buffer to be written is too short"),
-            10 => write!(f, "the position on axis {place} is NaN or infinite"),
-            11 => write!(f, "the position on axis {place} is outside the table"),
-            12 => write!(f, "the axis of the slope is not used"),
-            13 => write!(f, "no permitted corner records have these coefficients"),
-            14 => write!(f, "the cell index on axis {place} is outside the table"),
-            15 => write!(f, "the coefficients are not as many as a cell has"),
+            Self::BUFFER_TOO_SHORT => write!(f, "the buffer to be written is too short"),
+            Self::NOT_FINITE => write!(f, "the position on axis {place} is NaN or infinite"),
+            Self::POSITION => write!(f, "the position on axis {place} is outside the table"),
+            Self::SLOPE_AXIS => write!(f, "the axis of the slope is not used"),
+            Self::NO_CORNER_RECORDS => {
+                write!(f, "no permitted corner records have these coefficients")
+            }
+            Self::CELL => write!(f, "the cell index on axis {place} is outside the table"),
+            Self::COEFFICIENT_COUNT => write!(f, "the coefficients are not as many as a cell has"),
             _ => write!(f, "unknown reason"),
         }
     }

@@ -17,6 +17,7 @@ impl Shape {
     /// assert_eq!(shape.nodes(), 12);
     /// assert_eq!(shape.entries(), 12 * 9);
     /// assert_eq!(shape.coefficients(), 36);
+    /// assert_eq!(shape.file_bytes(), 4 * (2 + 2 + 12));
     /// ```
     pub fn entries(&self) -> usize {
         let orders = self.degree as usize / 2 + 1;
@@ -24,9 +25,15 @@ impl Shape {
             .saturating_mul(orders.saturating_pow(self.axes))
     }
 
-    /// Number of coefficients of a cell.
+    /// Number of coefficients of a cell, and of entries of its corner records.
     pub fn coefficients(&self) -> usize {
         let side = (self.degree as usize).saturating_add(1);
         side.saturating_pow(self.axes)
+    }
+
+    /// Number of bytes of the table's file.
+    pub fn file_bytes(&self) -> usize {
+        let numbers = (self.axes as usize).saturating_add(2);
+        numbers.saturating_add(self.nodes()).saturating_mul(4)
     }
 }

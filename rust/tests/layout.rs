@@ -1,22 +1,12 @@
 //! The header, the Rust declarations and the Rattle source agree.
 
+mod c;
 mod declarations;
 
+use c::text;
 use declarations::*;
 use lukhtari::ffi;
-use std::fs;
 use std::mem::{align_of, offset_of, size_of};
-use std::path::{Path, PathBuf};
-use std::process::Command;
-
-fn repository() -> PathBuf {
-    Path::new(env!("CARGO_MANIFEST_DIR")).join("..")
-}
-
-fn text(path: &str) -> String {
-    let path = repository().join(path);
-    fs::read_to_string(&path).unwrap_or_else(|error| panic!("{}: {error}", path.display()))
-}
 
 // Size, alignment and offsets of a struct: what to print in C, and the number in Rust.
 struct Layout(Vec<(String, usize)>);
@@ -52,20 +42,6 @@ fn layouts() -> Layout {
     all
 }
 
-// Runs a compiler with the header's folder and returns whether it takes the source.
-fn compile(compiler: &str, source: &Path, more: &[&str]) -> bool {
-    let include = repository().join("include");
-    let output = Command::new(compiler)
-        .args(["-Wall", "-Wextra", "-Werror", "-pedantic", "-I"])
-        .arg(include)
-        .arg(source)
-        .args(more)
-        .output()
-        .expect("the compiler runs");
-    print!("{}", String::from_utf8_lossy(&output.stderr));
-    output.status.success()
-}
-
 #[test]
 fn c_and_rust_have_the_same_layout() {
     let layouts = layouts();
@@ -75,34 +51,11 @@ fn c_and_rust_have_the_same_layout() {
         source += &format!("    printf(\"%zu\\n\", {expression});\n");
     }
     source += "    return 0;\n}\n";
-    let folder = Path::new(env!("CARGO_TARGET_TMPDIR"));
-    let (file, program) = (folder.join("layout.c"), folder.join("layout"));
-    fs::write(&file, source).unwrap();
-    assert!(compile(
-        "gcc",
-        &file,
-        &["-std=c11", "-o", program.to_str().unwrap()]
-    ));
-    let output = Command::new(program).output().unwrap();
-    let printed = String::from_utf8(output.stdout).unwrap();
+    let printed = c::run("c11", &c::source("layout.c", &source));
     let numbers: Vec<usize> = printed.lines().map(|line| line.parse().unwrap()).collect();
     assert_eq!(numbers.len(), layouts.0.len());
     for ((expression, rust), c) in layouts.0.iter().zip(numbers) {
         assert_eq!(*rust, c, "{expression}");
-    }
-}
-
-#[test]
-fn the_header_is_c99_and_cpp() {
-    let folder = Path::new(env!("CARGO_TARGET_TMPDIR"));
-    let source = "#include \"lukhtari.h\"\n#include \"lukhtari.h\"\nint used;\n";
-    let (c, cpp) = (folder.join("header.c"), folder.join("header.cpp"));
-    fs::write(&c, source).unwrap();
-    fs::write(&cpp, source).unwrap();
-    assert!(compile("gcc", &c, &["-std=c99", "-fsyntax-only"]));
-    match Command::new("g++").arg("--version").output() {
-        Ok(_) => assert!(compile("g++", &cpp, &["-std=c++11", "-fsyntax-only"])),
-        Err(_) => println!("g++ is absent: C++ not tried"),
     }
 }
 

@@ -1,31 +1,15 @@
 //! The program over pipes, against the model's output.
-//!
-//! LUKHTARI_PROGRAM names the program; else it is target/bin/cell_doses of the repository.
 
 mod common;
 mod model;
 
-use common::Random;
+use common::{program, Random};
 use model::program::{output, BYTES, NODES};
-use std::env;
+use std::fs::File;
 use std::io::{Read, Write};
-use std::path::PathBuf;
 use std::process::{Command, Stdio};
 use std::thread;
-use std::time::Duration;
-
-fn program() -> PathBuf {
-    let path = match env::var_os("LUKHTARI_PROGRAM") {
-        Some(path) => PathBuf::from(path),
-        None => PathBuf::from(env!("CARGO_MANIFEST_DIR")).join("../target/bin/cell_doses"),
-    };
-    assert!(
-        path.exists(),
-        "{} is missing: run `rt check`",
-        path.display()
-    );
-    path
-}
+use std::time::{Duration, Instant};
 
 // Runs the program on an input that is written in pieces, with a pause between them.
 fn run_in_pieces(input: &[u8], piece: usize, pause: Duration) -> String {
@@ -36,7 +20,7 @@ fn run_in_pieces(input: &[u8], piece: usize, pause: Duration) -> String {
         .expect("the program runs");
     let mut stdin = child.stdin.take().unwrap();
     let pieces: Vec<Vec<u8>> = input.chunks(piece).map(<[u8]>::to_vec).collect();
-    // The program may refuse a long input before it is read to its end.
+    // The program stops reading as soon as an input is too long.
     let writer = thread::spawn(move || {
         for piece in pieces {
             if stdin.write_all(&piece).is_err() {
@@ -152,6 +136,42 @@ fn inputs_of_all_lengths() {
         let number = if length > BYTES { 9 } else { 1 };
         assert_eq!(check(&vec![0; length]), format!("refused {number}\n"));
     }
+}
+
+// Runs the program on an input without end; it has to stop reading by itself.
+fn run_endless(input: Stdio) -> String {
+    let mut child = Command::new(program())
+        .stdin(input)
+        .stdout(Stdio::piped())
+        .spawn()
+        .expect("the program runs");
+    let start = Instant::now();
+    while child.try_wait().unwrap().is_none() {
+        if start.elapsed() > Duration::from_secs(20) {
+            child.kill().unwrap();
+            panic!("the program reads on");
+        }
+        thread::sleep(Duration::from_millis(1));
+    }
+    let mut text = String::new();
+    let mut stdout = child.stdout.take().unwrap();
+    stdout.read_to_string(&mut text).expect("text");
+    text
+}
+
+#[test]
+fn endless_inputs() {
+    let zeros = File::open("/dev/zero").expect("zeros");
+    assert_eq!(run_endless(zeros.into()), "refused 9\n");
+    // A pipe whose writer goes on until the program no longer reads.
+    let mut writer = Command::new("cat")
+        .arg("/dev/zero")
+        .stdout(Stdio::piped())
+        .spawn()
+        .expect("cat runs");
+    let pipe = writer.stdout.take().unwrap();
+    assert_eq!(run_endless(pipe.into()), "refused 9\n");
+    assert!(!writer.wait().unwrap().success());
 }
 
 #[test]

@@ -1,12 +1,12 @@
 -- The size of an integer, in ℕ, where `omega` reads it: of a sum, a product, a negation; from bounds on both sides; and that a number fits its width.
 use mathlib.Core.Path.{_≡_, refl, sym, subst}
 use mathlib.Core.Bool.{Bool, true, false, cond}
-use Prim.Native.Nat.{ℕ, zero, suc, _+_, _*_, _-_, _/_, _^_, _≤_, _<_}
-use native.Mathlib.Nat.{div-le-self, lt-of-le-of-lt, le-refl, mul-le-mul-left, mul-le-mul-right, le-trans}
+use Prim.Native.Nat.{ℕ, zero, suc, _+_, _*_, _-_, _^_, _≤_, _<_}
+use native.Mathlib.Nat.{lt-of-le-of-lt, le-refl, mul-le-mul-left, mul-le-mul-right, le-trans}
 use native.Mathlib.Omega.{arith}
 use lib.Dec.{T, ltb, leb→le, ltb→lt}
 use lib.IntN.{ℤ, pos, negsuc, negℤ, subℕ, natAbs, _+ℤ_, _-ℤ_, _*ℤ_}
-use lib.Signed.{_≤ℤ_, leZ, mag, quotZ, shrZ, mag-shr}
+use lib.Signed.{_≤ℤ_, leZ, mag, shrZ, mag-shr}
 use mir.Syntax.{Width}
 use mir.Val.{SFits, hbits}
 
@@ -63,12 +63,6 @@ mag≤abs (negsuc n) = omega arith
 pub sfits-abs : {w : Width} (x : ℤ) → natAbs x < 2 ^ hbits w → SFits w x
 sfits-abs x h = record { sfits = omega (arith, mag≤abs x) }
 
--- a quotient, toward zero or down, and a remainder are no larger than the dividend
-pub abs-quot : (z d : ℤ) → natAbs (quotZ z d) ≤ natAbs z
-abs-quot (pos a) (pos b) = div-le-self a b
-abs-quot (pos a) (negsuc b) = subst (λ (n : ℕ). n ≤ a) (sym (abs-neg (pos (a / suc b)))) (div-le-self a (suc b))
-abs-quot (negsuc a) (pos b) = subst (λ (n : ℕ). n ≤ suc a) (sym (abs-neg (pos (suc a / b)))) (div-le-self (suc a) b)
-abs-quot (negsuc a) (negsuc b) = div-le-self (suc a) (suc b)
-
+-- so does a quotient rounded down
 pub sfits-shr : {w : Width} (z : ℤ) (m : ℕ) → SFits w z → SFits w (shrZ z m)
 sfits-shr z m h = record { sfits = lt-of-le-of-lt (mag-shr z m) (h .sfits) }

@@ -22,6 +22,10 @@ unfolding pick
 on-pick P true x y f g = f refl
 on-pick P false x y f g = g refl
 
+-- `cc` finds 0 ≡ 1 where two constructors are equal: anything follows
+pub clash : {A : Type 0} → _≡_ {A = ℕ} 0 1 → A
+clash e = absurd (omega arith)
+
 -- by a test
 pub split : {P : Type 0} (b : Bool) → (b ≡ true → P) → (b ≡ false → P) → P
 split true f g = f refl
@@ -29,7 +33,7 @@ split false f g = g refl
 
 pub and-true : (a b : Bool) → (a && b) ≡ true → (a ≡ true) × (b ≡ true)
 and-true true b h = (refl, h)
-and-true false b h = let z : _≡_ {A = ℕ} 0 1 = cc in absurd (omega arith)
+and-true false b h = clash (cc)
 
 pub and-T : (x y : Bool) → T (x && y) → T x × T y
 and-T true y t = (tt, t)
@@ -55,16 +59,10 @@ all-at (suc n) p t i l = go (λ h. all-at n p (and-T (p n) (all n p) t .1) i h) 
 -- m is 2 for degree 3 and 3 for degree 5
 pub by-m : (P : ℕ → Type 0) → P 2 → P 3 → (m : ℕ) → 2 ≤ m → m ≤ 3 → P m
 by-m P p q zero a b = absurd (not-suc-le-zero a)
-by-m P p q (suc zero) a b = absurd (none a)
-  where
-    none : 2 ≤ 1 → ⊥
-    none h = omega arith
+by-m P p q (suc zero) a b = absurd (omega arith)
 by-m P p q (suc (suc zero)) a b = p
 by-m P p q (suc (suc (suc zero))) a b = q
-by-m P p q (suc (suc (suc (suc m)))) a b = absurd (none m b)
-  where
-    none : (m : ℕ) → suc (suc (suc (suc m))) ≤ 3 → ⊥
-    none m h = omega arith
+by-m P p q (suc (suc (suc (suc m)))) a b = absurd (omega arith)
 
 -- 1, 2 or 3 axes
 pub by-n : (P : ℕ → Type 0) → P 1 → P 2 → P 3 → (n : ℕ) → 1 ≤ n → n ≤ 3 → P n
@@ -76,20 +74,14 @@ by-n P p q r (suc (suc n)) a b = by-m P q r (suc (suc n)) (omega arith) b
 pub by-2 : (P : ℕ → Type 0) → P 0 → P 1 → (k : ℕ) → k < 2 → P k
 by-2 P p q zero l = p
 by-2 P p q (suc zero) l = q
-by-2 P p q (suc (suc k)) l = absurd (none k l)
-  where
-    none : (k : ℕ) → suc (suc k) < 2 → ⊥
-    none k l = omega arith
+by-2 P p q (suc (suc k)) l = absurd (omega arith)
 
 -- of 0, 1 and 2
 pub by-3 : (P : ℕ → Type 0) → P 0 → P 1 → P 2 → (k : ℕ) → k < 3 → P k
 by-3 P p q r zero l = p
 by-3 P p q r (suc zero) l = q
 by-3 P p q r (suc (suc zero)) l = r
-by-3 P p q r (suc (suc (suc k))) l = absurd (none k l)
-  where
-    none : (k : ℕ) → suc (suc (suc k)) < 3 → ⊥
-    none k l = omega arith
+by-3 P p q r (suc (suc (suc k))) l = absurd (omega arith)
 
 -- of 0, 1 and 2, and of all others
 pub from-3 : (P : ℕ → Type 0) → P 0 → P 1 → P 2 → ((k : ℕ) → 3 ≤ k → P k) → (k : ℕ) → P k

@@ -3,17 +3,17 @@
 --     fits? (search (sizes, sized ..)) (omega arith)       that a sum, a difference or a product fits
 --     value? (search (sizes, sized ..)) (omega arith)      that u is v
 use mathlib.Core.Path.{_≡_, refl, sym, _∙_, ap, ap₂, subst}
-use Prim.Native.Nat.{ℕ, suc, _+_, _*_, _/_, _%_, _^_, _≤_, _<_}
-use native.Mathlib.Nat.{le-refl, le-trans, lt-of-le-of-lt, add-le-add, div-lt-iff-lt-mul, div-add-mod, mod-lt, mod-eq-of-lt, one-mul}
+use Prim.Native.Nat.{ℕ, _+_, _*_, _%_, _^_, _≤_, _<_}
+use native.Mathlib.Nat.{le-refl, le-trans, lt-of-le-of-lt, add-le-add, mod-eq-of-lt, one-mul}
 use native.Mathlib.Omega.{arith}
 use lib.Dec.{T, leb, lit<}
-use lib.IntN.{ℤ, pos, negsuc, negℤ, natAbs, _+ℤ_, _-ℤ_, _*ℤ_}
+use lib.IntN.{ℤ, pos, negsuc, natAbs, _+ℤ_, _-ℤ_, _*ℤ_}
 use lib.Pow.{pow-mono}
-use lib.Signed.{mag, quotZ, shrZ}
+use lib.Signed.{mag}
 use mir.Syntax.{Width, w32, w64}
 use mir.Val.{SFits, hbits, toZ, ofZ}
 use mir.Facts.{toZ-ofZ, sfits-widen}
-use Rattle.arith.proofs.Abs.{abs-add, abs-minus, abs-mul-le, abs-neg, abs-quot, sfits-abs}
+use Rattle.arith.proofs.Abs.{abs-add, abs-minus, abs-mul-le, sfits-abs}
 
 pub record Size (u : ℤ) : Type 1 where
   pub v : ℤ
@@ -42,32 +42,6 @@ is-mul a b x y t = ap₂ _*ℤ_ (x .is (t .0)) (y .is (t .1))
 pub ok-mul : (a b : ℤ) (x : Size a) (y : Size b) → x .Ob × y .Ob → natAbs (x .v *ℤ y .v) ≤ x .B * y .B
 ok-mul a b x y t = abs-mul-le (x .v) (y .v) (x .ok (t .0)) (y .ok (t .1))
 
-pub is-neg : (a : ℤ) (x : Size a) → x .Ob → negℤ a ≡ negℤ (x .v)
-is-neg a x t = ap negℤ (x .is t)
-
-pub ok-neg : (a : ℤ) (x : Size a) → x .Ob → natAbs (negℤ (x .v)) ≤ x .B
-ok-neg a x t = subst (λ (n : ℕ). n ≤ x .B) (sym (abs-neg (x .v))) (x .ok t)
-
-pub is-quot : (a b : ℤ) (x : Size a) (y : Size b) → x .Ob × y .Ob → quotZ a b ≡ quotZ (x .v) (y .v)
-is-quot a b x y t = ap₂ quotZ (x .is (t .0)) (y .is (t .1))
-
-pub ok-quot : (a b : ℤ) (x : Size a) (y : Size b) → x .Ob × y .Ob → natAbs (quotZ (x .v) (y .v)) ≤ x .B
-ok-quot a b x y t = le-trans (abs-quot (x .v) (y .v)) (x .ok (t .0))
-
-div-more : (a B m : ℕ) → 0 < m → a ≤ B → a / m < B / m + 1
-div-more a B m h l = div-lt-iff-lt-mul h .1 (omega (arith, div-add-mod B m, mod-lt B h))
-
--- a quotient rounded down
-pub abs-floor : (z : ℤ) (m : ℕ) {B : ℕ} → 0 < m → natAbs z ≤ B → natAbs (shrZ z m) ≤ B / m + 1
-abs-floor (pos a) m {B} h l = omega (arith, div-more a B m h l)
-abs-floor (negsuc a) m {B} h l = div-more a B m h (omega arith)
-
-pub is-floor : (a : ℤ) (m : ℕ) (x : Size a) → x .Ob × (0 < m) → shrZ a m ≡ shrZ (x .v) m
-is-floor a m x t = ap (λ z. shrZ z m) (x .is (t .0))
-
-pub ok-floor : (a : ℤ) (m : ℕ) (x : Size a) → x .Ob × (0 < m) → natAbs (shrZ (x .v) m) ≤ x .B / m + 1
-ok-floor a m x t = abs-floor (x .v) m (t .1) (x .ok (t .0))
-
 pub is-bits : (w : Width) (a : ℤ) (x : Size a) → x .Ob × (x .B < 2 ^ hbits w) → toZ w (ofZ w a) ≡ x .v
 is-bits w a x t = ap (λ z. toZ w (ofZ w z)) (x .is (t .0)) ∙ toZ-ofZ {w = w} (sfits-abs {w = w} (x .v) (lt-of-le-of-lt (x .ok (t .0)) (t .1)))
 
@@ -85,25 +59,13 @@ s-sub a b x y = record { v = x .v -ℤ y .v; B = x .B + y .B; Ob = x .Ob × y .O
 abbrev pub s-mul : (a b : ℤ) → Size a → Size b → Size (a *ℤ b)
 s-mul a b x y = record { v = x .v *ℤ y .v; B = x .B * y .B; Ob = x .Ob × y .Ob; is = is-mul a b x y; ok = ok-mul a b x y }
 
-abbrev pub s-neg : (a : ℤ) → Size a → Size (negℤ a)
-s-neg a x = record { v = negℤ (x .v); B = x .B; Ob = x .Ob; is = is-neg a x; ok = ok-neg a x }
-
-abbrev pub s-quot : (a b : ℤ) → Size a → Size b → Size (quotZ a b)
-s-quot a b x y = record { v = quotZ (x .v) (y .v); B = x .B; Ob = x .Ob × y .Ob; is = is-quot a b x y; ok = ok-quot a b x y }
-
-abbrev pub s-floor : (a : ℤ) (m : ℕ) → Size a → Size (shrZ a m)
-s-floor a m x = record { v = shrZ (x .v) m; B = x .B / m + 1; Ob = x .Ob × (0 < m); is = is-floor a m x; ok = ok-floor a m x }
-
 abbrev pub s-bits : (w : Width) (a : ℤ) → Size a → Size (toZ w (ofZ w a))
 s-bits w a x = record { v = x .v; B = x .B; Ob = x .Ob × (x .B < 2 ^ hbits w); is = is-bits w a x; ok = ok-bits w a x }
 
 abbrev pub s-pos : (n : ℕ) → T (leb 0 n) → Size (pos n)
 s-pos n t = record { v = pos n; B = n; Ob = Unit {0}; is = λ t. refl; ok = λ t. le-refl n }
 
-abbrev pub s-negsuc : (n : ℕ) → T (leb 0 n) → Size (negsuc n)
-s-negsuc n t = record { v = negsuc n; B = suc n; Ob = Unit {0}; is = λ t. refl; ok = λ t. le-refl (suc n) }
-
-pub ruleset sizes = (tt, s-pos, s-negsuc, s-bits, s-neg, s-quot, s-floor, s-mul, s-sub, s-add)
+pub ruleset sizes = (tt, s-pos, s-bits, s-mul, s-sub, s-add)
 
 -- ---- what is known of a number
 

@@ -1,14 +1,13 @@
--- The order of ℤ: a ≤ b is b = a + n for a natural n; sums, products, squares; `nlin`, an inequality from a certificate.
-use mathlib.Core.Path.{_≡_, refl, sym, _∙_, ap, ap₂, subst}
+-- The order of ℤ: a ≤ b is b = a + n for a natural n, a < b the same for n above 0, and of two numbers one is at most the other.
+use mathlib.Core.Path.{_≡_, refl, sym, _∙_, ap, subst}
 use mathlib.Core.Bool.{Bool, true, false, not, cond}
-use Prim.Native.Nat.{ℕ, zero, suc, _+_, _*_, _-_, _≤_, _<_}
+use Prim.Native.Nat.{ℕ, zero, suc, _+_, _-_, _≤_, _<_}
 use native.Mathlib.Omega.{arith}
 use lib.Dec.{T, ltb, leb→le, le→leb, ltb→lt, lt→ltb}
 use lib.Arith.{le→nltb}
-use lib.IntN.{ℤ, pos, negsuc, subℕ, natAbs, _+ℤ_, _-ℤ_, _*ℤ_, +ℤ-idl, +ℤ-idr, +ℤ-comm, -ℤ-+ℤ-cancel}
+use lib.IntN.{ℤ, pos, negsuc, subℕ, natAbs, _+ℤ_, _-ℤ_, +ℤ-idr, +ℤ-comm, -ℤ-+ℤ-cancel}
 use mathlib.Core.Logic.{_⊎_, inl, inr}
 use lib.Signed.{_≤ℤ_, _<ℤ_, leZ, ltZ, leZ-yes, ltZ-yes, ltZ-no, <ℤ-irrefl}
-use Rattle.arith.specs.Int.{_^ℤ_}
 
 -- ---- a − b of two naturals
 
@@ -45,32 +44,12 @@ plus-le (negsuc a) n = sub-le′ (ltb n (suc a)) a n (ltb→lt n (suc a))
 pub le-intro : {a b : ℤ} (n : ℕ) → b ≡ a +ℤ pos n → a ≤ℤ b
 le-intro {a} n e = subst (λ t. a ≤ℤ t) (sym e) (leZ-yes (plus-le a n))
 
--- ---- what is not negative: sums, products, squares, multiples, gaps
+-- a natural number is not negative
 pub nn-pos : (n : ℕ) → pos 0 ≤ℤ pos n
 nn-pos n = leZ-yes (le→leb 0 n (omega arith))
 
-pub nn-gap : {a b : ℤ} → a ≤ℤ b → pos 0 ≤ℤ (b -ℤ a)
-nn-gap h = let g = gap h in subst (λ t. pos 0 ≤ℤ t) (sym (g .1)) (nn-pos (g .0))
-
-pub nn-is : {a : ℤ} → pos 0 ≤ℤ a → (n : ℕ) × (a ≡ pos n)
-nn-is {a} h = let g = le-elim h in (g .0, g .1 ∙ +ℤ-idl (pos (g .0)))
-
-pub nn-add : {a b : ℤ} → pos 0 ≤ℤ a → pos 0 ≤ℤ b → pos 0 ≤ℤ (a +ℤ b)
-nn-add h k = let g = nn-is h in let f = nn-is k in
-    subst (λ t. pos 0 ≤ℤ t) (sym (ap₂ _+ℤ_ (g .1) (f .1))) (nn-pos (g .0 + f .0))
-
-pub nn-mul : {a b : ℤ} → pos 0 ≤ℤ a → pos 0 ≤ℤ b → pos 0 ≤ℤ (a *ℤ b)
-nn-mul h k = let g = nn-is h in let f = nn-is k in
-    subst (λ t. pos 0 ≤ℤ t) (sym (ap₂ _*ℤ_ (g .1) (f .1))) (nn-pos (g .0 * f .0))
-
-pub nn-sq : (a : ℤ) → pos 0 ≤ℤ (a *ℤ a)
-nn-sq (pos n) = nn-pos (n * n)
-nn-sq (negsuc n) = nn-pos (suc n * suc n)
-
 pub pos-inj : {m n : ℕ} → pos m ≡ pos n → m ≡ n
 pos-inj e = ap natAbs e
-
--- ---- `nlin`: a ≤ b, since b − a is the number s, which is not negative; with a multiple, (k + 1) (b − a) is s.
 
 -- ---- the strict order, and the order is total
 lt-le′ : (a b : ℤ) → T (ltZ a b) → T (leZ a b)
@@ -106,22 +85,3 @@ pub ≤ℤ-total : (a b : ℤ) → (a ≤ℤ b) ⊎ (b ≤ℤ a)
     go : (c : Bool) {X : Type 0} → (T c → X) → (T (not c) → X) → X
     go true f g = f tt
     go false f g = g tt
-
--- ---- not negative, found by `search positivity`, from the hypotheses in reach
-pub nn-pow : (n : ℕ) {a : ℤ} → pos 0 ≤ℤ a → pos 0 ≤ℤ (a ^ℤ n)
-nn-pow zero h = nn-pos 1
-nn-pow (suc n) h = nn-mul h (nn-pow n h)
-
-pub p-add : (a b : ℤ) → pos 0 ≤ℤ a → pos 0 ≤ℤ b → pos 0 ≤ℤ (a +ℤ b)
-p-add a b h k = nn-add h k
-
-pub p-mul : (a b : ℤ) → pos 0 ≤ℤ a → pos 0 ≤ℤ b → pos 0 ≤ℤ (a *ℤ b)
-p-mul a b h k = nn-mul h k
-
-pub p-pow : (a : ℤ) (n : ℕ) → pos 0 ≤ℤ a → pos 0 ≤ℤ (a ^ℤ n)
-p-pow a n h = nn-pow n h
-
-pub p-gap : (a b : ℤ) → a ≤ℤ b → pos 0 ≤ℤ (b -ℤ a)
-p-gap a b h = nn-gap h
-
-pub ruleset positivity = (nn-pos, nn-sq, p-gap, p-pow, p-mul, p-add)

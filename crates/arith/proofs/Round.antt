@@ -138,7 +138,7 @@ round-half x h l = ap (λ t. floorDiv t (2 * (2 * h))) (twice x (pos h)) ∙ flo
     twice x h = ring! (x ∷ h ∷ []) (search quotes depth 40) (search quotes depth 40) tt
 
 -- a common factor of both parts of a quotient goes out
-pub round-common : (k : ℕ) (x : ℤ) (y : ℕ) → 0 < k → 0 < y → roundHalfUp (pos k *ℤ x) (k * y) ≡ roundHalfUp x y
+round-common : (k : ℕ) (x : ℤ) (y : ℕ) → 0 < k → 0 < y → roundHalfUp (pos k *ℤ x) (k * y) ≡ roundHalfUp x y
 unfolding roundHalfUp
 round-common k x y h l =
     ap (λ (i : ℕ). floorDiv (pos 2 *ℤ (pos k *ℤ x) +ℤ pos (k * y)) i) (turn k y)
@@ -223,24 +223,27 @@ round-small (negsuc k) y h l =
     sym (round-unique (negsuc k) y (pos 0) h
     (record { above = ℕ→lt ρ (search quotes depth 40) (search quotes depth 40) (omega arith); upto = ℕ→le ρ (search quotes depth 40) (search quotes depth 40) (omega arith) }))
 
--- ---- any rounding that is off by at most half
+-- ---- any rounding that is off by at most half and depends on the quotient alone
 
--- 2 |round x y · y − x| ≤ y
-abbrev pub Nearly : Rounding → Type 0
-Nearly round = (x : ℤ) (y : ℕ) → 0 < y → 2 * natAbs (round x y *ℤ pos y -ℤ x) ≤ y
+pub record Sound (round : Rounding) : Type 0 where
+  pub nearly : (x : ℤ) (y : ℕ) → 0 < y → 2 * natAbs (round x y *ℤ pos y -ℤ x) ≤ y
+  pub common : (k : ℕ) (x : ℤ) (y : ℕ) → 0 < k → 0 < y → round (pos k *ℤ x) (k * y) ≡ round x y
 
-pub half-up-nearly : Nearly roundHalfUp
-half-up-nearly x y h =
-    let n = round-near x y h in
-    subst (λ (k : ℕ). k ≤ y) (abs-mul (pos 2) (roundHalfUp x y *ℤ pos y -ℤ x)) (abs≤ (record { lo = <ℤ→≤ℤ (n .above); hi = n .upto }))
+pub half-up-sound : Sound roundHalfUp
+half-up-sound = record { nearly = nearly; common = round-common }
+  where
+    nearly : (x : ℤ) (y : ℕ) → 0 < y → 2 * natAbs (roundHalfUp x y *ℤ pos y -ℤ x) ≤ y
+    nearly x y h =
+        let n = round-near x y h in
+        subst (λ (k : ℕ). k ≤ y) (abs-mul (pos 2) (roundHalfUp x y *ℤ pos y -ℤ x)) (abs≤ (record { lo = <ℤ→≤ℤ (n .above); hi = n .upto }))
 
 -- what it gives is not much larger than the quotient
-pub nearly-size : (round : Rounding) → Nearly round → (x : ℤ) (y : ℕ) → 0 < y → 2 * (natAbs (round x y) * y) ≤ 2 * natAbs x + y
-nearly-size round nearly x y h =
+pub sound-size : {round : Rounding} → Sound round → (x : ℤ) (y : ℕ) → 0 < y → 2 * (natAbs (round x y) * y) ≤ 2 * natAbs x + y
+sound-size {round} sound x y h =
     let e = ap natAbs (-ℤ-+ℤ-cancel (round x y *ℤ pos y) x) in
     let f = abs-add (round x y *ℤ pos y -ℤ x) x in
     let g = abs-mul (round x y) (pos y) in
-    let n = nearly x y h in
+    let n = sound .nearly x y h in
     omega arith
 
 -- −3/4 is −1, 1/2 is 1, −1/2 is 0, 5/2 is 3, −5/2 is −2

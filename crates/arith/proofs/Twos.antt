@@ -1,7 +1,8 @@
 -- Two's complement at 32 bits is how the machine holds the bits of a signed number.
 use mathlib.Core.Path.{_≡_, refl, _∙_}
 use mathlib.Core.Bool.{true, false}
-use Prim.Native.Nat.{ℕ, suc, _<_}
+use Prim.Native.Nat.{suc, _<_}
+use native.Mathlib.Nat.{not-suc-le-zero}
 use native.Mathlib.Omega.{arith}
 use borrow.Author.Tests.{le-ltb, ltb-true}
 use lib.IntN.{ℤ, pos, negsuc, _+ℤ_}
@@ -26,10 +27,7 @@ unsigned-below x f = rw (← unsigned-is x) (fits-ofZ f .fits)
 module _ (x : ℤ) (f : SFits w32 x) (below : ltZ (toZ w32 (ofZ w32 x)) (pos 0) ≡ true) where
   raised : (x : ℤ) → SFits w32 x → ltZ x (pos 0) ≡ true → x +ℤ pos 4294967296 ≡ pos (unsignedOf x)
   unfolding unsignedOf
-  raised (pos n) g e = absurd (none (ltb-true n 0 e))
-    where
-      none : {n : ℕ} → n < 0 → ⊥
-      none h = omega arith
+  raised (pos n) g e = absurd (not-suc-le-zero (ltb-true n 0 e))
   raised (negsuc n) g e = let h = g .sfits in rw (le-ltb 4294967296 (suc n) (omega arith)) refl
 
   raised-is : toZ w64 (ofZ w64 (toZ w32 (ofZ w32 x))) +ℤ pos 4294967296 ≡ pos (unsignedOf x)

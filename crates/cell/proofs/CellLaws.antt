@@ -20,7 +20,7 @@ use Rattle.lattice.specs.Records.{nodeNumber, entryNumber, entryIndex}
 use Rattle.lattice.proofs.OutcomeLaws.{refuse-done, passes, firstOf-each, firstOf-passes}
 use Rattle.lattice.proofs.ShapeLaws.{orders-range, entries-high, nodes-high, pow-one, pow-two}
 use Rattle.lattice.proofs.RecordsLaws.{InTable, in-table, node-is, node-below, index-below}
-use Rattle.cell.specs.Cell.{placeAt, indexOutcome, cellOutcome, Accepted, Laid, Small, base, far, near, offset}
+use Rattle.cell.specs.Cell.{placeAt, cellOutcome, Accepted, Laid, Small, base, nodeStride, orderStride, offset}
 use Rattle.cell.specs.declared.Layout.{Layout}
 
 -- ---- refusal 14
@@ -71,11 +71,11 @@ module _ (n number : ℕ) (test : ℕ → ℕ → Bool) where
 
 -- a cell that is not refused 14, and back
 pub accepted : (s : Shape) (xs : List ℕ) → s .axes ≤ 3 → cellOutcome s (placeAt xs) ≡ done tt → Accepted s (placeAt xs)
-unfolding cellOutcome indexOutcome
+unfolding cellOutcome
 accepted s = all-passed (s .axes) 14 (λ a i. leb (i + 2) (count s a)) (λ a i. i + 2 ≤ count s a) (λ a i. leb-true (i + 2) (count s a))
 
 pub cell-passes : (s : Shape) (cell : Place) → ((a : ℕ) → a < s .axes → cell a + 2 ≤ count s a) → ((a : ℕ) → a < 3 → s .axes ≤ a → cell a ≡ 0) → cellOutcome s cell ≡ done tt
-unfolding cellOutcome indexOutcome
+unfolding cellOutcome
 cell-passes s = all-pass (s .axes) 14 (λ a i. leb (i + 2) (count s a)) (λ a i. i + 2 ≤ count s a) (λ a i. le-leb (i + 2) (count s a))
 
 -- ---- the numbers of a cell
@@ -126,7 +126,7 @@ module _ (s : Shape) (ok : Shaped s) (cell : Place) (here : Accepted s cell) (t 
 
   -- the index of a number of the cell
   pub entry-at : entryIndex s (placed s cell t) ≡ base s cell + (offset s 0 (t 0) + (offset s 1 (t 1) + offset s 2 (t 2)))
-  unfolding entryIndex base offset far near entryNumber
+  unfolding entryIndex base offset nodeStride orderStride entryNumber
   entry-at =
       ap (λ (k : ℕ). k * entries s + number (s .axes) (λ a. orders s) (λ a. placed s cell t a % orders s)) (node-is s (λ a. placed s cell t a / orders s))
       ∙ ap (λ (p : Place). (p 0 + count s 0 * (p 1 + count s 1 * p 2)) * entries s + number (s .axes) (λ a. orders s) (λ a. placed s cell t a % orders s)) (fun-ext placed-node)
@@ -159,8 +159,8 @@ module _ (s : Shape) (ok : Shaped s) (cell : Place) (here : Accepted s cell) (t 
 
 -- ---- the strides are small
 
-far-high : (s : Shape) → Shaped s → (far s 0 ≤ 27) × (far s 1 ≤ 64 * 27) × (far s 2 ≤ 64 * (64 * 27))
-unfolding far
+far-high : (s : Shape) → Shaped s → (nodeStride s 0 ≤ 27) × (nodeStride s 1 ≤ 64 * 27) × (nodeStride s 2 ≤ 64 * (64 * 27))
+unfolding nodeStride
 far-high s ok =
     let x = entries-high s ok in
     let y = mul-le-mul {m₂ = 27} (ok .high 0 (lit< tt)) x in
@@ -178,24 +178,24 @@ laid-small s cell l ok here laid =
     let f = far-high s ok in
     let b = base-high s cell ok here in
     let h = laid .base-is in
-    let x = laid .far-x in
-    let y = laid .far-y in
-    let z = laid .far-z in
+    let x = laid .stride-x in
+    let y = laid .stride-y in
+    let z = laid .stride-z in
     record { base-low = omega arith; x-low = omega arith; y-low = omega arith; z-low = omega arith }
 
 -- and so are the steps from the low corner to corner c
 pub record Steps (l : Layout) (c : ℕ) : Type 0 where
-  pub x-step : c % 2 * getD (l .far) 0 0 ≤ 8 * 2 ^ 32
-  pub y-step : c / 2 % 2 * getD (l .far) 1 0 ≤ 8 * 2 ^ 32
-  pub z-step : c / 2 / 2 * getD (l .far) 2 0 ≤ 8 * 2 ^ 32
+  pub x-step : c % 2 * getD (l .strides) 0 0 ≤ 8 * 2 ^ 32
+  pub y-step : c / 2 % 2 * getD (l .strides) 1 0 ≤ 8 * 2 ^ 32
+  pub z-step : c / 2 / 2 * getD (l .strides) 2 0 ≤ 8 * 2 ^ 32
 
 pub small-steps : (l : Layout) (c : ℕ) → (c < 8) × Small l → Steps l c
 small-steps l c h =
     let q = h .0 in
     record {
-      x-step = small (c % 2) (getD (l .far) 0 0) (omega arith) (h .1 .x-low);
-      y-step = small (c / 2 % 2) (getD (l .far) 1 0) (omega arith) (h .1 .y-low);
-      z-step = small (c / 2 / 2) (getD (l .far) 2 0) (omega arith) (h .1 .z-low);
+      x-step = small (c % 2) (getD (l .strides) 0 0) (omega arith) (h .1 .x-low);
+      y-step = small (c / 2 % 2) (getD (l .strides) 1 0) (omega arith) (h .1 .y-low);
+      z-step = small (c / 2 / 2) (getD (l .strides) 2 0) (omega arith) (h .1 .z-low);
     }
   where
     -- a digit below 8 times a stride

@@ -22,7 +22,7 @@ use Rattle.lattice.specs.Records.{entryIndex, recordsField, totalOrder, sampleL
 use Rattle.lattice.proofs.OutcomeLaws.{refuse-done, passes, firstOf-each, firstOf-passes, firstOf-same, firstOf-rows}
 use Rattle.lattice.proofs.DigitsLaws.{digit-below, digit-beyond, digit-number, number-below, number-digit, span-power, high-digit, low-digit, pair-in}
 use Rattle.lattice.proofs.ShapeLaws.{orders-range, entries-pos, pow-one, pow-two}
-use Rattle.cell.specs.Cell.{cornerPlace, cornerEntries, entryOutcome, cornersOutcome, Accepted, base, far, near, offset, cornerStart, limitOf, recordOutcome, InCorners}
+use Rattle.cell.specs.Cell.{cornerPlace, cornerEntries, entryOutcome, cornersOutcome, Accepted, base, nodeStride, orderStride, offset, cornerStart, limitOf, recordOutcome, InCorners}
 use Rattle.cell.proofs.CellLaws.{Numbers, placed, placed-none, entry-at, entry-below, number-is}
 
 -- the orders of an entry
@@ -114,17 +114,17 @@ module _ (s : Shape) (ok : Shaped s) (cell : Place) (here : Accepted s cell) (c 
 
   -- the index of the entry in the records
   pub corner-index : entryIndex s (cornerPlace s cell (entries s * c + e)) ≡ cornerStart s cell c + e
-  unfolding offset near cornerStart end order digit
+  unfolding offset orderStride cornerStart end order digit
   corner-index =
       ap (entryIndex s) corner-placed ∙ entry-at s ok cell here both corner-numbers
-      ∙ ap (λ (f : Place). base s cell + ((f 0 * far s 0 + both 0 % orders s * orders s ^ 0) + ((f 1 * far s 1 + both 1 % orders s * orders s ^ 1) + (f 2 * far s 2 + both 2 % orders s * orders s ^ 2)))) (fun-ext t-end)
-      ∙ ap (λ (f : Place). base s cell + ((end 0 * far s 0 + f 0 * orders s ^ 0) + ((end 1 * far s 1 + f 1 * orders s ^ 1) + (end 2 * far s 2 + f 2 * orders s ^ 2)))) (fun-ext t-order)
-      ∙ ap (λ (k : ℕ). base s cell + ((end 0 * far s 0 + order 0 * k) + ((end 1 * far s 1 + order 1 * orders s ^ 1) + (end 2 * far s 2 + order 2 * orders s ^ 2)))) (pow-zero (orders s))
-      ∙ ap (λ (k : ℕ). base s cell + ((end 0 * far s 0 + order 0 * 1) + ((end 1 * far s 1 + order 1 * k) + (end 2 * far s 2 + order 2 * orders s ^ 2)))) (pow-one (orders s))
-      ∙ ap (λ (k : ℕ). base s cell + ((end 0 * far s 0 + order 0 * 1) + ((end 1 * far s 1 + order 1 * orders s) + (end 2 * far s 2 + order 2 * k)))) (pow-two (orders s))
-      ∙ gather (end 0) (end 1) (end 2) (order 0) (order 1) (order 2) (far s 0) (far s 1) (far s 2) (orders s) (base s cell)
-      ∙ ap (λ (k : ℕ). base s cell + (end 0 * far s 0 + (end 1 * far s 1 + end 2 * far s 2)) + k) entry
-      ∙ ap (λ (k : ℕ). base s cell + (end 0 * far s 0 + (end 1 * far s 1 + k * far s 2)) + e) top
+      ∙ ap (λ (f : Place). base s cell + ((f 0 * nodeStride s 0 + both 0 % orders s * orders s ^ 0) + ((f 1 * nodeStride s 1 + both 1 % orders s * orders s ^ 1) + (f 2 * nodeStride s 2 + both 2 % orders s * orders s ^ 2)))) (fun-ext t-end)
+      ∙ ap (λ (f : Place). base s cell + ((end 0 * nodeStride s 0 + f 0 * orders s ^ 0) + ((end 1 * nodeStride s 1 + f 1 * orders s ^ 1) + (end 2 * nodeStride s 2 + f 2 * orders s ^ 2)))) (fun-ext t-order)
+      ∙ ap (λ (k : ℕ). base s cell + ((end 0 * nodeStride s 0 + order 0 * k) + ((end 1 * nodeStride s 1 + order 1 * orders s ^ 1) + (end 2 * nodeStride s 2 + order 2 * orders s ^ 2)))) (pow-zero (orders s))
+      ∙ ap (λ (k : ℕ). base s cell + ((end 0 * nodeStride s 0 + order 0 * 1) + ((end 1 * nodeStride s 1 + order 1 * k) + (end 2 * nodeStride s 2 + order 2 * orders s ^ 2)))) (pow-one (orders s))
+      ∙ ap (λ (k : ℕ). base s cell + ((end 0 * nodeStride s 0 + order 0 * 1) + ((end 1 * nodeStride s 1 + order 1 * orders s) + (end 2 * nodeStride s 2 + order 2 * k)))) (pow-two (orders s))
+      ∙ gather (end 0) (end 1) (end 2) (order 0) (order 1) (order 2) (nodeStride s 0) (nodeStride s 1) (nodeStride s 2) (orders s) (base s cell)
+      ∙ ap (λ (k : ℕ). base s cell + (end 0 * nodeStride s 0 + (end 1 * nodeStride s 1 + end 2 * nodeStride s 2)) + k) entry
+      ∙ ap (λ (k : ℕ). base s cell + (end 0 * nodeStride s 0 + (end 1 * nodeStride s 1 + k * nodeStride s 2)) + e) top
     where
       entry : order 0 + (order 1 * orders s + order 2 * (orders s * orders s)) ≡ e
       entry =
@@ -193,6 +193,15 @@ module _ (s : Shape) (ok : Shaped s) (t : Place) (num : Numbers s t) where
         ∙ ap (λ (k : ℕ). orders s * cell a + (orders s * (t a / orders s) + k)) (digit-number (s .axes) (λ b. orders s) (λ a. t a % orders s) (λ a l. mod-lt (t a) m-some) (λ a l. ap (λ (k : ℕ). k % orders s) (num .unused a l) ∙ zero-mod (orders s)) a)
         ∙ ap (λ (k : ℕ). orders s * cell a + k) (div-add-mod (t a) (orders s)))
 
+-- an entry of the corner records is one of a corner
+pub corner-inside : (s : Shape) → Shaped s → (cell : Place) → Accepted s cell → (i : ℕ) → i < 2 ^ s .axes * entries s
+    → InCorners (orders s) (s .axes) cell (cornerPlace s cell i)
+corner-inside s ok cell here i l =
+    let hc : i / entries s < 2 ^ s .axes = div-lt-iff-lt-mul (entries-pos s) .1 l in
+    let he : i % entries s < entries s = mod-lt i (entries-pos s) in
+    subst (λ (k : ℕ). InCorners (orders s) (s .axes) cell (cornerPlace s cell k)) (div-add-mod i (entries s))
+    (corner-in s ok cell here (i / entries s) (i % entries s) hc he)
+
 -- ---- the limit test of the corners
 
 module _ (s : Shape) (rs : List ℤ) (cell : Place) where
@@ -202,13 +211,7 @@ module _ (s : Shape) (rs : List ℤ) (cell : Place) where
   -- passed where every entry of the corners is within its limit
   pub corners-pass : ((p : Place) → InCorners (orders s) (s .axes) cell p → natAbs (recordsField s rs p) ≤ entryLimit (orders s) (s .axes) p) → Shaped s → Accepted s cell → cornersOutcome s rs cell ≡ done tt
   unfolding cornersOutcome cornerEntries entryOutcome
-  corners-pass h ok here = firstOf-passes (2 ^ s .axes * entries s) tests (λ i l. passes (leb (natAbs (recordsField s rs (cornerPlace s cell i))) (entryLimit (orders s) (s .axes) (cornerPlace s cell i))) 5 (entryIndex s (cornerPlace s cell i)) (le-leb (natAbs (recordsField s rs (cornerPlace s cell i))) (entryLimit (orders s) (s .axes) (cornerPlace s cell i)) (h (cornerPlace s cell i) (at-corner i l))))
-    where
-      at-corner : (i : ℕ) → i < 2 ^ s .axes * entries s → InCorners (orders s) (s .axes) cell (cornerPlace s cell i)
-      at-corner i l =
-          let hc : i / entries s < 2 ^ s .axes = div-lt-iff-lt-mul (entries-pos s) .1 l in
-          let he : i % entries s < entries s = mod-lt i (entries-pos s) in
-          subst (λ (k : ℕ). InCorners (orders s) (s .axes) cell (cornerPlace s cell k)) (div-add-mod i (entries s)) (corner-in s ok cell here (i / entries s) (i % entries s) hc he)
+  corners-pass h ok here = firstOf-passes (2 ^ s .axes * entries s) tests (λ i l. passes (leb (natAbs (recordsField s rs (cornerPlace s cell i))) (entryLimit (orders s) (s .axes) (cornerPlace s cell i))) 5 (entryIndex s (cornerPlace s cell i)) (le-leb (natAbs (recordsField s rs (cornerPlace s cell i))) (entryLimit (orders s) (s .axes) (cornerPlace s cell i)) (h (cornerPlace s cell i) (corner-inside s ok cell here i l))))
 
   -- and then every number of the cell is
   pub corners-within : cornersOutcome s rs cell ≡ done tt → Shaped s → Accepted s cell → (t : Place) → Numbers s t → natAbs (recordsField s rs (placed s cell t)) ≤ entryLimit (orders s) (s .axes) (placed s cell t)

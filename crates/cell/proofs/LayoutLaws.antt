@@ -29,7 +29,7 @@ module _ (s : Shape) (cell : List ℕ) (l : Layout) (rs : List ℤ) (limits : Li
 
   start-is : (c : ℕ) → startOf l c ≡ cornerStart s (placeAt cell) c
   unfolding cornerStart
-  start-is c = rw (laid .base-is, laid .far-x, laid .far-y, laid .far-z) refl
+  start-is c = rw (laid .base-is, laid .stride-x, laid .stride-y, laid .stride-z) refl
 
   row-at : (e : ℕ) → e < entries s → at limits e ≡ pos (limitOf (orders s) e)
   unfolding entries

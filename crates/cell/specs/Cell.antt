@@ -9,7 +9,7 @@ use lib.Signed.{nonNeg}
 use mathlib.Core.Bool.{true}
 use Rattle.arith.specs.Choice.{pick}
 use Rattle.lattice.specs.declared.Shape.{Shape}
-use Rattle.lattice.specs.Outcome.{Check, refuseUnless, firstOf}
+use Rattle.lattice.specs.Outcome.{Check, refuseUnless, firstOf, onAxes}
 use Rattle.lattice.specs.Buffer.{at}
 use Rattle.lattice.specs.Digits.{digit}
 use Rattle.cell.specs.declared.Layout.{Layout}
@@ -22,11 +22,8 @@ unfoldable pub placeAt : List ℕ → Place
 placeAt xs a = pick (ltb a 3) (getD xs a 0) 0
 
 -- 14: a cell index above count − 2, or not 0 on an unused axis; place is the axis
-unfoldable pub indexOutcome : Shape → ℕ → ℕ → Check
-indexOutcome s i a = refuseUnless (pick (ltb a (s .axes)) (leb (i + 2) (count s a)) (eqb i 0)) 14 a
-
 unfoldable pub cellOutcome : Shape → Place → Check
-cellOutcome s cell = firstOf 3 (λ a. indexOutcome s (cell a) a)
+cellOutcome s cell = onAxes 14 (λ a. pick (ltb a (s .axes)) (leb (cell a + 2) (count s a)) (eqb (cell a) 0))
 
 -- entry i of the corner records: corners in order, x fastest, entries by number; place 0 on an unused axis
 unfoldable pub cornerPlace : Shape → Place → ℕ → Place
@@ -49,6 +46,15 @@ cornersOutcome s rs cell = firstOf (cornerEntries s) (λ i. entryOutcome s rs (c
 abbrev pub Accepted : Shape → Place → Type 0
 Accepted s cell = OnUsed (s .axes) (λ a i. i + 2 ≤ count s a) cell
 
+-- on one axis: a number of one of the cell's two ends
+pub record AtEnds (m c j : ℕ) : Type 0 where
+  pub low : m * c ≤ j
+  pub high : j < m * c + 2 * m
+
+-- an entry of a corner's record
+abbrev pub InCorners : ℕ → ℕ → Place → Place → Type 0
+InCorners m n cell = OnUsed n (λ a. AtEnds m (cell a))
+
 -- ---- where the numbers of a cell stand in the records
 
 -- the record of the low corner
@@ -56,21 +62,21 @@ unfoldable pub base : Shape → Place → ℕ
 base s cell = nodeNumber s cell * entries s
 
 -- from a node's record to that of its upper neighbour on axis a
-unfoldable pub far : Shape → ℕ → ℕ
-far s zero = entries s
-far s (suc a) = count s a * far s a
+unfoldable pub nodeStride : Shape → ℕ → ℕ
+nodeStride s zero = entries s
+nodeStride s (suc a) = count s a * nodeStride s a
 
 -- from an order to the next on axis a
-unfoldable pub near : Shape → ℕ → ℕ
-near s a = orders s ^ a
+unfoldable pub orderStride : Shape → ℕ → ℕ
+orderStride s a = orders s ^ a
 
 -- number t = m·end + order along axis a, from the low end's value
 unfoldable pub offset : Shape → ℕ → ℕ → ℕ
-offset s a t = t / orders s * far s a + t % orders s * near s a
+offset s a t = t / orders s * nodeStride s a + t % orders s * orderStride s a
 
 -- the record of corner c, x fastest
 unfoldable pub cornerStart : Shape → Place → ℕ → ℕ
-cornerStart s cell c = base s cell + (c % 2 * far s 0 + (c / 2 % 2 * far s 1 + c / 2 / 2 * far s 2))
+cornerStart s cell c = base s cell + (c % 2 * nodeStride s 0 + (c / 2 % 2 * nodeStride s 1 + c / 2 / 2 * nodeStride s 2))
 
 -- the limit of entry e of a record
 unfoldable pub limitOf : ℕ → ℕ → ℕ
@@ -92,28 +98,17 @@ pub record Laid (s : Shape) (cell : Place) (l : Layout) : Type 0 where
   pub orders-are : l .orders ≡ orders s
   pub entries-are : l .entries ≡ entries s
   pub base-is : l .base ≡ base s cell
-  pub far-x : getD (l .far) 0 0 ≡ far s 0
-  pub far-y : getD (l .far) 1 0 ≡ far s 1
-  pub far-z : getD (l .far) 2 0 ≡ far s 2
+  pub stride-x : getD (l .strides) 0 0 ≡ nodeStride s 0
+  pub stride-y : getD (l .strides) 1 0 ≡ nodeStride s 1
+  pub stride-z : getD (l .strides) 2 0 ≡ nodeStride s 2
 
 -- the record of corner c, x fastest, by the layout
 abbrev pub startOf : Layout → ℕ → ℕ
-startOf l c = l .base + (c % 2 * getD (l .far) 0 0 + (c / 2 % 2 * getD (l .far) 1 0 + c / 2 / 2 * getD (l .far) 2 0))
+startOf l c = l .base + (c % 2 * getD (l .strides) 0 0 + (c / 2 % 2 * getD (l .strides) 1 0 + c / 2 / 2 * getD (l .strides) 2 0))
 
 -- a layout whose sums fit
 pub record Small (l : Layout) : Type 0 where
   pub base-low : l .base ≤ 2 ^ 32
-  pub x-low : getD (l .far) 0 0 ≤ 2 ^ 32
-  pub y-low : getD (l .far) 1 0 ≤ 2 ^ 32
-  pub z-low : getD (l .far) 2 0 ≤ 2 ^ 32
-
--- ---- the numbers of a cell's corners
-
--- on one axis: a number of one of the cell's two ends
-pub record AtEnds (m c j : ℕ) : Type 0 where
-  pub low : m * c ≤ j
-  pub high : j < m * c + 2 * m
-
--- an entry of a corner's record
-abbrev pub InCorners : ℕ → ℕ → Place → Place → Type 0
-InCorners m n cell = OnUsed n (λ a. AtEnds m (cell a))
+  pub x-low : getD (l .strides) 0 0 ≤ 2 ^ 32
+  pub y-low : getD (l .strides) 1 0 ≤ 2 ^ 32
+  pub z-low : getD (l .strides) 2 0 ≤ 2 ^ 32

@@ -9,11 +9,11 @@ ghost use lib.Signed.{nonNeg};
 ghost use lib.ListN.{length};
 ghost use Rattle.arith.specs.Choice.{pick};
 ghost use Rattle.lattice.specs.Outcome.{refuseUnless, firstOf, passed};
-ghost use Rattle.lattice.specs.Answer.{meaning};
+ghost use Rattle.lattice.specs.Answers.{outcomeOf};
 ghost use Rattle.lattice.specs.Buffer.{at};
 ghost use Rattle.lattice.specs.Shape.{count, orders, entries, size, Shaped};
 ghost use Rattle.cell.specs.Cell.{placeAt, cellOutcome, cornersOutcome, Accepted, Laid, Small, startOf, limitOf, limitIn, Limits, recordOutcome};
-use lattice::Answer;
+use lattice::Check;
 use lattice::Shape;
 
 // Where the corner records of a cell stand.
@@ -21,7 +21,7 @@ pub struct Layout {
     pub orders: usize,
     pub entries: usize,
     pub base: usize,
-    pub far: [usize; 3],
+    pub strides: [usize; 3],
 }
 
 const LIMITS: [[i32; 27]; 2] = [
@@ -85,30 +85,23 @@ const LIMITS: [[i32; 27]; 2] = [
     ],
 ];
 
-fn check_index(n: u32, count: u32, index: u32, axis: u32) -> Answer
-    ensures { λ r. ⌜ meaning r ≡ refuseUnless (pick (ltb axis n) (leb (index + 2) count) (eqb index 0)) 14 axis ⌝ }
+fn index_allowed(n: u32, count: u32, index: u32, axis: u32) -> bool
+    ensures { λ r. ⌜ r ≡ pick (ltb axis n) (leb (index + 2) count) (eqb index 0) ⌝ }
 {
-    let inside = index as usize + 2 <= count as usize;
-    lattice::refuse_on_axis(n, axis, inside, index == 0, 14)
+    lattice::by_use(n, axis, index as usize + 2 <= count as usize, index == 0)
 }
 
 // Refusal 14.
-pub fn check_cell(n: u32, s: Shape, i: u32, j: u32, k: u32) -> Answer
+pub fn check_cell(n: u32, s: Shape, i: u32, j: u32, k: u32) -> Check
     requires { ⌜ n ≡ s .axes ⌝ }
-    ensures { λ r. ⌜ meaning r ≡ cellOutcome s (placeAt (i ∷ j ∷ k ∷ [])) ⌝ }
+    ensures { λ r. ⌜ outcomeOf r ≡ cellOutcome s (placeAt (i ∷ j ∷ k ∷ [])) ⌝ }
 {
-    let on_x = check_index(n, s.counts[0], i, 0);
-    if let Answer::Refused(_) = on_x {
-        return on_x;
-    }
-    let on_y = check_index(n, s.counts[1], j, 1);
-    if let Answer::Refused(_) = on_y {
-        return on_y;
-    }
-    check_index(n, s.counts[2], k, 2)
+    let on_x = lattice::refuse_unless(index_allowed(n, s.counts[0], i, 0), 14, 0);
+    let on_y = lattice::refuse_after(on_x, index_allowed(n, s.counts[1], j, 1), 14, 1);
+    lattice::refuse_after(on_y, index_allowed(n, s.counts[2], k, 2), 14, 2)
 }
 
-pub fn lay_out(s: Shape, cell: [u32; 3]) -> Layout
+pub fn layout_of(s: Shape, cell: [u32; 3]) -> Layout
     requires { ⌜ Shaped s ⌝ }
     requires { ⌜ Accepted s (placeAt cell) ⌝ }
     ensures { λ r. ⌜ Laid s (placeAt cell) r ⌝ }
@@ -121,7 +114,7 @@ pub fn lay_out(s: Shape, cell: [u32; 3]) -> Layout
         orders: lattice::orders(s.degree),
         entries: size,
         base: node * size,
-        far: [size, rows * size, planes * (rows * size)],
+        strides: [size, rows * size, planes * (rows * size)],
     }
 }
 
@@ -145,9 +138,9 @@ fn beyond(x: i32, limit: i32) -> bool
 }
 
 // The limit test of the record that starts at `start`.
-fn check_record(limits: &[i32; 27], n: usize, records: &[i32], start: usize) -> Answer
+fn check_record(limits: &[i32; 27], n: usize, records: &[i32], start: usize) -> Check
     requires { ⌜ (n ≤ 27) × (start + n ≤ length (now records)) × Limits n (now limits) ⌝ }
-    ensures { λ r. ⌜ meaning r ≡ recordOutcome (limitIn (now (limits .entry))) n (now (records .entry)) start ⌝ }
+    ensures { λ r. ⌜ outcomeOf r ≡ recordOutcome (limitIn (now (limits .entry))) n (now (records .entry)) start ⌝ }
 {
     let mut e: usize = 0;
     while e < n {
@@ -156,7 +149,7 @@ fn check_record(limits: &[i32; 27], n: usize, records: &[i32], start: usize) -> 
         }
         e += 1;
     }
-    Answer::Done
+    Check::Done
 }
 
 // Whether the limit test of the record that starts at `start` is passed.
@@ -180,9 +173,9 @@ pub fn corner_start(l: Layout, c: usize) -> usize
     requires { ⌜ (c < 8) × Small l ⌝ }
     ensures { λ r. ⌜ r ≡ startOf l c ⌝ }
 {
-    let x = l.far[0];
-    let y = l.far[1];
-    let z = l.far[2];
+    let x = l.strides[0];
+    let y = l.strides[1];
+    let z = l.strides[2];
     l.base + (c % 2 * x + (c / 2 % 2 * y + c / 2 / 2 * z))
 }
 
@@ -204,10 +197,10 @@ fn all_within(limits: &[i32; 27], n: usize, corners: usize, records: &[i32], l: 
 }
 
 // Refusal 5 at the first entry of the corners, in corner order, beyond its limit.
-pub fn check_corners(s: Shape, records: &[i32], cell: [u32; 3], l: Layout) -> Answer
+pub fn check_corners(s: Shape, records: &[i32], cell: [u32; 3], l: Layout) -> Check
     requires { ⌜ Shaped s × (length (now records) ≡ size s) ⌝ }
     requires { ⌜ Accepted s (placeAt cell) × Laid s (placeAt cell) l ⌝ }
-    ensures { λ r. ⌜ meaning r ≡ cornersOutcome s (now (records .entry)) (placeAt cell) ⌝ }
+    ensures { λ r. ⌜ outcomeOf r ≡ cornersOutcome s (now (records .entry)) (placeAt cell) ⌝ }
 {
     let limits = entry_limits(l.orders);
     let n = l.entries;
@@ -216,12 +209,12 @@ pub fn check_corners(s: Shape, records: &[i32], cell: [u32; 3], l: Layout) -> An
     while c < corners {
         let start = corner_start(l, c);
         let one = check_record(&limits, n, records, start);
-        if let Answer::Refused(_) = one {
+        if let Check::Refused(_) = one {
             return one;
         }
         c += 1;
     }
-    Answer::Done
+    Check::Done
 }
 
 // Whether refusal 5 does not arise: no entry of the corners is beyond its limit.

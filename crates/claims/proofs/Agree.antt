@@ -2,23 +2,28 @@
 use mathlib.Core.Path.{_≡_, ap, _∙_}
 use mathlib.Core.List.{List}
 use Prim.Native.Nat.{ℕ, _+_, _*_, _≤_, _<_}
+use native.Mathlib.Omega.{arith}
 use Rattle.arith.specs.Int.{Rounding}
 use Rattle.lattice.specs.Axes.{Place, Field, Rule, origin, along, sweep, axes, without}
 use Rattle.lattice.proofs.Along.{sweep-rules}
-use Rattle.evaluate.proofs.AnswerLaws.{each-before}
-use Rattle.hermite.proofs.Ends.{stage-point}
-use Rattle.evaluate.specs.Evaluate.{Ask, kindOn, lastAxis, divisorOn, stageOn, toEighth, toUnit, inEighths, before, answerBy}
+use Rattle.evaluate.proofs.AnswerLaws.{order-smooth, each-before}
+use Rattle.hermite.proofs.StagePoint.{stage-point}
+use Rattle.evaluate.specs.Evaluate.{Ask, orderOn, lastAxis, divisorOn, stageOn, toEighth, toUnit, inEighths, before, answerBy}
 use Rattle.claims.proofs.Distance.{Proper}
 
 -- the same question of another cell and step
 abbrev pub elsewhere : Ask → Place → Place → Ask
-elsewhere q cell step = record { m = q .m; n = q .n; N = q .N; want = q .want; cell = cell; step = step }
+elsewhere q cell step = record { m = q .m; n = q .n; want = q .want; N = q .N; cell = cell; step = step }
 
-module _ (round : Rounding) (q : Ask) (ok : Proper q) (cell step : Place) (inside : (a : ℕ) → a < q .n → step a ≤ q .N)
-    (same : (a : ℕ) → a < q .n → q .N * q .cell a + q .step a ≡ q .N * cell a + step a) where
+module _ (round : Rounding) (q : Ask) (ok : Proper q) (cell step : Place) (inside : (a : ℕ) → a < q .n → step a ≤ q .N a)
+    (same : (a : ℕ) → a < q .n → q .N a * q .cell a + q .step a ≡ q .N a * cell a + step a) where
   stage-same : (a : ℕ) → a < q .n → stageOn q a ≡ stageOn (elsewhere q cell step) a
   unfolding stageOn
-  stage-same a l = stage-point (kindOn (q .want) a) (q .m) (q .N) (q .cell a) (cell a) (q .step a) (step a) (ok .m-low) (ok .m-high) (ok .some) (ok .inside a l) (inside a l) (same a l)
+  stage-same a l = stage-point (orderOn (q .want) a) (q .m) (q .N a) (q .cell a) (cell a) (q .step a) (step a) (ok .m-low) (ok .m-high)
+      (low (order-smooth (q .want) a (q .m)) (ok .m-low)) (ok .some a) (ok .inside a l) (inside a l) (same a l)
+    where
+      low : {k m : ℕ} → k ≤ 1 → 2 ≤ m → k < m
+      low h l = omega arith
 
   pub agreement : (g : Field) → answerBy round q g ≡ answerBy round (elsewhere q cell step) g
   unfolding answerBy before toEighth toUnit divisorOn

@@ -1,5 +1,5 @@
 -- The third demand, from what the two calls give: the stages' number from the records of the rules, for an accepted table and a query whose tests are passed.
-use mathlib.Core.Path.{_≡_, refl, sym, ap, _∙_}
+use mathlib.Core.Path.{_≡_, refl, sym, ap, subst, _∙_}
 use mathlib.Core.List.{List}
 use mathlib.Core.Option.{none, some}
 use Prim.Native.Nat.{ℕ, _*_, _≤_, _<_}
@@ -9,7 +9,7 @@ use lib.IntN.{ℤ}
 use borrow.Author.Tests.{ltb-true, lt-ltb, eq-eqb}
 use Rattle.arith.specs.Int.{roundHalfUp}
 use Rattle.arith.proofs.Order.{pos-inj}
-use Rattle.arith.proofs.Round.{half-up-nearly}
+use Rattle.arith.proofs.Round.{half-up-sound}
 use Rattle.lattice.specs.declared.Shape.{Shape}
 use Rattle.lattice.specs.Outcome.{Outcome, Check, done, refused, refuseUnless, first}
 use Rattle.lattice.specs.Shape.{size, shapeOutcome, Shaped}
@@ -18,12 +18,12 @@ use Rattle.lattice.proofs.OutcomeLaws.{first-done, first-passed, first-after, r
 use Rattle.lattice.proofs.ShapeLaws.{orders-range}
 use Rattle.estimate.specs.Estimate.{Estimable, tableRecords, recordsOf, estimateOutcome, estimateWrites}
 use Rattle.estimate.proofs.CallLaws.{estimated, records-length}
-use Rattle.hermite.specs.Stage.{steps}
-use Rattle.evaluate.specs.Evaluate.{Want, dose, slopeAlong, lastAxis, answer, askAt}
+use Rattle.hermite.specs.Hermite.{steps}
+use Rattle.evaluate.specs.Evaluate.{Want, dose, slopeAlong, lastAxis, exactSum, exactDivisor, answer, askAt}
 use Rattle.query.specs.Queries.{wantOutcome, askedOutcome, reading}
 use Rattle.query.proofs.QueryLaws.{last-used, asked-parts, asked-passes}
-use Rattle.float_query.specs.Answers.{Held, asDose, asSlope, inFloat}
-use Rattle.claims.specs.Third.{Query, queried, cellRead, stepRead, Reads, AcceptedTable, bothCalls, asked, Distance, Agreement, recounted, Locality, Askable, NoGap, Claimed, ThirdDemand}
+use Rattle.float_query.specs.Answers.{FloatValue, asDose, asSlope, inFloat}
+use Rattle.claims.specs.Third.{Query, queried, cellRead, stepRead, Reads, AcceptedTable, bothCalls, asked, allowedDistance, WithinDistance, Distance, Agreement, recounted, Locality, Askable, NoGap, Claimed, ThirdDemand}
 use Rattle.claims.proofs.General.{rejoined}
 use Rattle.claims.proofs.Distance.{Proper, distance}
 use Rattle.claims.proofs.Agree.{agreement}
@@ -56,15 +56,15 @@ asked-known s rs want h = askable s want (asked-parts s rs want h .1)
 -- ---- what the two calls give
 
 -- what a query reads of the records that estimation wrote
-abbrev seen : Shape → List ℤ → Want → Query → Outcome ℤ
-seen s xs want q = reading s (recordsOf s xs) want (cellRead s q) (stepRead s q)
+abbrev readHere : Shape → List ℤ → Want → Query → Outcome ℤ
+readHere s xs want q = reading s (recordsOf s xs) want (cellRead s q) (stepRead s q)
 
 module _ (s : Shape) (xs old : List ℤ) (taken : AcceptedTable s xs old) where
   known : Estimable s xs (length old)
   known = estimated s xs (length old) taken
 
   -- the tests of the query, then what it reads
-  both-is : (want : Want) (q : Query) → bothCalls s xs old want q ≡ first (askedOutcome s (recordsOf s xs) want) (first (gate s q) (seen s xs want q))
+  both-is : (want : Want) (q : Query) → bothCalls s xs old want q ≡ first (askedOutcome s (recordsOf s xs) want) (first (gate s q) (readHere s xs want q))
   unfolding bothCalls
   both-is want q =
       first-passed (estimateOutcome s xs (length old)) (queried s _ want q) taken
@@ -81,13 +81,13 @@ module _ (s : Shape) (xs old : List ℤ) (taken : AcceptedTable s xs old) where
   askable-passes want a = asked-passes s (recordsOf s xs) want (records-length s xs) (known .passed) (want-passes s want a)
 
   -- what a query whose tests are passed reads
-  read-is : (want : Want) (q : Query) → Askable s want → gate s q ≡ done tt → seen s xs want q ≡ done (answer (asked s want q) (tableRecords s xs))
+  read-is : (want : Want) (q : Query) → Askable s want → gate s q ≡ done tt → readHere s xs want q ≡ done (answer (asked s want q) (tableRecords s xs))
   read-is want q a h = reading-is s xs (length old) known (cellRead s q) (gated s (known .shape) q h .accepted) want (stepRead s q) (used-last s want (known .shape .axes-low) a)
 
   both-done : (want : Want) (q : Query) → Askable s want → gate s q ≡ done tt → bothCalls s xs old want q ≡ done (answer (asked s want q) (tableRecords s xs))
   both-done want q a h =
-      both-is want q ∙ first-passed (askedOutcome s (recordsOf s xs) want) (first (gate s q) (seen s xs want q)) (askable-passes want a)
-      ∙ first-passed (gate s q) (seen s xs want q) h ∙ read-is want q a h
+      both-is want q ∙ first-passed (askedOutcome s (recordsOf s xs) want) (first (gate s q) (readHere s xs want q)) (askable-passes want a)
+      ∙ first-passed (gate s q) (readHere s xs want q) h ∙ read-is want q a h
 
 -- the facts behind a dose or slope that is taken: neither call is refused
 record Taken (s : Shape) (xs old : List ℤ) (want : Want) (q : Query) (v : ℤ) : Type 0 where
@@ -100,8 +100,8 @@ taken : (s : Shape) (xs old : List ℤ) (want : Want) (q : Query) (v : ℤ) → 
 unfolding bothCalls
 taken s xs old want q v h =
     let t = first-done (estimateOutcome s xs (length old)) (queried s _ want q) v h .0 in
-    let f = first-done (askedOutcome s (recordsOf s xs) want) (first (gate s q) (seen s xs want q)) v (sym (both-is s xs old t want q) ∙ h) in
-    let g = first-done (gate s q) (seen s xs want q) v (f .1) in
+    let f = first-done (askedOutcome s (recordsOf s xs) want) (first (gate s q) (readHere s xs want q)) v (sym (both-is s xs old t want q) ∙ h) in
+    let g = first-done (gate s q) (readHere s xs want q) v (f .1) in
     let a = asked-known s (recordsOf s xs) want (f .0) in
     record { table = t; can = a; passed = g .0; is = done-same v _ (sym (g .1) ∙ read-is s xs old t want q a (g .0)) }
 
@@ -111,7 +111,7 @@ proper s want q ok a r = record {
   m-low = orders-range (s .degree) .0;
   m-high = orders-range (s .degree) .1;
   n-high = ok .axes-high;
-  some = lit< tt;
+  some = λ i. lit< tt;
   last = used-last s want (ok .axes-low) a;
   inside = r .contains .upto;
 }
@@ -122,28 +122,30 @@ module _ (s : Shape) (xs old : List ℤ) (want : Want) (q : Query) where
   third-reads : (v : ℤ) → bothCalls s xs old want q ≡ done v → Reads s q
   third-reads v h = let t = taken s xs old want q v h in gated s (known s xs old (t .table) .shape) q (t .passed)
 
-  sound : (v : ℤ) → bothCalls s xs old want q ≡ done v → Proper (asked s want q)
-  sound v h = let t = taken s xs old want q v h in proper s want q (known s xs old (t .table) .shape) (t .can) (third-reads v h)
+  is-proper : (v : ℤ) → bothCalls s xs old want q ≡ done v → Proper (asked s want q)
+  is-proper v h = let t = taken s xs old want q v h in proper s want q (known s xs old (t .table) .shape) (t .can) (third-reads v h)
 
   pub third-distance : Distance s xs want q (bothCalls s xs old want q)
-  unfolding answer askAt
-  third-distance v h = rw (taken s xs old want q v h .is) (distance roundHalfUp half-up-nearly (asked s want q) (sound v h) (tableRecords s xs))
+  unfolding askAt
+  third-distance v h =
+      subst (λ z. WithinDistance (allowedDistance want (s .axes)) z (exactSum (asked s want q) (tableRecords s xs)) (exactDivisor (asked s want q)))
+      (sym (taken s xs old want q v h .is)) (distance roundHalfUp half-up-sound (asked s want q) (is-proper v h) (tableRecords s xs))
 
   pub third-agreement : Agreement s xs want q (bothCalls s xs old want q)
-  unfolding answer askAt
+  unfolding askAt
   third-agreement new r p v w c d h k =
       taken s xs old want q v h .is
-      ∙ agreement roundHalfUp (asked s want q) (sound v h) (cellRead s r) (stepRead s r) (d .upto)
+      ∙ agreement roundHalfUp (asked s want q) (is-proper v h) (cellRead s r) (stepRead s r) (d .upto)
       (λ a l. pos-inj (rejoined (p a) (steps * cellRead s q a) (stepRead s q a) (c .is a l) ∙ sym (rejoined (p a) (steps * cellRead s r a) (stepRead s r a) (d .is a l)))) (tableRecords s xs)
       ∙ sym (taken s xs new want r w k .is)
 
   pub third-locality : Locality s xs old want q (bothCalls s xs old want q)
   third-locality counts ys new t u same e =
       both-is s xs old t want q
-      ∙ ap (λ (c : Check). first c (first (gate s q) (seen s xs want q))) (asked-is s xs old t want ∙ want-same s counts want ∙ sym (asked-is r ys new u want))
-      ∙ ap (λ (c : Check). first (askedOutcome r (recordsOf r ys) want) (first c (seen s xs want q))) gates
-      ∙ first-after (askedOutcome r (recordsOf r ys) want) (first (gate r q) (seen s xs want q)) (first (gate r q) (seen r ys want q))
-      (λ f. first-after (gate r q) (seen s xs want q) (seen r ys want q)
+      ∙ ap (λ (c : Check). first c (first (gate s q) (readHere s xs want q))) (asked-is s xs old t want ∙ want-same s counts want ∙ sym (asked-is r ys new u want))
+      ∙ ap (λ (c : Check). first (askedOutcome r (recordsOf r ys) want) (first c (readHere s xs want q))) gates
+      ∙ first-after (askedOutcome r (recordsOf r ys) want) (first (gate r q) (readHere s xs want q)) (first (gate r q) (readHere r ys want q))
+      (λ f. first-after (gate r q) (readHere s xs want q) (readHere r ys want q)
       (λ g. let a = asked-known r (recordsOf r ys) want f in
       let h : Askable s want = asked-known s (recordsOf s xs) want (asked-is s xs old t want ∙ want-same s counts want ∙ sym (asked-is r ys new u want) ∙ f) in
       let p = gates ∙ g in
@@ -176,7 +178,7 @@ third-demand s xs old want q = record {
 -- ---- for a function that makes the two calls
 
 -- the outcome of what is told
-outcomeOf : Outcome Held → Outcome ℤ
+outcomeOf : Outcome FloatValue → Outcome ℤ
 outcomeOf (done (asDose (some v))) = done v
 outcomeOf (done (asSlope (some v))) = done v
 outcomeOf (done (asDose none)) = refused 0 0
@@ -202,5 +204,5 @@ module _ (s : Shape) (xs old : List ℤ) (want : Want) (q : Query) where
   both-asked t = sym (first-passed (estimateOutcome s xs (length old)) (queried s (take (size s) (estimateWrites s xs old)) want q) t)
 
   -- what the two calls give, told as a float or as a whole number
-  pub claimed-told : (told : Outcome Held) → told ≡ inFloat want (bothCalls s xs old want q) → (outcome : Outcome ℤ) → told ≡ inFloat want outcome → Claimed s xs old want q outcome
+  pub claimed-told : (told : Outcome FloatValue) → told ≡ inFloat want (bothCalls s xs old want q) → (outcome : Outcome ℤ) → told ≡ inFloat want outcome → Claimed s xs old want q outcome
   claimed-told told e outcome h = rw (same-held want outcome (bothCalls s xs old want q) (sym h ∙ e)) (third-demand s xs old want q)

@@ -11,16 +11,17 @@ use Rattle.arith.specs.Sum.{sum, times}
 use Rattle.arith.proofs.Abs.{abs-mul, abs-add}
 use Rattle.arith.proofs.Choices.{by-n}
 use Rattle.arith.proofs.Quote.{quotes, ring! }
-use Rattle.arith.proofs.Round.{Nearly}
+use Rattle.arith.proofs.Round.{Sound}
 use Rattle.lattice.specs.Axes.{Place, Field, Rule, origin, put, along, sweep}
 use Rattle.lattice.proofs.Along.{Linear, linear-size, Each, last-first, times-order, length-order, length-axes}
-use Rattle.hermite.specs.Hermite.{Kind, value, divisor, stageSum}
+use Rattle.hermite.specs.Hermite.{divisor, stageSum}
+use Rattle.hermite.specs.Stage.{Smooth}
 use Rattle.hermite.proofs.HermiteLaws.{stage-linear}
 use Rattle.hermite.proofs.Reach.{reach, gain, reach-gain}
 use Rattle.hermite.proofs.Sizes.{divisor-some}
-use Rattle.evaluate.specs.Evaluate.{Want, dose, slopeAlong, Ask, kindOn, lastAxis, divisorOn, exactSum, exactDivisor, stageOn, toEighth, toUnit, inEighths, before, answerBy}
-use Rattle.evaluate.proofs.AnswerLaws.{kind-before, kind-slope, each-before}
-use Rattle.claims.specs.Third.{allowed, Within}
+use Rattle.evaluate.specs.Evaluate.{Want, dose, slopeAlong, Ask, orderOn, lastAxis, divisorOn, exactSum, exactDivisor, stageOn, toEighth, toUnit, inEighths, before, answerBy}
+use Rattle.evaluate.proofs.AnswerLaws.{order-before, order-slope, order-smooth, each-before}
+use Rattle.claims.specs.Third.{allowedDistance, WithinDistance}
 use Rattle.claims.proofs.Exact.{exact-last}
 
 -- a question of one of the two degrees, on up to three axes, the last one worked off among them, at steps of the cell
@@ -28,9 +29,9 @@ pub record Proper (q : Ask) : Type 0 where
   pub m-low : 2 ≤ q .m
   pub m-high : q .m ≤ 3
   pub n-high : q .n ≤ 3
-  pub some : 0 < q .N
+  pub some : (a : ℕ) → 0 < q .N a
   pub last : lastAxis (q .n) (q .want) < q .n
-  pub inside : (a : ℕ) → a < q .n → q .step a ≤ q .N
+  pub inside : (a : ℕ) → a < q .n → q .step a ≤ q .N a
 
 -- ---- one stage
 
@@ -64,14 +65,14 @@ arithmetic x y z H P Q A R g D hx hy hR hz =
     omega arith
 
 -- G in eighths stands for E, which is over P, and is off by at most A / (2Q) eighths; the sum of the stage of G is divided by H
-module _ (round : Rounding) (nearly : Nearly round) (k : Kind) (m N c u H P Q A : ℕ) (m2 : 2 ≤ m) (m3 : m ≤ 3) (hu : u ≤ N) (hH : 0 < H) (G E : ℕ → ℤ)
+module _ (round : Rounding) (sound : Sound round) (k m N c u H P Q A : ℕ) (smooth : Smooth k m) (m2 : 2 ≤ m) (m3 : m ≤ 3) (hu : u ≤ N) (hH : 0 < H) (G E : ℕ → ℤ)
     (near : (t : ℕ) → 2 * Q * natAbs (G t *ℤ pos P -ℤ pos 8 *ℤ E t) ≤ A * P) (j : ℕ) where
   stage-near : 2 * (4 * Q) * natAbs (round (stageSum k m N c u G j) H *ℤ pos (H * P) -ℤ pos 8 *ℤ stageSum k m N c u E j)
       ≤ 4 * Q * (H * P) + gain k * divisor k m N * (A * P)
   unfolding reach stage-linear apart
   stage-near =
       arithmetic (natAbs (r *ℤ pos H -ℤ S)) (natAbs (S *ℤ pos P -ℤ pos 8 *ℤ X)) (natAbs (r *ℤ pos (H * P) -ℤ pos 8 *ℤ X)) H P Q A (reach k m N u) (gain k) (divisor k m N)
-      (nearly S H hH) carried (reach-gain k m N u m2 m3 hu) both
+      (sound .nearly S H hH) carried (reach-gain k m N u smooth m2 m3 hu) both
     where
       S : ℤ
       S = stageSum k m N c u G j
@@ -107,10 +108,10 @@ unfoldable error : ℕ → ℕ
 error zero = 0
 error (suc k) = 4 ^ suc k + 5 * error k
 
-module _ (round : Rounding) (nearly : Nearly round) (q : Ask) (ok : Proper q) (g : Field) where
-  -- the weights of a value, and a step of the cell
+module _ (round : Rounding) (sound : Sound round) (q : Ask) (ok : Proper q) (g : Field) where
+  -- no derivative, and a step of the cell
   abbrev Plain : ℕ → Type 0
-  Plain a = (kindOn (q .want) a ≡ value) × (q .step a ≤ q .N)
+  Plain a = (orderOn (q .want) a ≡ 0) × (q .step a ≤ q .N a)
 
   abbrev got : List ℕ → Field
   got ls = sweep ls (toEighth round q) (inEighths g)
@@ -128,12 +129,12 @@ module _ (round : Rounding) (nearly : Nearly round) (q : Ask) (ok : Proper q) (g
       start : (z : ℤ) → pos 8 *ℤ z *ℤ pos 1 -ℤ pos 8 *ℤ z ≡ pos 0
       start z = ring! (z ∷ []) (search quotes depth 40) (search quotes depth 40) tt
   stages-near (a ∷ ls) h p =
-      next (4 ^ length ls) (4 ^ suc (length ls)) (divisor k (q .m) (q .N)) (scale ls) (error (length ls)) (gain k) (natAbs (got (a ∷ ls) p *ℤ pos (scale (a ∷ ls)) -ℤ pos 8 *ℤ exact (a ∷ ls) p)) (pow-suc 4 (length ls)) (ap gain (h .0 .0))
-      (stage-near round nearly k (q .m) (q .N) (q .cell a) (q .step a) (divisor k (q .m) (q .N)) (scale ls) (4 ^ length ls) (error (length ls)) (ok .m-low) (ok .m-high) (h .0 .1) (divisor-some k (q .m) (q .N) (ok .some))
+      next (4 ^ length ls) (4 ^ suc (length ls)) (divisor k (q .m) (q .N a)) (scale ls) (error (length ls)) (gain k) (natAbs (got (a ∷ ls) p *ℤ pos (scale (a ∷ ls)) -ℤ pos 8 *ℤ exact (a ∷ ls) p)) (pow-suc 4 (length ls)) (ap gain (h .0 .0))
+      (stage-near round sound k (q .m) (q .N a) (q .cell a) (q .step a) (divisor k (q .m) (q .N a)) (scale ls) (4 ^ length ls) (error (length ls)) (order-smooth (q .want) a (q .m)) (ok .m-low) (ok .m-high) (h .0 .1) (divisor-some k (q .m) (q .N a) (ok .some a))
       (λ t. got ls (put a t p)) (λ t. exact ls (put a t p)) (λ t. stages-near ls (h .1) (put a t p)) (p a))
     where
-      k : Kind
-      k = kindOn (q .want) a
+      k : ℕ
+      k = orderOn (q .want) a
 
       next : (Q R H P A w z : ℕ) → R ≡ Q * 4 → w ≡ 5 → 2 * (4 * Q) * z ≤ 4 * Q * (H * P) + w * H * (A * P) → 2 * R * z ≤ (R + 5 * A) * (H * P)
       next Q R H P A w z e f h = rw e (let i = rw f at h in omega arith)
@@ -141,24 +142,24 @@ module _ (round : Rounding) (nearly : Nearly round) (q : Ask) (ok : Proper q) (g
   -- ---- the last stage
 
   plain : Each Plain (before q)
-  plain = each-before q Plain (λ a l n. (kind-before (q .want) a (q .n) n, ok .inside a l))
+  plain = each-before q Plain (λ a l n. (order-before (q .want) a (q .n) n, ok .inside a l))
 
   answer-near : 64 * 4 ^ length (before q) * natAbs (answerBy round q g *ℤ pos (exactDivisor q) -ℤ exactSum q g)
-      ≤ (32 * 4 ^ length (before q) + gain (kindOn (q .want) (lastAxis (q .n) (q .want))) * error (length (before q))) * exactDivisor q
+      ≤ (32 * 4 ^ length (before q) + gain (orderOn (q .want) (lastAxis (q .n) (q .want))) * error (length (before q))) * exactDivisor q
   unfolding answerBy toUnit stageOn divisorOn before exactDivisor times
   answer-near =
       finish (4 ^ length (before q)) D P (error (length (before q))) (gain k) (exactDivisor q) v X (exactSum q g) (times-order (last-first (q .n) l (ok .last)) (divisorOn q)) (exact-last q l (ok .last) g)
-      (stage-near round nearly k (q .m) (q .N) (q .cell l) (q .step l) (8 * D) P (4 ^ length (before q)) (error (length (before q))) (ok .m-low) (ok .m-high) (ok .inside l (ok .last)) (more D (divisor-some k (q .m) (q .N) (ok .some)))
+      (stage-near round sound k (q .m) (q .N l) (q .cell l) (q .step l) (8 * D) P (4 ^ length (before q)) (error (length (before q))) (order-smooth (q .want) l (q .m)) (ok .m-low) (ok .m-high) (ok .inside l (ok .last)) (more D (divisor-some k (q .m) (q .N l) (ok .some l)))
       (λ t. got (before q) (put l t origin)) (λ t. exact (before q) (put l t origin)) (λ t. stages-near (before q) plain (put l t origin)) 0)
     where
       l : ℕ
       l = lastAxis (q .n) (q .want)
 
-      k : Kind
-      k = kindOn (q .want) l
+      k : ℕ
+      k = orderOn (q .want) l
 
       D : ℕ
-      D = divisor k (q .m) (q .N)
+      D = divisor k (q .m) (q .N l)
 
       P : ℕ
       P = scale (before q)
@@ -186,24 +187,24 @@ lastGain : Want → ℕ
 lastGain dose = 5
 lastGain (slopeAlong l) = 20
 
-last-gain : (n : ℕ) (w : Want) → gain (kindOn w (lastAxis n w)) ≡ lastGain w
-unfolding kindOn lastAxis gain lastGain
+last-gain : (n : ℕ) (w : Want) → gain (orderOn w (lastAxis n w)) ≡ lastGain w
+unfolding orderOn lastAxis gain lastGain
 last-gain n dose = refl
-last-gain n (slopeAlong l) = ap gain (kind-slope l n)
+last-gain n (slopeAlong l) = ap gain (order-slope l n)
 
 abbrev Sums : Want → ℕ → Type 0
-Sums w n = (v x : ℤ) (C : ℕ) → 64 * 4 ^ (n - 1) * natAbs (v *ℤ pos C -ℤ x) ≤ (32 * 4 ^ (n - 1) + lastGain w * error (n - 1)) * C → Within (allowed w n) v x C
+Sums w n = (v x : ℤ) (C : ℕ) → 64 * 4 ^ (n - 1) * natAbs (v *ℤ pos C -ℤ x) ≤ (32 * 4 ^ (n - 1) + lastGain w * error (n - 1)) * C → WithinDistance (allowedDistance w n) v x C
 
 distances : (w : Want) (n : ℕ) → 1 ≤ n → n ≤ 3 → Sums w n
-unfolding allowed lastGain error
+unfolding allowedDistance lastGain error
 distances dose = by-n (Sums dose) (λ v x C h. omega arith) (λ v x C h. omega arith) (λ v x C h. omega arith)
 distances (slopeAlong l) = by-n (Sums (slopeAlong l)) (λ v x C h. omega arith) (λ v x C h. omega arith) (λ v x C h. omega arith)
 
-pub distance : (round : Rounding) → Nearly round → (q : Ask) → Proper q → (g : Field) → Within (allowed (q .want) (q .n)) (answerBy round q g) (exactSum q g) (exactDivisor q)
+pub distance : (round : Rounding) → Sound round → (q : Ask) → Proper q → (g : Field) → WithinDistance (allowedDistance (q .want) (q .n)) (answerBy round q g) (exactSum q g) (exactDivisor q)
 unfolding before
-distance round nearly q ok g =
+distance round sound q ok g =
     distances (q .want) (q .n) (let h = ok .last in omega arith) (ok .n-high) (answerBy round q g) (exactSum q g) (exactDivisor q)
-    (rw (sym stages, sym (last-gain (q .n) (q .want))) (answer-near round nearly q ok g))
+    (rw (sym stages, sym (last-gain (q .n) (q .want))) (answer-near round sound q ok g))
   where
     stages : length (before q) ≡ q .n - 1
     stages = let e = sym (length-axes (q .n)) ∙ length-order (last-first (q .n) (lastAxis (q .n) (q .want)) (ok .last)) in omega arith

@@ -12,7 +12,7 @@ use Rattle.lattice.proofs.Along.{put-at, put-off, Fresh, Distinct, distinct-axe
 use Rattle.hermite.specs.Hermite.{forward, stageSum}
 use Rattle.hermite.proofs.HermiteLaws.{forward-linear, weigh, weigh-linear, stage-linear}
 use Rattle.cell.specs.Coefficients.{coefficients}
-use Rattle.evaluate.specs.Evaluate.{Ask, kindOn, weightOn, sumOver, exactSum, stageOn}
+use Rattle.evaluate.specs.Evaluate.{Ask, orderOn, weightOn, sumOver, exactSum, stageOn}
 
 module _ (w : ℕ) (W : ℕ → ℕ → ℤ) where
   abbrev weighs : ℕ → Rule
@@ -49,7 +49,7 @@ exact-stages q ls r g =
     ap (λ (h : Field). h origin)
     (weigh-each (2 * q .m) (weightOn q) (axes (q .n)) (distinct-axes (q .n)) (coefficients (q .m) (q .n) (q .cell) g)
     ∙ sweep-fuse (axes (q .n)) (distinct-axes (q .n)) (λ a. weigh (2 * q .m) (weightOn q a)) (λ a. forward (q .m) (q .cell a)) (λ a. weigh-linear (2 * q .m) (weightOn q a)) (λ a. forward-linear (q .m) (q .cell a)) g
-    ∙ sweep-order r (stageOn q) (λ a. stage-linear (kindOn (q .want) a) (q .m) (q .N) (q .cell a) (q .step a)) g)
+    ∙ sweep-order r (stageOn q) (λ a. stage-linear (orderOn (q .want) a) (q .m) (q .N a) (q .cell a) (q .step a)) g)
 
 -- whatever axis is worked off last
 pub exact-last : (q : Ask) (l : ℕ) → l < q .n → (g : Field) → exactSum q g ≡ along l (stageOn q l) (sweep (without l (axes (q .n))) (stageOn q) g) origin

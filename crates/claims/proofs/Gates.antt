@@ -12,7 +12,7 @@ use lib.IntN.{ℤ, pos, negsuc, natAbs, _-ℤ_}
 use lib.Signed.{_≤ℤ_, nonNeg}
 use borrow.Author.Tests.{leb-true, le-ltb, le-leb}
 use Rattle.arith.specs.Choice.{pick}
-use Rattle.arith.proofs.Choices.{pick-false}
+use Rattle.arith.proofs.Choices.{clash, pick-false}
 use Rattle.arith.proofs.Order.{nn-pos}
 use Rattle.lattice.specs.declared.Shape.{Shape}
 use Rattle.lattice.specs.Outcome.{Check, done, refuseUnless, first, firstOf}
@@ -20,8 +20,8 @@ use Rattle.lattice.specs.Buffer.{at}
 use Rattle.lattice.specs.Shape.{count, Shaped}
 use Rattle.lattice.specs.Axes.{Place, OnUsed}
 use Rattle.lattice.proofs.OutcomeLaws.{first-done, first-passed, first-assoc, refuse-done, passes, firstOf-each, firstOf-passes, firstOf-same}
-use Rattle.hermite.specs.Stage.{steps}
-use Rattle.cell.specs.Cell.{placeAt, indexOutcome, cellOutcome, Accepted}
+use Rattle.hermite.specs.Hermite.{steps}
+use Rattle.cell.specs.Cell.{placeAt, cellOutcome, Accepted}
 use Rattle.cell.proofs.CellLaws.{accepted, cell-passes}
 use Rattle.floats.specs.Step.{step}
 use Rattle.evaluate.specs.Evaluate.{Want}
@@ -65,7 +65,7 @@ range-test (negsuc n) B h k = absurd (h .le)
 
 range-known : (z : ℤ) (B : ℕ) → (nonNeg z && leb (natAbs z) B) ≡ true → (pos 0 ≤ℤ z) × (z ≤ℤ pos B)
 range-known (pos n) B h = (nn-pos n, le-pos (leb-true n B h))
-range-known (negsuc n) B h = let z : _≡_ {A = ℕ} 0 1 = cc in absurd (omega arith)
+range-known (negsuc n) B h = clash (cc)
 
 whole : (z : ℤ) (B : ℕ) → pos 0 ≤ℤ z → z ≤ℤ pos B → (z ≡ pos (natAbs z)) × (natAbs z ≤ B)
 whole (pos n) B h k = (refl, leb→le n B (k .le))
@@ -192,8 +192,8 @@ module _ (s : Shape) (ok : Shaped s) (counts : List ℕ) (sized : Shaped (recoun
       go (no k) = let n : s .axes ≤ a = omega (arith, k) in rw (ok .unused a l n, sized .unused a l n) refl
 
   cells-same : (cell : Place) (xs ys : List ℤ) → AgreeOnBlock s t cell xs ys → cellOutcome s cell ≡ cellOutcome t cell
-  unfolding cellOutcome indexOutcome
-  cells-same cell xs ys same = firstOf-same 3 (λ a. indexOutcome s (cell a) a) (λ a. indexOutcome t (cell a) a) (λ a l. ap (λ (b : Bool). refuseUnless b 14 a) (go a (decLt a (s .axes))))
+  unfolding cellOutcome
+  cells-same cell xs ys same = firstOf-same 3 _ _ (λ a l. ap (λ (b : Bool). refuseUnless b 14 a) (go a (decLt a (s .axes))))
     where
       -- the cell's upper node
       upper : (n d c : ℕ) → (NearCell n c (c + 1) → c + 1 < d) → c + 2 ≤ n → c + 2 ≤ d

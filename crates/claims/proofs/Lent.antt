@@ -16,7 +16,7 @@ use Rattle.lattice.specs.Outcome.{done}
 use Rattle.lattice.specs.Buffer.{overwrite}
 use Rattle.lattice.specs.Shape.{count, orders, size}
 use Rattle.lattice.specs.Axes.{Place}
-use Rattle.lattice.specs.Records.{samplesField, recordsField}
+use Rattle.lattice.specs.Records.{samplesField, recordsField, entryLimit}
 use Rattle.lattice.proofs.OutcomeLaws.{first-passed, when-done}
 use Rattle.lattice.proofs.ShapeLaws.{orders-range}
 use Rattle.lattice.proofs.RecordsLaws.{in-table}
@@ -68,12 +68,15 @@ module _ (s : Shape) (xs : List ℤ) (room : ℕ) (e : Estimable s xs room) (cel
   field-same p x =
       read-back s xs p (e .shape .axes-high) (in-table s (λ a. p a / orders s) (e .shape) (inside p x) (λ a l. ap (λ (k : ℕ). k / orders s) (x .unused a l) ∙ zero-div (orders s))) (x .unused)
 
+  pub field-within : (p : Place) → InCorners (orders s) (s .axes) cell p → natAbs (recordsField s (recordsOf s xs) p) ≤ entryLimit (orders s) (s .axes) p
+  field-within p x = le-trans (le-of-eq (ap natAbs (field-same p x))) (entry-limit s xs room e p)
+
   pub corners-done : cornersOutcome s (recordsOf s xs) cell ≡ done tt
-  corners-done = corners-pass s (recordsOf s xs) cell (λ p x. le-trans (le-of-eq (ap natAbs (field-same p x))) (entry-limit s xs room e p)) (e .shape) here
+  corners-done = corners-pass s (recordsOf s xs) cell field-within (e .shape) here
 
   -- what a query reads there
   pub reading-is : (want : Want) (step : Place) → lastAxis (s .axes) want < s .axes → reading s (recordsOf s xs) want cell step ≡ done (answer (askAt s want cell step) (tableRecords s xs))
-  unfolding reading answer askAt
+  unfolding reading askAt
   reading-is want step last =
       first-passed (cornersOutcome s (recordsOf s xs) cell) (done (answer (askAt s want cell step) (recordsField s (recordsOf s xs)))) corners-done
       ∙ ap done (answer-local roundHalfUp (askAt s want cell step) last (recordsField s (recordsOf s xs)) (tableRecords s xs) field-same)
@@ -81,7 +84,7 @@ module _ (s : Shape) (xs : List ℤ) (room : ℕ) (e : Estimable s xs room) (cel
   -- two tables that agree on the block
   pub block-local : (counts : List ℕ) (ys : List ℤ) → AgreeOnBlock s (recounted s counts) cell xs ys → (want : Want) (step : Place) → lastAxis (s .axes) want < s .axes
       → answer (askAt s want cell step) (tableRecords s xs) ≡ answer (askAt (recounted s counts) want cell step) (tableRecords (recounted s counts) ys)
-  unfolding answer askAt tableRecords
+  unfolding askAt tableRecords
   block-local counts ys same want step last =
       answer-local roundHalfUp (askAt s want cell step) last (tableRecords s xs) (tableRecords t ys)
       (λ p x. entry-local (orders s) (s .axes) (count s) p (inside p x) (x .unused) (samplesField s xs) (samplesField t ys)

@@ -5,4 +5,6 @@ pub mod Agree
 pub mod Lent
 pub mod Gates
 pub mod Demand
+pub mod Corners
+pub mod Second
 pub mod Examples

@@ -5,9 +5,9 @@ use Prim.Native.Nat.{ℕ}
 use lib.IntN.{ℤ}
 use Rattle.lattice.specs.Outcome.{Outcome, refused}
 use Rattle.evaluate.specs.Evaluate.{Want}
-use Rattle.query.specs.Answers.{told}
+use Rattle.query.specs.Answers.{outcomeOfReading}
 use Rattle.float_query.specs.Floats.{floatsAt}
-use Rattle.float_query.specs.Answers.{Held, toldFloat, inFloat}
+use Rattle.float_query.specs.Answers.{FloatValue, outcomeOfFloat, inFloat}
 use Rattle.claims.specs.declared.Steps.{Steps}
 use Rattle.claims.specs.declared.Indices.{Indices}
 use Rattle.claims.specs.declared.Question.{Question}
@@ -30,11 +30,11 @@ queryOf (Cell c u) = inCell (indicesIn c) (indicesIn u)
 queryOf (Floats p) = atFloats (floatsAt p)
 
 -- what each case says, for a dose or a slope
-abbrev pub said : Want → Reply → Outcome Held
-said want (Whole r) = inFloat want (told r)
-said want (Float r) = toldFloat r
-said want (Refused r) = refused (r .number) (r .place)
+abbrev pub outcomeOfReply : Want → Reply → Outcome FloatValue
+outcomeOfReply want (Whole r) = inFloat want (outcomeOfReading r)
+outcomeOfReply want (Float r) = outcomeOfFloat r
+outcomeOfReply want (Refused r) = refused (r .number) (r .place)
 
 -- the outcome that a reply gives
 abbrev pub Gives : Want → Reply → Outcome ℤ → Type 0
-Gives want r outcome = said want r ≡ inFloat want outcome
+Gives want r outcome = outcomeOfReply want r ≡ inFloat want outcome

@@ -7,7 +7,7 @@ use Rattle.arith.specs.Int.{roundHalfUp, floorDiv}
 use Rattle.lattice.specs.declared.Shape.{Shape}
 use Rattle.lattice.specs.Outcome.{Outcome, done, refused, first}
 use Rattle.lattice.specs.Buffer.{tabulate}
-use Rattle.lattice.specs.Shape.{ordersOf, orders, size}
+use Rattle.lattice.specs.Shape.{shapeOf, ordersOf, orders, size}
 use Rattle.lattice.specs.Axes.{origin, along}
 use Rattle.lattice.specs.Records.{recordsField}
 use Rattle.coefficients.specs.Corners.{coefficientList, coefficientsOutcome, entryList, backOutcome}
@@ -20,53 +20,70 @@ pub record Table : Type 0 where
   pub shape : Shape
   pub samples : List ℤ
 
--- what a row of the table of examples computes
-pub data Example : Type 0 where
-  recordsFrom : Table → Example
-  coefficientsFrom : Table → Example
-  backFrom : ℕ → ℕ → List ℤ → Example
-  firstStage : Table → List ℤ → Example
-  exactly : Table → Want → List ℤ → Example
-  answerTo : Table → Want → List ℤ → Example
+-- ---- what a row computes
 
 abbrev pub listed : Outcome ℤ → Outcome (List ℤ)
 listed (done v) = done (v ∷ [])
 listed (refused number place) = refused number place
 
-unfoldable pub computed : Example → Outcome (List ℤ)
-computed (recordsFrom t) = first (estimateOutcome (t .shape) (t .samples) (size (t .shape))) (done (recordsOf (t .shape) (t .samples)))
--- of the cell at the origin
-computed (coefficientsFrom t) =
-    first (coefficientsOutcome (t .shape) (recordsOf (t .shape) (t .samples)) origin 216)
-    (done (coefficientList (orders (t .shape)) (t .shape .axes) origin (recordsField (t .shape) (recordsOf (t .shape) (t .samples)))))
-computed (backFrom n degree cs) = first (backOutcome n degree cs 216) (done (entryList (ordersOf degree) n cs))
+unfoldable pub recordsFrom : Table → Outcome (List ℤ)
+recordsFrom t = first (estimateOutcome (t .shape) (t .samples) (size (t .shape))) (done (recordsOf (t .shape) (t .samples)))
+
+-- of the cell at the origin, from records
+unfoldable pub coefficientsOf : Shape → List ℤ → Outcome (List ℤ)
+coefficientsOf s rs = first (coefficientsOutcome s rs origin 216) (done (coefficientList (orders s) (s .axes) origin (recordsField s rs)))
+
+-- and from samples
+unfoldable pub coefficientsFrom : Table → Outcome (List ℤ)
+coefficientsFrom t = coefficientsOf (t .shape) (recordsOf (t .shape) (t .samples))
+
+-- corner records, into a slice of `room` numbers
+unfoldable pub backInto : ℕ → ℕ → ℕ → List ℤ → Outcome (List ℤ)
+backInto room n degree cs = first (backOutcome n degree cs room) (done (entryList (ordersOf degree) n cs))
+
+abbrev pub backFrom : ℕ → ℕ → List ℤ → Outcome (List ℤ)
+backFrom = backInto 216
+
 -- along x, in eighths
-computed (firstStage t p) =
+unfoldable pub firstStage : Table → List ℤ → Outcome (List ℤ)
+firstStage t p =
     done (along 0 (toEighth roundHalfUp (asked (t .shape) dose (atPosition p)) 0) (inEighths (tableRecords (t .shape) (t .samples))) origin ∷ [])
+
 -- the exact value in ten-thousandths, and what is left
-computed (exactly t want p) =
+unfoldable pub exactly : Table → Want → List ℤ → Outcome (List ℤ)
+exactly t want p =
     let q = asked (t .shape) want (atPosition p) in
     let x = pos 10000 *ℤ exactSum q (tableRecords (t .shape) (t .samples)) in
     let v = floorDiv x (exactDivisor q) in
     done (v ∷ (x -ℤ v *ℤ pos (exactDivisor q)) ∷ [])
+
 -- estimation, then the query by position
-computed (answerTo t want p) = listed (bothCalls (t .shape) (t .samples) (tabulate (size (t .shape)) (λ i. pos 0)) want (atPosition p))
+unfoldable pub answerTo : Table → Want → List ℤ → Outcome (List ℤ)
+answerTo t want p = listed (bothCalls (t .shape) (t .samples) (tabulate (size (t .shape)) (λ i. pos 0)) want (atPosition p))
+
+-- ---- rows
 
 pub record Row : Type 0 where
-  pub example : Example
+  pub computed : Outcome (List ℤ)
   pub printed : Outcome (List ℤ)
 
 infix 3 _gives_
-abbrev pub _gives_ : Example → List ℤ → Row
-e gives xs = record { example = e; printed = done xs }
+abbrev pub _gives_ : Outcome (List ℤ) → List ℤ → Row
+e gives xs = record { computed = e; printed = done xs }
 
-infix 3 _refusedAs_
-abbrev pub _refusedAs_ : Example → ℕ → Row
-e refusedAs number = record { example = e; printed = refused number 0 }
+infix 3 _refusedAs_atPlace_
+abbrev pub _refusedAs_atPlace_ : Outcome (List ℤ) → ℕ → ℕ → Row
+e refusedAs number atPlace place = record { computed = e; printed = refused number place }
+
+-- every row computes what is printed
+abbrev pub AllRows : List Row → Type 0
+AllRows rows = map (λ (r : Row). r .computed) rows ≡ map (λ (r : Row). r .printed) rows
+
+-- ---- the examples
 
 -- one axis, two samples
 abbrev pub pair : ℕ → ℤ → ℤ → Table
-pair degree x y = record { shape = record { axes = 1; degree = degree; counts = 2 ∷ 1 ∷ 1 ∷ [] }; samples = x ∷ y ∷ [] }
+pair degree x y = record { shape = shapeOf 1 degree (2 ∷ 1 ∷ 1 ∷ []); samples = x ∷ y ∷ [] }
 
 abbrev pub rising : ℕ → Table
 rising degree = pair degree (pos 0) (pos 100)
@@ -74,7 +91,7 @@ rising degree = pair degree (pos 0) (pos 100)
 -- two axes 2 by 2, samples 0, 100, 0, 100
 abbrev pub square : Table
 square =
-    record { shape = record { axes = 2; degree = 3; counts = 2 ∷ 2 ∷ 1 ∷ [] }; samples = pos 0 ∷ pos 100 ∷ pos 0 ∷ pos 100 ∷ [] }
+    record { shape = shapeOf 2 3 (2 ∷ 2 ∷ 1 ∷ []); samples = pos 0 ∷ pos 100 ∷ pos 0 ∷ pos 100 ∷ [] }
 
 -- a position on x, 0 on the other axes
 abbrev pub at-x : ℕ → List ℤ
@@ -94,14 +111,12 @@ table =
     ∷ (answerTo (rising 3) (slopeAlong 0) (at-x 128) gives pos 125 ∷ [])
     ∷ (answerTo (rising 3) dose (at-x 256) gives pos 100 ∷ [])
     ∷ (answerTo (rising 5) dose (at-x 256) gives pos 100 ∷ [])
+    ∷ (answerTo (rising 3) dose (at-x 257) refusedAs 11 atPlace 0)
+    ∷ (answerTo (rising 5) dose (at-x 257) refusedAs 11 atPlace 0)
     ∷ (answerTo (pair 3 (pos 0) (pos 1)) dose (at-x 128) gives pos 1 ∷ [])
     ∷ (answerTo (pair 3 (pos 0) (negsuc 0)) dose (at-x 128) gives pos 0 ∷ [])
     ∷ (backFrom 1 3 (pos 0 ∷ pos 100 ∷ pos 500 ∷ pos 200 ∷ []) gives pos 0 ∷ pos 100 ∷ pos 100 ∷ pos 100 ∷ [])
-    ∷ (backFrom 1 3 (pos 1 ∷ pos 0 ∷ pos 0 ∷ pos 0 ∷ []) refusedAs 13)
+    ∷ (backFrom 1 3 (pos 1 ∷ pos 0 ∷ pos 0 ∷ pos 0 ∷ []) refusedAs 13 atPlace 0)
     ∷ (firstStage square (at-x 64) gives pos 163 ∷ [])
     ∷ (answerTo square dose (at-x 64) gives pos 20 ∷ [])
     ∷ []
-
--- every row computes what is printed
-abbrev pub AllRows : Type 0
-AllRows = map (λ (r : Row). computed (r .example)) table ≡ map (λ (r : Row). r .printed) table

@@ -1,4 +1,7 @@
--- Reading order: Third, Calls, Examples.
+-- Reading order: Third, Second, Corners, Calls, Examples, Pinned.
 pub mod Third
+pub mod Second
+pub mod Corners
 pub mod Calls
 pub mod Examples
+pub mod Pinned

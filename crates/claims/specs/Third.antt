@@ -10,10 +10,10 @@ use lib.IntN.{ℤ, pos, natAbs, _-ℤ_, _*ℤ_}
 use lib.Signed.{_≤ℤ_}
 use Rattle.lattice.specs.declared.Shape.{Shape}
 use Rattle.lattice.specs.Outcome.{Outcome, done, first}
-use Rattle.lattice.specs.Shape.{count, size}
+use Rattle.lattice.specs.Shape.{shapeOf, count, size}
 use Rattle.lattice.specs.Axes.{Place, OnUsed}
 use Rattle.lattice.specs.Records.{samplesField}
-use Rattle.hermite.specs.Stage.{steps}
+use Rattle.hermite.specs.Hermite.{steps}
 use Rattle.cell.specs.Cell.{placeAt, Accepted}
 use Rattle.estimate.specs.Estimate.{tableRecords, estimateOutcome, estimateWrites}
 use Rattle.evaluate.specs.Evaluate.{Want, dose, slopeAlong, Ask, exactSum, exactDivisor, askAt}
@@ -84,19 +84,19 @@ abbrev pub _over_ : ℕ → ℕ → Fraction
 a over b = record { top = a; bottom = b }
 
 -- the distance allowed on one, two, three axes; in 256ths 128, 148, 173 for a dose and 128, 208, 308 for a slope
-unfoldable pub allowed : Want → ℕ → Fraction
-allowed dose zero = 0 over 1
-allowed dose (suc zero) = 1 over 2
-allowed dose (suc (suc zero)) = 37 over 64
-allowed dose (suc (suc (suc n))) = 173 over 256
-allowed (slopeAlong l) zero = 0 over 1
-allowed (slopeAlong l) (suc zero) = 1 over 2
-allowed (slopeAlong l) (suc (suc zero)) = 13 over 16
-allowed (slopeAlong l) (suc (suc (suc n))) = 77 over 64
+unfoldable pub allowedDistance : Want → ℕ → Fraction
+allowedDistance dose zero = 0 over 1
+allowedDistance dose (suc zero) = 1 over 2
+allowedDistance dose (suc (suc zero)) = 37 over 64
+allowedDistance dose (suc (suc (suc n))) = 173 over 256
+allowedDistance (slopeAlong l) zero = 0 over 1
+allowedDistance (slopeAlong l) (suc zero) = 1 over 2
+allowedDistance (slopeAlong l) (suc (suc zero)) = 13 over 16
+allowedDistance (slopeAlong l) (suc (suc (suc n))) = 77 over 64
 
 -- v is within the distance f of x / y, multiplied out
-abbrev pub Within : Fraction → ℤ → ℤ → ℕ → Type 0
-Within f v x y = f .bottom * natAbs (v *ℤ pos y -ℤ x) ≤ f .top * y
+abbrev pub WithinDistance : Fraction → ℤ → ℤ → ℕ → Type 0
+WithinDistance f v x y = f .bottom * natAbs (v *ℤ pos y -ℤ x) ≤ f .top * y
 
 -- the question that a query asks of the cell that it reads
 abbrev pub asked : Shape → Want → Query → Ask
@@ -105,7 +105,7 @@ asked s want q = askAt s want (cellRead s q) (stepRead s q)
 -- a number that is given lies near the exact interpolant: the exact value at the cell that the query reads, from the records that the rules under Estimates give
 abbrev pub Distance : Shape → List ℤ → Want → Query → Outcome ℤ → Type 0
 Distance s xs want q given =
-    (v : ℤ) → given ≡ done v → Within (allowed want (s .axes)) v (exactSum (asked s want q) (tableRecords s xs)) (exactDivisor (asked s want q))
+    (v : ℤ) → given ≡ done v → WithinDistance (allowedDistance want (s .axes)) v (exactSum (asked s want q) (tableRecords s xs)) (exactDivisor (asked s want q))
 
 -- ---- agreement
 
@@ -130,7 +130,7 @@ InBlock s cell = OnUsed (s .axes) (λ a i. NearCell (count s a) (cell a) i)
 
 -- a shape with other node counts
 abbrev pub recounted : Shape → List ℕ → Shape
-recounted s counts = record { axes = s .axes; degree = s .degree; counts = counts }
+recounted s counts = shapeOf (s .axes) (s .degree) counts
 
 -- two tables agree on the block of a cell: on each axis both have the same of its nodes, and each of these nodes has the same sample in both
 pub record AgreeOnBlock (s t : Shape) (cell : Place) (xs ys : List ℤ) : Type 0 where

@@ -5,14 +5,14 @@ ghost use Rattle.lattice.specs.Outcome.{Outcome};
 ghost use Rattle.estimate.specs.Estimate.{estimateWrites};
 ghost use Rattle.cell.specs.Cell.{placeAt};
 ghost use Rattle.evaluate.specs.Wants.{wanted};
-ghost use Rattle.query.specs.Answers.{told};
+ghost use Rattle.query.specs.Answers.{outcomeOfReading};
 ghost use Rattle.query.specs.Queries.{positionAt, byPosition, byCell};
 ghost use Rattle.claims.specs.Third.{queried, bothCalls, Claimed};
 ghost use Rattle.claims.specs.Calls.{stepsIn, indicesIn, queryOf, Gives};
-use evaluate::SlopeAxis;
+use evaluate::Derivative;
 use float_query::FloatPosition;
 use float_query::FloatReading;
-use lattice::Answer;
+use lattice::Check;
 use lattice::Refusal;
 use lattice::Shape;
 use query::CellQuery;
@@ -48,36 +48,36 @@ pub enum Reply {
 }
 
 // The query by position.
-fn by_position(s: Shape, records: &[i32], p: Steps, slope_axis: SlopeAxis) -> Reading
-    ensures { λ r. ⌜ told r ≡ byPosition s (now (records .entry)) (wanted «slope_axis») (positionAt (stepsIn p)) ⌝ }
+fn by_position(s: Shape, records: &[i32], p: Steps, derivative: Derivative) -> Reading
+    ensures { λ r. ⌜ outcomeOfReading r ≡ byPosition s (now (records .entry)) (wanted derivative) (positionAt (stepsIn p)) ⌝ }
 {
     let q = Query {
         position: [p.x, p.y, p.z],
-        slope_axis: slope_axis,
+        derivative: derivative,
     };
     query::at_position(s, records, q)
 }
 
 // The query by cell and in-cell step.
-fn by_cell(s: Shape, records: &[i32], c: Indices, u: Indices, slope_axis: SlopeAxis) -> Reading
-    ensures { λ r. ⌜ told r ≡ byCell s (now (records .entry)) (wanted «slope_axis») (placeAt (indicesIn c)) (placeAt (indicesIn u)) ⌝ }
+fn by_cell(s: Shape, records: &[i32], c: Indices, u: Indices, derivative: Derivative) -> Reading
+    ensures { λ r. ⌜ outcomeOfReading r ≡ byCell s (now (records .entry)) (wanted derivative) (placeAt (indicesIn c)) (placeAt (indicesIn u)) ⌝ }
 {
     let q = CellQuery {
         cell: [c.x, c.y, c.z],
         step: [u.x, u.y, u.z],
-        slope_axis: slope_axis,
+        derivative: derivative,
     };
     query::in_cell(s, records, q)
 }
 
 // The query that a question stands for.
-fn ask(s: Shape, records: &[i32], q: Question, slope_axis: SlopeAxis) -> Reply
-    ensures { λ r. ⌜ Gives (wanted «slope_axis») r (queried s (now (records .entry)) (wanted «slope_axis») (queryOf q)) ⌝ }
+fn ask(s: Shape, records: &[i32], q: Question, derivative: Derivative) -> Reply
+    ensures { λ r. ⌜ Gives (wanted derivative) r (queried s (now (records .entry)) (wanted derivative) (queryOf q)) ⌝ }
 {
     match q {
-        Question::Position(p) => Reply::Whole(by_position(s, records, p, slope_axis)),
-        Question::Cell(c, u) => Reply::Whole(by_cell(s, records, c, u, slope_axis)),
-        Question::Floats(p) => Reply::Float(float_query::at_float(s, records, p, slope_axis)),
+        Question::Position(p) => Reply::Whole(by_position(s, records, p, derivative)),
+        Question::Cell(c, u) => Reply::Whole(by_cell(s, records, c, u, derivative)),
+        Question::Floats(p) => Reply::Float(float_query::at_float(s, records, p, derivative)),
     }
 }
 
@@ -87,18 +87,18 @@ pub fn estimate_and_ask(
     samples: &[i32],
     records: &mut [i32],
     q: Question,
-    slope_axis: SlopeAxis,
+    derivative: Derivative,
 ) -> Reply
-    ensures given { λ r. ⌜ Gives (wanted «slope_axis») r (bothCalls s (now (samples .entry)) (now (records .entry)) (wanted «slope_axis») (queryOf q)) ⌝ }
+    ensures given { λ r. ⌜ Gives (wanted derivative) r (bothCalls s (now (samples .entry)) (now (records .entry)) (wanted derivative) (queryOf q)) ⌝ }
     ensures written { λ r. ⌜ now (records .exit) ≡ estimateWrites s (now (samples .entry)) (now (records .entry)) ⌝ }
-    ensures claimed { λ r. ⌜ ((outcome : Outcome ℤ) → Gives (wanted «slope_axis») r outcome → Claimed s (now (samples .entry)) (now (records .entry)) (wanted «slope_axis») (queryOf q) outcome) ⌝ }
+    ensures claimed { λ r. ⌜ ((outcome : Outcome ℤ) → Gives (wanted derivative) r outcome → Claimed s (now (samples .entry)) (now (records .entry)) (wanted derivative) (queryOf q) outcome) ⌝ }
 {
     let answer = estimate::estimate(s, samples, records);
     match answer {
-        Answer::Refused(r) => Reply::Refused(r),
-        Answer::Done => {
+        Check::Refused(r) => Reply::Refused(r),
+        Check::Done => {
             let n = lattice::table_entries(s);
-            ask(s, &records[..n], q, slope_axis)
+            ask(s, &records[..n], q, derivative)
         }
     }
 }

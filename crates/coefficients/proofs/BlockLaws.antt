@@ -19,7 +19,7 @@ use Rattle.lattice.proofs.ShapeLaws.{pow-range}
 use Rattle.lattice.proofs.DigitsLaws.{high-digit, low-digit, pair-in, group-room}
 use Rattle.hermite.proofs.EndLaws.{end-depends, end-size}
 use Rattle.coefficients.specs.Corners.{coefficientCount}
-use Rattle.coefficients.specs.Blocks.{Sizes, ruleAt, converted, Within, StartsWith, scatter}
+use Rattle.coefficients.specs.Blocks.{Sizes, ruleAt, converted, AllWithin, StartsWith, scatter}
 use Rattle.coefficients.proofs.SpotLaws.{scatter-off, scatter-at}
 
 -- ---- sizes
@@ -102,7 +102,7 @@ module _ (back : Bool) {m n r : ℕ} (ok : Sizes m n r) (c : ℕ) (xs : ℕ → 
   after-next i ys zs h z = record { long = z .long; is = λ k l. z .is k l ∙ pass-same m r (ruleAt back m c i) (depends i) (at ys) (passes m r (ruleAt back m c) i xs) (h .is) k l }
 
   -- no pass is beyond 64 bits
-  pub after-low : Within (2 ^ 31) (m ^ n) xs → (i : ℕ) → i ≤ 3 → (zs : List ℤ) → After i zs → Within (2 ^ 50) (m * r) (at zs)
+  pub after-low : AllWithin (2 ^ 31) (m ^ n) xs → (i : ℕ) → i ≤ 3 → (zs : List ℤ) → After i zs → AllWithin (2 ^ 50) (m * r) (at zs)
   after-low h i l zs z k q =
       rw (z .is k q)
       (le-trans
@@ -110,7 +110,7 @@ module _ (back : Bool) {m n r : ℕ} (ok : Sizes m n r) (c : ℕ) (xs : ℕ → 
       (le-trans (mul-le-mul-right (2 ^ 31) (pow-le-pow-right {n = 32} (lit< tt) {i = i} {j = 3} l)) (lit≤ tt)))
 
   -- as many passes as there are axes
-  pub after-all : Within (2 ^ 31) (m ^ n) xs → (i : ℕ) → i ≡ n → (zs : List ℤ) → After i zs → StartsWith (m ^ n) (converted back m n c xs) zs × Within (2 ^ 50) (m ^ n) (at zs)
+  pub after-all : AllWithin (2 ^ 31) (m ^ n) xs → (i : ℕ) → i ≡ n → (zs : List ℤ) → After i zs → StartsWith (m ^ n) (converted back m n c xs) zs × AllWithin (2 ^ 50) (m ^ n) (at zs)
   unfolding converted
   after-all h i e zs z = (
     record { long = z .long; is = λ k l. z .is k (in-groups ok k l) ∙ ap (λ (j : ℕ). passes m r (ruleAt back m c) j xs k) e ∙ passes-sweep m n r (orders-some ok) (groups-is ok) (ruleAt back m c) depends xs k l },

@@ -20,8 +20,8 @@ use Rattle.cell.specs.declared.Layout.{Layout}
 use Rattle.cell.specs.Cell.{placeAt, cellOutcome, Accepted, Laid}
 use Rattle.cell.specs.Coefficients.{coefficients}
 use Rattle.cell.proofs.CellLaws.{accepted}
-use Rattle.coefficients.specs.Corners.{coefficientCount, coefficientList, askedOutcome, numbersOutcome}
-use Rattle.coefficients.specs.Blocks.{gathered, wanted}
+use Rattle.coefficients.specs.Corners.{coefficientCount, coefficientList, requestOutcome, numbersOutcome}
+use Rattle.coefficients.specs.Blocks.{gathered, cellCoefficient}
 use Rattle.lattice.proofs.BufferLaws.{tabulate-same}
 use Rattle.lattice.proofs.DigitsLaws.{digits-in}
 use Rattle.coefficients.proofs.TableCell.{cell-same, gathered-is}
@@ -32,8 +32,8 @@ pub record Asked (s : Shape) (given : ℕ) (cell : Place) (room : ℕ) : Type 0 
   pub roomy : coefficientCount (orders s) (s .axes) ≤ room
   pub here : Accepted s cell
 
-pub asked : (s : Shape) (given : ℕ) (xs : List ℕ) (room : ℕ) → askedOutcome s given (placeAt xs) room ≡ done tt → Asked s given (placeAt xs) room
-unfolding askedOutcome
+pub asked : (s : Shape) (given : ℕ) (xs : List ℕ) (room : ℕ) → requestOutcome s given (placeAt xs) room ≡ done tt → Asked s given (placeAt xs) room
+unfolding requestOutcome
 asked s given xs room h =
     let n = coefficientCount (orders s) (s .axes) in
     let a = first-done (shapeOutcome s) (first (refuseUnless (eqb given (size s)) 4 0) (first (refuseUnless (leb n room) 9 0) (cellOutcome s (placeAt xs)))) tt h in
@@ -70,11 +70,11 @@ numbered n degree given room h =
     }
 
 module _ (s : Shape) (ok : Shaped s) (cell : Place) (here : Accepted s cell) (rs : List ℤ) (many : length rs ≡ size s) (l : Layout) (laid : Laid s cell l) where
-  pub list-is : (xs : List ℤ) → ((K : ℕ) → K < coefficientCount (l .orders) (s .axes) → at xs K ≡ wanted (l .orders) (s .axes) l rs K)
+  pub list-is : (xs : List ℤ) → ((K : ℕ) → K < coefficientCount (l .orders) (s .axes) → at xs K ≡ cellCoefficient (l .orders) (s .axes) l rs K)
       → tabulate (coefficientCount (orders s) (s .axes)) (at xs) ≡ coefficientList (orders s) (s .axes) cell (recordsField s rs)
   unfolding coefficientList entries
   list-is xs h =
-      let f = subst (λ (m : ℕ). (K : ℕ) → K < coefficientCount m (s .axes) → at xs K ≡ wanted m (s .axes) l rs K) (laid .orders-are) h in
+      let f = subst (λ (m : ℕ). (K : ℕ) → K < coefficientCount m (s .axes) → at xs K ≡ cellCoefficient m (s .axes) l rs K) (laid .orders-are) h in
       tabulate-same (coefficientCount (orders s) (s .axes)) (at xs) (λ K. coefficients (orders s) (s .axes) cell (recordsField s rs) (digit (λ a. 2 * orders s) K))
       (λ K q. f K q ∙ sym (cell-same s ok cell here (recordsField s rs) (gathered (entries s) l rs) (gathered-is s ok cell here rs many l laid) (digit (λ a. 2 * orders s) K) (digits-in (s .axes) (2 * orders s) K (two (orders s) (orders-range (s .degree) .0)) q)))
     where

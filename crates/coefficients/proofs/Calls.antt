@@ -17,7 +17,7 @@ use Rattle.lattice.proofs.OutcomeLaws.{first-done, first-passed, passes}
 use Rattle.lattice.proofs.ShapeLaws.{orders-range, shaped}
 use Rattle.cell.specs.Cell.{placeAt, cornerPlace, cornersOutcome, Accepted}
 use Rattle.cell.proofs.CellLaws.{accepted}
-use Rattle.coefficients.specs.Corners.{coefficientCount, coefficientList, askedOutcome, coefficientsOutcome, cornerNumbers, Permitted, HasCoefficients, cornerRecords, possibleOutcome, entryList, numbersOutcome, backOutcome, oneCell}
+use Rattle.coefficients.specs.Corners.{coefficientCount, coefficientList, requestOutcome, coefficientsOutcome, cornerNumbers, PermittedCorners, HasCoefficients, cornerRecords, possibleOutcome, entryList, numbersOutcome, backOutcome, oneCell}
 use Rattle.coefficients.proofs.Possible.{entries-many, within, back-of-forward, possible-of, back-permitted, forward-of-back, only-13}
 use Rattle.coefficients.proofs.Inverse.{list-length}
 use Rattle.coefficients.proofs.TableCell.{list-same, corner-permitted, corners-accepted}
@@ -29,12 +29,12 @@ module _ (s : Shape) (rs : List ℤ) (xs : List ℕ) (room : ℕ) (passed : coef
   range : (2 ≤ orders s) × (orders s ≤ 3)
   range = orders-range (s .degree)
 
-  parts : (askedOutcome s (length rs) (placeAt xs) room ≡ done tt) × (cornersOutcome s rs (placeAt xs) ≡ done tt)
+  parts : (requestOutcome s (length rs) (placeAt xs) room ≡ done tt) × (cornersOutcome s rs (placeAt xs) ≡ done tt)
   unfolding coefficientsOutcome
-  parts = first-done (askedOutcome s (length rs) (placeAt xs) room) (cornersOutcome s rs (placeAt xs)) tt passed
+  parts = first-done (requestOutcome s (length rs) (placeAt xs) room) (cornersOutcome s rs (placeAt xs)) tt passed
 
   kind : (axesOutcome (s .axes) ≡ done tt) × (degreeOutcome (s .degree) ≡ done tt)
-  unfolding askedOutcome shapeOutcome
+  unfolding requestOutcome shapeOutcome
   kind =
       let a = first-done (axesOutcome (s .axes)) (first (degreeOutcome (s .degree)) (countsOutcome (s .axes) (count s))) tt (first-done (shapeOutcome s) _ tt (parts .0) .0) in
       (a .0, first-done (degreeOutcome (s .degree)) (countsOutcome (s .axes) (count s)) tt (a .1) .0)
@@ -51,7 +51,7 @@ module _ (s : Shape) (rs : List ℤ) (xs : List ℕ) (room : ℕ) (passed : coef
   records-at i l = getD-tabulate (coefficientCount (orders s) (s .axes)) (λ i. recordsField s rs (cornerPlace s (placeAt xs) i)) i (pos 0) l
 
   -- the corner records of the cell are permitted, and these are their coefficients
-  pub corners-permitted : Permitted (orders s) (s .axes) (cornerRecords s rs (placeAt xs))
+  pub corners-permitted : PermittedCorners (orders s) (s .axes) (cornerRecords s rs (placeAt xs))
   unfolding cornerRecords
   corners-permitted = record {
     many = length-tabulate (coefficientCount (orders s) (s .axes)) (λ i. recordsField s rs (cornerPlace s (placeAt xs) i));
@@ -87,9 +87,9 @@ module _ (n degree : ℕ) (cs : List ℤ) (room : ℕ) (passed : backOutcome n d
   pub forward-of-written : (room′ : ℕ) → coefficientCount (ordersOf degree) n ≤ room′
       → (coefficientsOutcome (oneCell n degree) (entryList (ordersOf degree) n cs) (placeAt onlyCell) room′ ≡ done tt)
       × (coefficientList (ordersOf degree) n (placeAt onlyCell) (recordsField (oneCell n degree) (entryList (ordersOf degree) n cs)) ≡ cs)
-  unfolding oneCell coefficientsOutcome askedOutcome
+  unfolding oneCell coefficientsOutcome requestOutcome
   forward-of-written room′ fits = (
-    first-passed (askedOutcome s (length r) (placeAt onlyCell) room′) (cornersOutcome s r (placeAt onlyCell)) asked-done ∙ corners-accepted s ok (placeAt onlyCell) here r (λ i l. subst (λ z. natAbs z ≤ entryLimit (ordersOf degree) n (cornerNumbers (ordersOf degree) n i)) (sym (entry-is i l)) (back-permitted (ordersOf degree) n (range-back .0) (range-back .1) cs (numbers .many) (parts-back .1) .within i l)),
+    first-passed (requestOutcome s (length r) (placeAt onlyCell) room′) (cornersOutcome s r (placeAt onlyCell)) asked-done ∙ corners-accepted s ok (placeAt onlyCell) here r (λ i l. subst (λ z. natAbs z ≤ entryLimit (ordersOf degree) n (cornerNumbers (ordersOf degree) n i)) (sym (entry-is i l)) (back-permitted (ordersOf degree) n (range-back .0) (range-back .1) cs (numbers .many) (parts-back .1) .within i l)),
     list-same s ok (placeAt onlyCell) here r r entry-is ∙ forward-of-back (ordersOf degree) n (range-back .0) (range-back .1) cs (numbers .many) (parts-back .1) .are,
   )
     where
@@ -108,7 +108,7 @@ module _ (n degree : ℕ) (cs : List ℤ) (room : ℕ) (passed : backOutcome n d
       entry-is : (i : ℕ) → i < coefficientCount (ordersOf degree) n → recordsField s r (cornerPlace s (placeAt onlyCell) i) ≡ at r i
       entry-is = one-entry n degree (numbers .axes-done) (numbers .degree-done) r
 
-      asked-done : askedOutcome s (length r) (placeAt onlyCell) room′ ≡ done tt
+      asked-done : requestOutcome s (length r) (placeAt onlyCell) room′ ≡ done tt
       asked-done =
           first-passed (shapeOutcome s) _ (one-shape n degree (numbers .axes-done) (numbers .degree-done))
           ∙ first-passed (refuseUnless (eqb (length r) (size s)) 4 0) _ (passes (eqb (length r) (size s)) 4 0 (eq-eqb (length r) (size s) (entries-many (ordersOf degree) n (range-back .0) (range-back .1) cs ∙ sym (one-size n degree (numbers .axes-done) (numbers .degree-done)))))

@@ -15,55 +15,52 @@ use Rattle.lattice.specs.Axes.{Place, origin, sweep, axes}
 use Rattle.lattice.proofs.Along.{Fresh, distinct-axes, each-axes}
 use Rattle.lattice.proofs.Local.{used, Paired, sweep-carries}
 use Rattle.lattice.proofs.DigitsLaws.{digit-below, Digits, digits-in, number-in, of-digits, of-number, high-digit, low-digit}
-use Rattle.hermite.specs.Hermite.{multiplier, turned, forward, backward, seen, endRule}
+use Rattle.hermite.specs.Hermite.{multiplier, mirrored, forward, backward, fromEnd, endRule}
 use Rattle.hermite.proofs.HermiteLaws.{forward-low, forward-high}
 use Rattle.hermite.proofs.BackLaws.{backward-low, backward-high, solved-ext}
 use Rattle.hermite.proofs.EndLaws.{end-depends}
 use Rattle.cell.specs.Coefficients.{coefficients}
 use Rattle.coefficients.specs.Corners.{cornerEntry, coefficientsField, doubledEntry}
-use Rattle.coefficients.specs.Blocks.{mirror, blockNumbers, spot, ruleAt, converted}
+use Rattle.coefficients.specs.Blocks.{coefficientNumber, blockNumbers, coefficientIndex, ruleAt, converted}
 use Rattle.coefficients.proofs.Inverse.{depends-carries, agree}
 use Rattle.coefficients.proofs.SpotLaws.{mirror-low, mirror-high, numbers-are, block-in, spot-number}
 
 -- ---- one axis
-
-none : (e : ℕ) → suc (suc e) < 2 → ⊥
-none e l = omega arith
 
 from-low : (m t : ℕ) → m * 0 + t ≡ t
 from-low m t = omega arith
 
 module _ (m : ℕ) (m2 : 2 ≤ m) (m3 : m ≤ 3) where
   -- the coefficient of number k of the high end
-  high-place : (k : ℕ) → k < m → mirror m (m * 1 + k) ≡ 2 * m - 1 - k
+  high-place : (k : ℕ) → k < m → coefficientNumber m (m * 1 + k) ≡ 2 * m - 1 - k
   high-place k l =
       let z : m * 1 + k ≡ m + k = omega arith in
       let w : 3 * m - 1 - (m + k) ≡ 2 * m - 1 - k = omega arith in
-      ap (mirror m) z ∙ mirror-high m (m + k) (omega arith) ∙ w
+      ap (coefficientNumber m) z ∙ mirror-high m (m + k) (omega arith) ∙ w
 
   -- the coefficients of an end, counted from it
-  forward-end : (e : ℕ) → e < 2 → (x y : ℕ → ℤ) → ((t : ℕ) → t < m → x (m * e + t) ≡ y t) → (k : ℕ) → k < m → forward m 0 x (mirror m (m * e + k)) ≡ endRule false m (eqb e 1) y k
-  unfolding endRule seen pick
+  forward-end : (e : ℕ) → e < 2 → (x y : ℕ → ℤ) → ((t : ℕ) → t < m → x (m * e + t) ≡ y t) → (k : ℕ) → k < m → forward m 0 x (coefficientNumber m (m * e + k)) ≡ endRule false m (eqb e 1) y k
+  unfolding endRule fromEnd pick
   forward-end zero l x y h k p =
-      ap (λ (i : ℕ). forward m 0 x (mirror m i)) (from-low m k) ∙ ap (forward m 0 x) (mirror-low m k p) ∙ forward-low m 0 m2 m3 x k p
+      ap (λ (i : ℕ). forward m 0 x (coefficientNumber m i)) (from-low m k) ∙ ap (forward m 0 x) (mirror-low m k p) ∙ forward-low m 0 m2 m3 x k p
       ∙ sum-ext m (λ o. multiplier m k o *ℤ x (m * 0 + o)) (λ o. multiplier m k o *ℤ y o) (λ o q. ap (λ z. multiplier m k o *ℤ z) (h o q))
   forward-end (suc zero) l x y h k p =
       ap (forward m 0 x) (high-place k p) ∙ forward-high m 0 m2 m3 x k p
-      ∙ sum-ext m (λ o. multiplier m k o *ℤ turned o (x (m * 0 + (m + o)))) (λ o. multiplier m k o *ℤ turned o (y o)) (λ o q. ap (λ z. multiplier m k o *ℤ turned o z) (ap x (there m o) ∙ h o q))
+      ∙ sum-ext m (λ o. multiplier m k o *ℤ mirrored o (x (m * 0 + (m + o)))) (λ o. multiplier m k o *ℤ mirrored o (y o)) (λ o q. ap (λ z. multiplier m k o *ℤ mirrored o z) (ap x (there m o) ∙ h o q))
     where
       there : (m o : ℕ) → m * 0 + (m + o) ≡ m * 1 + o
       there m o = omega arith
-  forward-end (suc (suc e)) l x y h k p = absurd (none e l)
+  forward-end (suc (suc e)) l x y h k p = absurd (omega arith)
 
   -- the doubled numbers of an end, from its coefficients counted from it
-  backward-end : (e : ℕ) → e < 2 → (x y : ℕ → ℤ) → ((t : ℕ) → t < m → x (mirror m (m * e + t)) ≡ y t) → (o : ℕ) → o < m → backward m x (m * e + o) ≡ endRule true m (eqb e 1) y o
-  unfolding endRule seen pick
+  backward-end : (e : ℕ) → e < 2 → (x y : ℕ → ℤ) → ((t : ℕ) → t < m → x (coefficientNumber m (m * e + t)) ≡ y t) → (o : ℕ) → o < m → backward m x (m * e + o) ≡ endRule true m (eqb e 1) y o
+  unfolding endRule fromEnd pick
   backward-end zero l x y h o p =
-      ap (backward m x) (from-low m o) ∙ backward-low m m2 m3 x o p ∙ solved-ext m m2 m3 x y o p (λ t q. sym (ap x (ap (mirror m) (from-low m t) ∙ mirror-low m t q)) ∙ h t q)
+      ap (backward m x) (from-low m o) ∙ backward-low m m2 m3 x o p ∙ solved-ext m m2 m3 x y o p (λ t q. sym (ap x (ap (coefficientNumber m) (from-low m t) ∙ mirror-low m t q)) ∙ h t q)
   backward-end (suc zero) l x y h o p =
       let z : m * 1 + o ≡ m + o = omega arith in
-      ap (backward m x) z ∙ backward-high m m2 m3 x o ∙ ap (turned o) (solved-ext m m2 m3 (λ k. x (2 * m - 1 - k)) y o p (λ t q. sym (ap x (high-place t q)) ∙ h t q))
-  backward-end (suc (suc e)) l x y h o p = absurd (none e l)
+      ap (backward m x) z ∙ backward-high m m2 m3 x o ∙ ap (mirrored o) (solved-ext m m2 m3 (λ k. x (2 * m - 1 - k)) y o p (λ t q. sym (ap x (high-place t q)) ∙ h t q))
+  backward-end (suc (suc e)) l x y h o p = absurd (omega arith)
 
 -- only the numbers of the block count
 pub converted-same : (back : Bool) (m n c : ℕ) → 2 ≤ m → m ≤ 3 → (xs ys : ℕ → ℤ) → ((j : ℕ) → j < m ^ n → xs j ≡ ys j) → (k : ℕ) → k < m ^ n → converted back m n c xs k ≡ converted back m n c ys k
@@ -92,7 +89,7 @@ module _ (m n : ℕ) (m2 : 2 ≤ m) (m3 : m ≤ 3) (low : 1 ≤ n) (high : n ≤
   joined a t = m * end a + t
 
   abbrev counted : ℕ → ℕ → ℕ
-  counted a t = mirror m (m * end a + t)
+  counted a t = coefficientNumber m (m * end a + t)
 
   end-low : (a : ℕ) → end a < 2
   end-low a = digit-below (λ b. 2) c a (lit< tt)
@@ -125,8 +122,8 @@ module _ (m n : ℕ) (m2 : 2 ≤ m) (m3 : m ≤ 3) (low : 1 ≤ n) (high : n ≤
           go (no l) = omega (arith, l)
 
   -- on an unused axis a number and its coefficient are 0
-  both-none : (k : ℕ) → k < m ^ n → (a : ℕ) → n ≤ a → mirror m (blockNumbers m c k a) ≡ blockNumbers m c k a
-  both-none k hk a l = let z = block-in m n some c k hc hk .unused a l in ap (mirror m) z ∙ mirror-low m 0 some ∙ sym z
+  both-none : (k : ℕ) → k < m ^ n → (a : ℕ) → n ≤ a → coefficientNumber m (blockNumbers m c k a) ≡ blockNumbers m c k a
+  both-none k hk a l = let z = block-in m n some c k hc hk .unused a l in ap (coefficientNumber m) z ∙ mirror-low m 0 some ∙ sym z
 
   -- number k of the corner's block is its coefficient
   module _ (r : ℕ → ℤ) where
@@ -138,29 +135,29 @@ module _ (m n : ℕ) (m2 : 2 ≤ m) (m3 : m ≤ 3) (low : 1 ≤ n) (high : n ≤
         ∙ ap (λ (o : Place). m ^ n * number n (λ b. 2) end + number n (λ b. m) o) (fun-ext (λ a. ap (λ (k : ℕ). k % m) (h a .is) ∙ low-digit m (end a) (q a) (h a .below)))
         ∙ ap (λ (k : ℕ). m ^ n * k + number n (λ b. m) q) (of-digits n 2 c hc))
 
-    pub forward-block : (k : ℕ) → k < m ^ n → converted false m n c (λ j. r (m ^ n * c + j)) k ≡ coefficients m n origin (λ t. r (cornerEntry m n t)) (λ a. mirror m (blockNumbers m c k a))
+    pub forward-block : (k : ℕ) → k < m ^ n → converted false m n c (λ j. r (m ^ n * c + j)) k ≡ coefficients m n origin (λ t. r (cornerEntry m n t)) (λ a. coefficientNumber m (blockNumbers m c k a))
     unfolding coefficients blockNumbers converted
     forward-block k hk =
         sym (sweep-carries (Order m n counted) (Order m n joined) (λ a. forward m 0) (ruleAt false m c) (axes n) (distinct-axes n)
         (each-axes n _ (λ a l x y j t s h. ap (forward m 0 x) (s .is) ∙ forward-end m m2 m3 (end a) (end-low a) x y (reads joined x y a l h) t (s .below)))
-        (λ t. r (cornerEntry m n t)) (λ q. r (m ^ n * c + number n (λ b. m) q)) entries-are (λ a. mirror m (blockNumbers m c k a)) (digit (λ b. m) k)
-        (paired counted joined (λ a. mirror m (blockNumbers m c k a)) k hk (λ a. refl) (both-none k hk)))
+        (λ t. r (cornerEntry m n t)) (λ q. r (m ^ n * c + number n (λ b. m) q)) entries-are (λ a. coefficientNumber m (blockNumbers m c k a)) (digit (λ b. m) k)
+        (paired counted joined (λ a. coefficientNumber m (blockNumbers m c k a)) k hk (λ a. refl) (both-none k hk)))
 
   -- and number k of the coefficients converted back is its doubled entry
   module _ (cs : List ℤ) where
-    spots-are : (p q : Place) → ((a : ℕ) → Order m n counted a (p a) (q a)) → coefficientsField m n cs p ≡ at cs (spot m c (number n (λ b. m) q))
+    spots-are : (p q : Place) → ((a : ℕ) → Order m n counted a (p a) (q a)) → coefficientsField m n cs p ≡ at cs (coefficientIndex m c (number n (λ b. m) q))
     unfolding coefficientsField blockNumbers
     spots-are p q h =
         let z = orders-in counted p q h in
         let k = number-in n m q (z .1) in
         ap (at cs)
-        (ap (number n (λ b. 2 * m)) (z .0 ∙ ap (λ (o : Place). λ a. mirror m (m * end a + o a)) (sym (of-number n m q (z .1))))
+        (ap (number n (λ b. 2 * m)) (z .0 ∙ ap (λ (o : Place). λ a. coefficientNumber m (m * end a + o a)) (sym (of-number n m q (z .1))))
         ∙ sym (spot-number m n some c (number n (λ b. m) q) hc k low high))
 
-    pub backward-block : (k : ℕ) → k < m ^ n → converted true m n c (λ j. at cs (spot m c j)) k ≡ doubledEntry m n cs (m ^ n * c + k)
+    pub backward-block : (k : ℕ) → k < m ^ n → converted true m n c (λ j. at cs (coefficientIndex m c j)) k ≡ doubledEntry m n cs (m ^ n * c + k)
     unfolding doubledEntry blockNumbers converted
     backward-block k hk =
         sym (ap (sweep (axes n) (λ a. backward m) (coefficientsField m n cs)) (numbers-are m n some c k hc hk)
         ∙ sweep-carries (Order m n joined) (Order m n counted) (λ a. backward m) (ruleAt true m c) (axes n) (distinct-axes n)
         (each-axes n _ (λ a l x y j t s h. ap (backward m x) (s .is) ∙ backward-end m m2 m3 (end a) (end-low a) x y (reads counted x y a l h) t (s .below)))
-        (coefficientsField m n cs) (λ q. at cs (spot m c (number n (λ b. m) q))) spots-are (blockNumbers m c k) (digit (λ b. m) k) (paired joined counted (blockNumbers m c k) k hk (λ a. refl) (λ a l. sym (both-none k hk a l))))
+        (coefficientsField m n cs) (λ q. at cs (coefficientIndex m c (number n (λ b. m) q))) spots-are (blockNumbers m c k) (digit (λ b. m) k) (paired joined counted (blockNumbers m c k) k hk (λ a. refl) (λ a l. sym (both-none k hk a l))))

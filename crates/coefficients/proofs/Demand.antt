@@ -1,56 +1,88 @@
 -- The second demand, for both degrees and 1, 2 or 3 axes.
-use mathlib.Core.Path.{_≡_, _∙_}
+use mathlib.Core.Path.{_≡_, sym, ap, _∙_}
 use mathlib.Core.List.{List}
-use mathlib.Core.Logic.{⊎-elim, _↔_}
+use mathlib.Core.Logic.{_⊎_, ⊎-elim, _↔_}
 use Prim.Native.Nat.{ℕ, _^_, _≤_, _<_}
 use lib.IntN.{ℤ, natAbs}
 use lib.ListN.{length}
 use Rattle.lattice.specs.declared.Shape.{Shape}
 use Rattle.lattice.specs.Outcome.{done, refused}
-use Rattle.lattice.specs.Buffer.{at}
+use Rattle.lattice.specs.Buffer.{at, overwrite}
 use Rattle.lattice.specs.Shape.{ordersOf, orders, axesOutcome, degreeOutcome}
 use Rattle.lattice.specs.Records.{recordsField}
 use Rattle.lattice.proofs.ShapeLaws.{orders-range}
 use Rattle.cell.specs.Cell.{placeAt}
-use Rattle.coefficients.specs.Corners.{coefficientCount, coefficientList, coefficientsOutcome, Permitted, HasCoefficients, cornerRecords, doubledEntry, allowed, possibleOutcome, entryList, backOutcome, oneCell}
-use Rattle.lattice.proofs.OutcomeLaws.{done-refused}
-use Rattle.coefficients.proofs.Possible.{within, possible-of, back-permitted, forward-of-back, firstOf-either, only-13}
+use Rattle.coefficients.specs.Corners.{coefficientCount, coefficientList, coefficientsOutcome, PermittedCorners, HasCoefficients, cornerRecords, doubledEntry, entryAllowed, possibleOutcome, entryList, backOutcome, backWrites, oneCell}
+use Rattle.lattice.proofs.OutcomeLaws.{when-done, done-refused}
+use Rattle.coefficients.proofs.Possible.{within, back-of-forward, possible-of, back-permitted, forward-of-back, firstOf-either, only-13}
 use Rattle.coefficients.proofs.Calls.{written-within, back-of-written, forward-of-written}
 use Rattle.coefficients.proofs.OneCell.{onlyCell}
 
 -- ---- corner records by themselves: m is 2 or 3, n the number of axes
 
-module _ (m n : ℕ) (m2 : 2 ≤ m) (m3 : m ≤ 3) (few : n ≤ 3) (r cs : List ℤ) where
+-- permitted corner records have these coefficients
+abbrev pub Possible : ℕ → ℕ → List ℤ → Type 0
+Possible m n cs = (r : List ℤ) × (PermittedCorners m n r × HasCoefficients m n r cs)
+
+module _ (m n : ℕ) (m2 : 2 ≤ m) (m3 : m ≤ 3) (cs : List ℤ) where
   -- the coefficients of permitted corner records lie within ±2^30
-  pub coefficients-within : Permitted m n r → HasCoefficients m n r cs → (K : ℕ) → K < coefficientCount m n → natAbs (at cs K) ≤ 2 ^ 30
-  coefficients-within ok has = within m n m2 m3 cs r has few ok
+  pub coefficients-within : n ≤ 3 → (r : List ℤ) → PermittedCorners m n r → HasCoefficients m n r cs → (K : ℕ) → K < coefficientCount m n
+      → natAbs (at cs K) ≤ 2 ^ 30
+  coefficients-within few r ok has = within m n m2 m3 cs r has few ok
 
   -- forward of what back gives is the coefficients, and what back gives is permitted
-  pub forward-is-coefficients : length cs ≡ coefficientCount m n → possibleOutcome m n cs ≡ done tt → Permitted m n (entryList m n cs) × HasCoefficients m n (entryList m n cs) cs
+  pub forward-is-coefficients : length cs ≡ coefficientCount m n → possibleOutcome m n cs ≡ done tt
+      → PermittedCorners m n (entryList m n cs) × HasCoefficients m n (entryList m n cs) cs
   forward-is-coefficients many passed = (back-permitted m n m2 m3 cs many passed, forward-of-back m n m2 m3 cs many passed)
+
+  -- and no other corner records have these coefficients
+  pub only-records : (r : List ℤ) → length r ≡ coefficientCount m n → HasCoefficients m n r cs → r ≡ entryList m n cs
+  only-records r many has = sym (back-of-forward m n m2 m3 cs r has many)
 
 -- ---- refusal 13, and no other
 
--- for every list of (d+1)^n numbers: there are permitted corner records whose coefficients these are if and only if back is not refused 13
-module _ (n degree : ℕ) (axes-ok : axesOutcome n ≡ done tt) (degree-ok : degreeOutcome degree ≡ done tt) (cs : List ℤ) (many : length cs ≡ coefficientCount (ordersOf degree) n) (room : ℕ) (fits : coefficientCount (ordersOf degree) n ≤ room) where
-  abbrev Possible : Type 0
-  Possible = (r : List ℤ) × (Permitted (ordersOf degree) n r × HasCoefficients (ordersOf degree) n r cs)
+-- for every list of (d+1)^n numbers
+module _ (n degree : ℕ) (axes-ok : axesOutcome n ≡ done tt) (degree-ok : degreeOutcome degree ≡ done tt) (cs : List ℤ)
+    (many : length cs ≡ coefficientCount (ordersOf degree) n) where
+  abbrev m : ℕ
+  m = ordersOf degree
 
-  pub thirteen : Possible ↔ ((place : ℕ) → backOutcome n degree cs room ≡ refused 13 place → ⊥)
-  unfolding possibleOutcome
-  thirteen = (not-refused, found)
-    where
-      range : (2 ≤ ordersOf degree) × (ordersOf degree ≤ 3)
-      range = orders-range degree
+  m2 : 2 ≤ m
+  m2 = orders-range degree .0
 
-      not-refused : Possible → (place : ℕ) → backOutcome n degree cs room ≡ refused 13 place → ⊥
-      not-refused h place e = done-refused (backOutcome n degree cs room) 13 place (only-13 n degree axes-ok degree-ok cs many room fits ∙ possible-of (ordersOf degree) n (range .0) (range .1) cs (h .0) (h .1 .1) (h .1 .0)) e
+  m3 : m ≤ 3
+  m3 = orders-range degree .1
 
-      found : ((place : ℕ) → backOutcome n degree cs room ≡ refused 13 place → ⊥) → Possible
-      found h =
-          ⊎-elim
-          (λ e. (entryList (ordersOf degree) n cs, (back-permitted (ordersOf degree) n (range .0) (range .1) cs many e, forward-of-back (ordersOf degree) n (range .0) (range .1) cs many e)))
-          (λ e. absurd (h 0 (only-13 n degree axes-ok degree-ok cs many room fits ∙ e))) (firstOf-either (coefficientCount (ordersOf degree) n) (λ i. allowed (ordersOf degree) n i (doubledEntry (ordersOf degree) n cs i)) 13 0)
+  module _ (room : ℕ) (fits : coefficientCount m n ≤ room) where
+    tested : backOutcome n degree cs room ≡ possibleOutcome m n cs
+    tested = only-13 n degree axes-ok degree-ok cs many room fits
+
+    -- back is done or refused 13 at place 0
+    pub done-or-13 : (backOutcome n degree cs room ≡ done tt) ⊎ (backOutcome n degree cs room ≡ refused 13 0)
+    unfolding possibleOutcome
+    done-or-13 = rw tested (firstOf-either (coefficientCount m n) (λ i. entryAllowed m n i (doubledEntry m n cs i)) 13 0)
+
+    -- it is done if and only if permitted corner records have these coefficients
+    pub done-possible : (backOutcome n degree cs room ≡ done tt) ↔ Possible m n cs
+    done-possible = (
+      λ e. (entryList m n cs, forward-is-coefficients m n m2 m3 cs many (sym tested ∙ e)),
+      λ h. tested ∙ possible-of m n m2 m3 cs (h .0) (h .1 .1) (h .1 .0),
+    )
+
+    -- and such corner records exist if and only if it is not refused 13
+    pub thirteen : Possible m n cs ↔ ((place : ℕ) → backOutcome n degree cs room ≡ refused 13 place → ⊥)
+    thirteen = (
+      λ h place. done-refused (backOutcome n degree cs room) 13 place (done-possible .1 h),
+      λ h. ⊎-elim (done-possible .0) (λ e. absurd (h 0 e)) done-or-13,
+    )
+
+  -- where permitted corner records have these coefficients, these records are what back writes
+  pub written-records : (r out : List ℤ) → PermittedCorners m n r → HasCoefficients m n r cs → coefficientCount m n ≤ length out
+      → backWrites n degree cs out ≡ overwrite r out
+  unfolding backWrites
+  written-records r out ok has fits =
+      sym (when-done (overwrite (entryList m n cs) out) out (done-possible (length out) fits .1 (r, (ok, has))))
+      ∙ ap (λ (x : List ℤ). overwrite x out) (sym (only-records m n m2 m3 cs r (ok .many) has))
 
 -- ---- the two calls, one after the other
 

@@ -13,7 +13,7 @@ use Rattle.cell.specs.declared.Layout.{Layout}
 use Rattle.cell.specs.Cell.{startOf}
 use Rattle.cell.specs.Coefficients.{coefficients}
 use Rattle.coefficients.specs.Corners.{cornerEntry}
-use Rattle.coefficients.specs.Blocks.{Sizes, mirror, blockNumbers, spot, gathered, wanted, converted, Gathered}
+use Rattle.coefficients.specs.Blocks.{Sizes, coefficientNumber, blockNumbers, coefficientIndex, gathered, cellCoefficient, converted, Gathered}
 use Rattle.coefficients.proofs.Sizes.{coefficient-within}
 use Rattle.coefficients.proofs.BlockLaws.{orders-some}
 use Rattle.coefficients.proofs.SpotLaws.{mirror-digits, block-in, spot-number}
@@ -26,7 +26,7 @@ module _ {m n r : ℕ} (ok : Sizes m n r) (l : Layout) (rs : List ℤ) (g : Gath
 
   module _ (xs : ℕ → ℤ) (hx : (j : ℕ) → j < m ^ n → xs j ≡ at rs (startOf l c + j)) (k : ℕ) (hk : k < m ^ n) where
     place : Place
-    place a = mirror m (blockNumbers m c k a)
+    place a = coefficientNumber m (blockNumbers m c k a)
 
     place-in : Digits n (2 * m) place
     unfolding place
@@ -38,7 +38,7 @@ module _ {m n r : ℕ} (ok : Sizes m n r) (l : Layout) (rs : List ℤ) (g : Gath
         converted-same false m n c (ok .orders-low) (ok .orders-high) xs (λ j. gathered (m ^ n) l rs (m ^ n * c + j)) (λ j h. hx j h ∙ entry-is j h) k hk
         ∙ forward-block m n (ok .orders-low) (ok .orders-high) (ok .axes-low) (ok .axes-high) c hc (gathered (m ^ n) l rs) k hk
 
-    pub block-is : converted false m n c xs k ≡ wanted m n l rs (spot m c k)
+    pub block-is : converted false m n c xs k ≡ cellCoefficient m n l rs (coefficientIndex m c k)
     unfolding place
     block-is =
         block-place

@@ -3,6 +3,7 @@ use mathlib.Core.Path.{_≡_, refl, sym, ap, _∙_}
 use mathlib.Core.List.{List, [], _∷_}
 use Prim.Native.Nat.{ℕ, _+_, _*_, _/_, _%_, _^_, _≤_, _<_}
 use native.Mathlib.Nat.{div-add-mod, mod-lt}
+use native.Mathlib.Decide.{decLt}
 use native.Mathlib.Omega.{arith}
 use lib.IntN.{ℤ}
 use Rattle.arith.specs.Choice.{pick}
@@ -14,7 +15,7 @@ use Rattle.lattice.specs.Shape.{count, ordersOf, nodes, entries, size, axesOutc
 use Rattle.lattice.specs.Records.{nodeNumber, entryIndex, recordsField}
 use Rattle.lattice.proofs.OutcomeLaws.{first-passed}
 use Rattle.lattice.proofs.ShapeLaws.{axes-range, orders-range, entries-pos, shaped}
-use Rattle.cell.specs.Cell.{placeAt, indexOutcome, cellOutcome, cornerPlace, Accepted, base, far, cornerStart}
+use Rattle.cell.specs.Cell.{placeAt, cellOutcome, cornerPlace, Accepted, base, nodeStride, cornerStart}
 use Rattle.cell.proofs.CellLaws.{accepted}
 use Rattle.cell.proofs.CornerLaws.{corner-index}
 use Rattle.coefficients.specs.Corners.{coefficientCount, oneCell}
@@ -24,35 +25,18 @@ use Rattle.coefficients.proofs.NumberLaws.{corner-low, count-split}
 abbrev pub onlyCell : List ℕ
 onlyCell = 0 ∷ 0 ∷ 0 ∷ []
 
--- the starts of the corners' records, by the number of axes
-module _ (c E : ℕ) where
-  abbrev strides : ℕ → ℕ
-  strides z = 0 * E + (c % 2 * E + (c / 2 % 2 * (2 * E) + c / 2 / 2 * (z * (2 * E))))
+-- the start of a corner's record, where y has two nodes if there is a corner beyond the first four
+start-of : (c E y b : ℕ) → (4 ≤ c → y ≡ 2) → b ≡ 0 → b * E + (c % 2 * E + (c / 2 % 2 * (2 * E) + c / 2 / 2 * (y * (2 * E)))) ≡ E * c
+start-of c E y b two none =
+    let e : c % 2 + 2 * (c / 2 % 2 + 2 * (c / 2 / 2)) ≡ c = omega arith in
+    rw (none, high (decLt c 4)) (digits (c % 2) (c / 2 % 2) (c / 2 / 2) ∙ ap (λ (k : ℕ). E * k) e)
+  where
+    high : Dec (c < 4) → c / 2 / 2 * (y * (2 * E)) ≡ c / 2 / 2 * (2 * (2 * E))
+    high (yes l) = let e : c / 2 / 2 ≡ 0 = omega arith in rw e (omega arith)
+    high (no l) = rw (two (omega arith))
 
-  one-axis : c < 2 → strides 1 ≡ E * c
-  one-axis h =
-      let a : c % 2 ≡ c = omega arith in
-      let b : c / 2 % 2 ≡ 0 = omega arith in
-      let d : c / 2 / 2 ≡ 0 = omega arith in
-      rw (d, b, a) (omega arith)
-
-  two-axes : c < 4 → strides 2 ≡ E * c
-  two-axes h =
-      let b : c / 2 % 2 ≡ c / 2 = omega arith in
-      let d : c / 2 / 2 ≡ 0 = omega arith in
-      let e : c % 2 + 2 * (c / 2) ≡ c = omega arith in
-      rw (d, b) (pairs (c % 2) (c / 2) ∙ ap (λ (k : ℕ). E * k) e)
-    where
-      pairs : (x y : ℕ) → 0 * E + (x * E + (y * (2 * E) + 0 * (2 * (2 * E)))) ≡ E * (x + 2 * y)
-      pairs x y = omega arith
-
-  three-axes : c < 8 → strides 2 ≡ E * c
-  three-axes h =
-      let e : c % 2 + 2 * (c / 2 % 2 + 2 * (c / 2 / 2)) ≡ c = omega arith in
-      triples (c % 2) (c / 2 % 2) (c / 2 / 2) ∙ ap (λ (k : ℕ). E * k) e
-    where
-      triples : (x y z : ℕ) → 0 * E + (x * E + (y * (2 * E) + z * (2 * (2 * E)))) ≡ E * (x + 2 * (y + 2 * z))
-      triples x y z = omega arith
+    digits : (x y z : ℕ) → 0 * E + (x * E + (y * (2 * E) + z * (2 * (2 * E)))) ≡ E * (x + 2 * (y + 2 * z))
+    digits x y z = omega arith
 
 module _ (n degree : ℕ) (axes-ok : axesOutcome n ≡ done tt) (degree-ok : degreeOutcome degree ≡ done tt) where
   range : (1 ≤ n) × (n ≤ 3)
@@ -69,7 +53,7 @@ module _ (n degree : ℕ) (axes-ok : axesOutcome n ≡ done tt) (degree-ok : deg
   one-size = ap (λ (k : ℕ). k * ordersOf degree ^ n) (by-n (λ (n : ℕ). nodes (oneCell n degree) ≡ 2 ^ n) refl refl refl n (range .0) (range .1)) ∙ sym (count-split (ordersOf degree) n)
 
   pub one-cell : cellOutcome (oneCell n degree) (placeAt onlyCell) ≡ done tt
-  unfolding cellOutcome indexOutcome oneCell count firstOf pick placeAt
+  unfolding cellOutcome oneCell count firstOf pick placeAt
   one-cell = by-n (λ (n : ℕ). cellOutcome (oneCell n degree) (placeAt onlyCell) ≡ done tt) refl refl refl n (range .0) (range .1)
 
   one-shaped : Shaped (oneCell n degree)
@@ -81,9 +65,13 @@ module _ (n degree : ℕ) (axes-ok : axesOutcome n ≡ done tt) (degree-ok : deg
 
   -- corner after corner
   start-is : (c : ℕ) → c < 2 ^ n → cornerStart (oneCell n degree) (placeAt onlyCell) c ≡ entries (oneCell n degree) * c
-  unfolding cornerStart base far nodeNumber number placeAt oneCell count pick
-  start-is c h = by-n (λ (n : ℕ). c < 2 ^ n → cornerStart (oneCell n degree) (placeAt onlyCell) c ≡ entries (oneCell n degree) * c)
-      (λ h. one-axis c (entries (oneCell 1 degree)) h) (λ h. two-axes c (entries (oneCell 2 degree)) h) (λ h. three-axes c (entries (oneCell 3 degree)) h) n (range .0) (range .1) h
+  unfolding cornerStart base nodeStride nodeNumber number placeAt oneCell count pick
+  start-is c h =
+      start-of c (entries (oneCell n degree)) (count (oneCell n degree) 1) (nodeNumber (oneCell n degree) (placeAt onlyCell))
+      (λ l. two l n (range .0) (range .1) h) (omega arith)
+    where
+      two : 4 ≤ c → (n : ℕ) → 1 ≤ n → n ≤ 3 → c < 2 ^ n → count (oneCell n degree) 1 ≡ 2
+      two l = by-n (λ (n : ℕ). c < 2 ^ n → count (oneCell n degree) 1 ≡ 2) (λ h. absurd (omega arith)) (λ h. refl) (λ h. refl)
 
   -- an entry stands where it stands among the corner records
   pub one-entry : (r : List ℤ) (i : ℕ) → i < coefficientCount (ordersOf degree) n → recordsField (oneCell n degree) r (cornerPlace (oneCell n degree) (placeAt onlyCell) i) ≡ at r i

@@ -21,7 +21,7 @@ use Rattle.lattice.specs.Records.{entryLimit}
 use Rattle.lattice.proofs.BufferLaws.{length-tabulate, getD-tabulate}
 use Rattle.lattice.proofs.OutcomeLaws.{first-passed, refuse-done, passes, firstOf-each, firstOf-passes}
 use Rattle.cell.specs.Coefficients.{coefficients}
-use Rattle.coefficients.specs.Corners.{coefficientCount, coefficientList, cornerNumbers, cornersField, Permitted, HasCoefficients, doubledEntry, allowed, possibleOutcome, entryList, numbersOutcome, backOutcome}
+use Rattle.coefficients.specs.Corners.{coefficientCount, coefficientList, cornerNumbers, cornersField, PermittedCorners, HasCoefficients, doubledEntry, entryAllowed, possibleOutcome, entryList, numbersOutcome, backOutcome}
 use Rattle.lattice.proofs.DigitsLaws.{digits-in}
 use Rattle.coefficients.proofs.Inverse.{doubled-of, has-of}
 use Rattle.coefficients.proofs.Sizes.{coefficient-within}
@@ -42,7 +42,7 @@ module _ (m n : ℕ) (m2 : 2 ≤ m) (m3 : m ≤ 3) (cs : List ℤ) where
 
   module _ (r : List ℤ) (has : HasCoefficients m n r cs) where
     -- coefficients of permitted corner records lie within ±2^30
-    pub within : n ≤ 3 → Permitted m n r → (K : ℕ) → K < coefficientCount m n → natAbs (at cs K) ≤ 2 ^ 30
+    pub within : n ≤ 3 → PermittedCorners m n r → (K : ℕ) → K < coefficientCount m n → natAbs (at cs K) ≤ 2 ^ 30
     unfolding coefficientList cornersField
     within few ok K l =
         subst (λ (ks : List ℤ). natAbs (at ks K) ≤ 2 ^ 30) (has .are)
@@ -59,21 +59,21 @@ module _ (m n : ℕ) (m2 : 2 ≤ m) (m3 : m ≤ 3) (cs : List ℤ) where
         ext-getD (pos 0) (entryList m n cs) r (entries-many ∙ sym many)
         (λ i l. let k : i < coefficientCount m n = rw entries-many at l in entry-at i k ∙ ap (λ z. floorDiv z (2 ^ n)) (doubled-is i k) ∙ floor-multiple (2 ^ n) (one-le-pow n 2 (lit< tt)) (at r i))
 
-    pub possible-of : Permitted m n r → possibleOutcome m n cs ≡ done tt
+    pub possible-of : PermittedCorners m n r → possibleOutcome m n cs ≡ done tt
     unfolding possibleOutcome
     possible-of ok =
-        firstOf-passes (coefficientCount m n) (λ i. refuseUnless (allowed m n i (doubledEntry m n cs i)) 13 0)
-        (λ i l. passes (allowed m n i (doubledEntry m n cs i)) 13 0 (allowed-of m n i (doubledEntry m n cs i) (at r i) (doubled-is i l) (ok .within i l)))
+        firstOf-passes (coefficientCount m n) (λ i. refuseUnless (entryAllowed m n i (doubledEntry m n cs i)) 13 0)
+        (λ i l. passes (entryAllowed m n i (doubledEntry m n cs i)) 13 0 (allowed-of m n i (doubledEntry m n cs i) (at r i) (doubled-is i l) (ok .within i l)))
 
   module _ (many : length cs ≡ coefficientCount m n) (possible : possibleOutcome m n cs ≡ done tt) where
     each : (i : ℕ) → i < coefficientCount m n → (doubledEntry m n cs i ≡ pos (2 ^ n) *ℤ entry i) × (natAbs (entry i) ≤ entryLimit m n (cornerNumbers m n i))
     unfolding possibleOutcome entry
     each i l =
         allowed-parts m n i (doubledEntry m n cs i)
-        (refuse-done (allowed m n i (doubledEntry m n cs i)) 13 0 (firstOf-each (coefficientCount m n) (λ i. refuseUnless (allowed m n i (doubledEntry m n cs i)) 13 0) possible i l))
+        (refuse-done (entryAllowed m n i (doubledEntry m n cs i)) 13 0 (firstOf-each (coefficientCount m n) (λ i. refuseUnless (entryAllowed m n i (doubledEntry m n cs i)) 13 0) possible i l))
 
     -- what back gives is permitted
-    pub back-permitted : Permitted m n (entryList m n cs)
+    pub back-permitted : PermittedCorners m n (entryList m n cs)
     back-permitted = record { many = entries-many; within = λ i l. subst (λ z. natAbs z ≤ entryLimit m n (cornerNumbers m n i)) (sym (entry-at i l)) (each i l .1) }
 
     -- forward of what back gives is the coefficients

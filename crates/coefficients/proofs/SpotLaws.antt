@@ -19,75 +19,75 @@ use Rattle.lattice.specs.Digits.{number, digit}
 use Rattle.lattice.specs.Axes.{Place}
 use Rattle.cell.proofs.CellLaws.{number-is}
 use Rattle.coefficients.specs.Corners.{coefficientCount, cornerNumbers, cornerEntry}
-use Rattle.coefficients.specs.Blocks.{mirror, blockNumbers, spot, scatter, turnOf, Stands}
-use Rattle.lattice.proofs.DigitsLaws.{Digits, digits-in, number-in, of-digits, of-number, high-digit, low-digit, pair-in}
+use Rattle.coefficients.specs.Blocks.{coefficientNumber, blockNumbers, coefficientIndex, scatter, fillingOrder, Filled}
+use Rattle.lattice.proofs.DigitsLaws.{Digits, digits-in, number-in, of-digits, of-number, high-digit, low-digit, pair-in, next-group}
 use Rattle.coefficients.proofs.NumberLaws.{count-split, numbers-in, numbers-entry, entry-numbers, entry-in}
 
 -- ---- counting from an end
 
 module _ (m : ℕ) where
-  pub mirror-low : (t : ℕ) → t < m → mirror m t ≡ t
-  unfolding mirror
+  pub mirror-low : (t : ℕ) → t < m → coefficientNumber m t ≡ t
+  unfolding coefficientNumber
   mirror-low t l = pick-true (ltb t m) t (3 * m - 1 - t) (lt-ltb t m l)
 
-  pub mirror-high : (t : ℕ) → m ≤ t → mirror m t ≡ 3 * m - 1 - t
-  unfolding mirror
+  pub mirror-high : (t : ℕ) → m ≤ t → coefficientNumber m t ≡ 3 * m - 1 - t
+  unfolding coefficientNumber
   mirror-high t l = pick-false (ltb t m) t (3 * m - 1 - t) (le-ltb t m l)
 
-  mirror-in : (t : ℕ) → t < 2 * m → mirror m t < 2 * m
-  unfolding mirror
+  mirror-in : (t : ℕ) → t < 2 * m → coefficientNumber m t < 2 * m
+  unfolding coefficientNumber
   mirror-in t l = go (decLt t m)
     where
-      go : Dec (t < m) → mirror m t < 2 * m
+      go : Dec (t < m) → coefficientNumber m t < 2 * m
       go (yes h) = let e = mirror-low t h in omega arith
       go (no h) = let e = mirror-high t (omega (arith, h)) in omega (arith, h)
 
-  mirror-twice : (t : ℕ) → t < 2 * m → mirror m (mirror m t) ≡ t
+  mirror-twice : (t : ℕ) → t < 2 * m → coefficientNumber m (coefficientNumber m t) ≡ t
   mirror-twice t l = go (decLt t m)
     where
-      go : Dec (t < m) → mirror m (mirror m t) ≡ t
-      go (yes h) = ap (mirror m) (mirror-low t h) ∙ mirror-low t h
+      go : Dec (t < m) → coefficientNumber m (coefficientNumber m t) ≡ t
+      go (yes h) = ap (coefficientNumber m) (mirror-low t h) ∙ mirror-low t h
       go (no h) =
           let e : m ≤ t = omega (arith, h) in
-          ap (mirror m) (mirror-high t e) ∙ mirror-high (3 * m - 1 - t) (omega arith) ∙ (let z : 3 * m - 1 - (3 * m - 1 - t) ≡ t = omega arith in z)
+          ap (coefficientNumber m) (mirror-high t e) ∙ mirror-high (3 * m - 1 - t) (omega arith) ∙ (let z : 3 * m - 1 - (3 * m - 1 - t) ≡ t = omega arith in z)
 
-  pub mirror-digits : (n : ℕ) → 0 < m → (p : Place) → Digits n (2 * m) p → Digits n (2 * m) (λ a. mirror m (p a))
-  mirror-digits n some p d = record { used = λ a l. mirror-in (p a) (d .used a l); unused = λ a l. ap (mirror m) (d .unused a l) ∙ mirror-low 0 some }
+  pub mirror-digits : (n : ℕ) → 0 < m → (p : Place) → Digits n (2 * m) p → Digits n (2 * m) (λ a. coefficientNumber m (p a))
+  mirror-digits n some p d = record { used = λ a l. mirror-in (p a) (d .used a l); unused = λ a l. ap (coefficientNumber m) (d .unused a l) ∙ mirror-low 0 some }
 
 -- ---- where a number of a corner stands
 
 module _ (m n : ℕ) (some : 0 < m) where
   -- the coefficient of entry i
   abbrev spotOf : ℕ → ℕ
-  spotOf i = number n (λ b. 2 * m) (λ a. mirror m (cornerNumbers m n i a))
+  spotOf i = number n (λ b. 2 * m) (λ a. coefficientNumber m (cornerNumbers m n i a))
 
-  mirrored-in : (i : ℕ) → i < coefficientCount m n → Digits n (2 * m) (λ a. mirror m (cornerNumbers m n i a))
+  mirrored-in : (i : ℕ) → i < coefficientCount m n → Digits n (2 * m) (λ a. coefficientNumber m (cornerNumbers m n i a))
   mirrored-in i l = mirror-digits m n some (cornerNumbers m n i) (numbers-in m n some i l)
 
   spot-low : (i : ℕ) → i < coefficientCount m n → spotOf i < coefficientCount m n
   spot-low i l = number-in n (2 * m) _ (mirrored-in i l)
 
-  same-mirrored : (p : Place) → Digits n (2 * m) p → (λ a. mirror m (mirror m (p a))) ≡ p
+  same-mirrored : (p : Place) → Digits n (2 * m) p → (λ a. coefficientNumber m (coefficientNumber m (p a))) ≡ p
   same-mirrored p d = fun-ext (λ a. go a (decLt a n))
     where
-      go : (a : ℕ) → Dec (a < n) → mirror m (mirror m (p a)) ≡ p a
+      go : (a : ℕ) → Dec (a < n) → coefficientNumber m (coefficientNumber m (p a)) ≡ p a
       go a (yes l) = mirror-twice m (p a) (d .used a l)
       go a (no l) =
           let e = d .unused a (omega (arith, l)) in
           mirror-twice m (p a) (let z = d .unused a (omega (arith, l)) in omega arith)
 
-  turn-spot : (i : ℕ) → i < coefficientCount m n → turnOf m n (spotOf i) ≡ i
-  unfolding turnOf
+  turn-spot : (i : ℕ) → i < coefficientCount m n → fillingOrder m n (spotOf i) ≡ i
+  unfolding fillingOrder
   turn-spot i l =
-      ap (λ (p : Place). cornerEntry m n (λ a. mirror m (p a))) (of-number n (2 * m) _ (mirrored-in i l))
+      ap (λ (p : Place). cornerEntry m n (λ a. coefficientNumber m (p a))) (of-number n (2 * m) _ (mirrored-in i l))
       ∙ ap (cornerEntry m n) (same-mirrored (cornerNumbers m n i) (numbers-in m n some i l)) ∙ entry-numbers m n some i l
 
-  spot-turn : (K : ℕ) → K < coefficientCount m n → spotOf (turnOf m n K) ≡ K
-  unfolding turnOf
+  spot-turn : (K : ℕ) → K < coefficientCount m n → spotOf (fillingOrder m n K) ≡ K
+  unfolding fillingOrder
   spot-turn K l =
       let two : 0 < 2 * m = omega arith in
       let d = digits-in n (2 * m) K two l in
-      ap (λ (p : Place). number n (λ b. 2 * m) (λ a. mirror m (p a))) (numbers-entry m n some _ (mirror-digits m n some (digit (λ b. 2 * m) K) d))
+      ap (λ (p : Place). number n (λ b. 2 * m) (λ a. coefficientNumber m (p a))) (numbers-entry m n some _ (mirror-digits m n some (digit (λ b. 2 * m) K) d))
       ∙ ap (number n (λ b. 2 * m)) (same-mirrored (digit (λ b. 2 * m) K) d) ∙ of-digits n (2 * m) K l
 
   module _ (c k : ℕ) (hc : c < 2 ^ n) (hk : k < m ^ n) where
@@ -105,17 +105,17 @@ module _ (m n : ℕ) (some : 0 < m) where
 
     module _ (low : 1 ≤ n) (high : n ≤ 3) where
       -- three digits, or as many as there are axes
-      pub spot-number : spot m c k ≡ number n (λ b. 2 * m) (λ a. mirror m (blockNumbers m c k a))
-      unfolding spot
+      pub spot-number : coefficientIndex m c k ≡ number n (λ b. 2 * m) (λ a. coefficientNumber m (blockNumbers m c k a))
+      unfolding coefficientIndex
       spot-number =
           let d = mirror-digits m n some (blockNumbers m c k) block-in in
-          number-is (2 * m) 3 (λ a. mirror m (blockNumbers m c k a)) (lit≤ tt) (lit≤ tt) (λ a l. d .unused a (omega arith))
-          ∙ sym (number-is (2 * m) n (λ a. mirror m (blockNumbers m c k a)) low high (d .unused))
+          number-is (2 * m) 3 (λ a. coefficientNumber m (blockNumbers m c k a)) (lit≤ tt) (lit≤ tt) (λ a l. d .unused a (omega arith))
+          ∙ sym (number-is (2 * m) n (λ a. coefficientNumber m (blockNumbers m c k a)) low high (d .unused))
 
-      spot-is : spot m c k ≡ spotOf (m ^ n * c + k)
-      spot-is = spot-number ∙ ap (λ (p : Place). number n (λ b. 2 * m) (λ a. mirror m (p a))) (sym numbers-are)
+      spot-is : coefficientIndex m c k ≡ spotOf (m ^ n * c + k)
+      spot-is = spot-number ∙ ap (λ (p : Place). number n (λ b. 2 * m) (λ a. coefficientNumber m (p a))) (sym numbers-are)
 
-      pub spot-in : spot m c k < coefficientCount m n
+      pub spot-in : coefficientIndex m c k < coefficientCount m n
       spot-in = rw spot-is (spot-low (m ^ n * c + k) entry-of)
 
 -- ---- filling
@@ -161,47 +161,45 @@ next-test i k n = go (decLt i k)
 
 module _ (m n : ℕ) (some : 0 < m) (f : ℕ → ℤ) where
   -- one coefficient more
-  stands-more : (i : ℕ) (xs : List ℤ) (v : ℤ) → i < coefficientCount m n → coefficientCount m n ≤ length xs → v ≡ f (spotOf m n some i) → Stands m n f i xs → Stands m n f (suc i) (set xs (spotOf m n some i) v)
+  stands-more : (i : ℕ) (xs : List ℤ) (v : ℤ) → i < coefficientCount m n → coefficientCount m n ≤ length xs → v ≡ f (spotOf m n some i) → Filled m n f i xs → Filled m n f (suc i) (set xs (spotOf m n some i) v)
   stands-more i xs v l long e h K hk = go (ℕ-discrete K (spotOf m n some i))
     where
       s : ℕ
       s = spotOf m n some i
 
-      go : Dec (K ≡ s) → at (set xs s v) K ≡ pick (ltb (turnOf m n K) (suc i)) (f K) (pos 0)
+      go : Dec (K ≡ s) → at (set xs s v) K ≡ pick (ltb (fillingOrder m n K) (suc i)) (f K) (pos 0)
       go (yes p) =
-          let turn : turnOf m n K ≡ i = ap (turnOf m n) p ∙ turn-spot m n some i l in
+          let turn : fillingOrder m n K ≡ i = ap (fillingOrder m n) p ∙ turn-spot m n some i l in
           ap (at (set xs s v)) p ∙ getD-set-same xs s v (pos 0) (let z = spot-low m n some i l in omega arith) ∙ e ∙ ap f (sym p)
-          ∙ sym (pick-true (ltb (turnOf m n K) (suc i)) (f K) (pos 0) (lt-ltb (turnOf m n K) (suc i) (omega arith)))
+          ∙ sym (pick-true (ltb (fillingOrder m n K) (suc i)) (f K) (pos 0) (lt-ltb (fillingOrder m n K) (suc i) (omega arith)))
       go (no p) =
           getD-set-other xs s K v (pos 0) p ∙ h K hk
-          ∙ ap (λ (t : Bool). pick t (f K) (pos 0)) (sym (next-test (turnOf m n K) i (λ q. p (sym (spot-turn m n some K hk) ∙ ap (spotOf m n some) q))))
+          ∙ ap (λ (t : Bool). pick t (f K) (pos 0)) (sym (next-test (fillingOrder m n K) i (λ q. p (sym (spot-turn m n some K hk) ∙ ap (spotOf m n some) q))))
 
   -- a corner's block more
-  module _ (low : 1 ≤ n) (high : n ≤ 3) (c : ℕ) (hc : c < 2 ^ n) (F : ℕ → ℤ) (old : List ℤ) (long : coefficientCount m n ≤ length old) (is : (k : ℕ) → k < m ^ n → F k ≡ f (spot m c k)) (h : Stands m n f (m ^ n * c) old) where
-    stands-part : (k : ℕ) → k ≤ m ^ n → Stands m n f (m ^ n * c + k) (scatter k (spot m c) F old)
+  module _ (low : 1 ≤ n) (high : n ≤ 3) (c : ℕ) (hc : c < 2 ^ n) (F : ℕ → ℤ) (old : List ℤ) (long : coefficientCount m n ≤ length old) (is : (k : ℕ) → k < m ^ n → F k ≡ f (coefficientIndex m c k)) (h : Filled m n f (m ^ n * c) old) where
+    stands-part : (k : ℕ) → k ≤ m ^ n → Filled m n f (m ^ n * c + k) (scatter k (coefficientIndex m c) F old)
     unfolding scatter
-    stands-part zero l = subst (λ (i : ℕ). Stands m n f i old) (sym (add-zero (m ^ n * c))) h
+    stands-part zero l = subst (λ (i : ℕ). Filled m n f i old) (sym (add-zero (m ^ n * c))) h
     stands-part (suc k) l =
         let hk : k < m ^ n = omega arith in
         let e = spot-is m n some c k hc hk low high in
-        subst (λ (i : ℕ). Stands m n f i (set (scatter k (spot m c) F old) (spot m c k) (F k))) (sym (add-suc (m ^ n * c) k))
-        (subst (λ (j : ℕ). Stands m n f (suc (m ^ n * c + k)) (set (scatter k (spot m c) F old) j (F k))) (sym e)
-        (stands-more (m ^ n * c + k) (scatter k (spot m c) F old) (F k) (entry-of m n some c k hc hk) (rw (scatter-length (spot m c) F old k) long) (is k hk ∙ ap f e) (stands-part k (omega arith))))
+        subst (λ (i : ℕ). Filled m n f i (set (scatter k (coefficientIndex m c) F old) (coefficientIndex m c k) (F k))) (sym (add-suc (m ^ n * c) k))
+        (subst (λ (j : ℕ). Filled m n f (suc (m ^ n * c + k)) (set (scatter k (coefficientIndex m c) F old) j (F k))) (sym e)
+        (stands-more (m ^ n * c + k) (scatter k (coefficientIndex m c) F old) (F k) (entry-of m n some c k hc hk) (rw (scatter-length (coefficientIndex m c) F old k) long) (is k hk ∙ ap f e) (stands-part k (omega arith))))
 
-    pub stands-corner : Stands m n f (m ^ n * (c + 1)) (scatter (m ^ n) (spot m c) F old)
-    stands-corner = subst (λ (i : ℕ). Stands m n f i (scatter (m ^ n) (spot m c) F old)) (more (m ^ n) c) (stands-part (m ^ n) (le-refl (m ^ n)))
-      where
-        more : (e c : ℕ) → e * c + e ≡ e * (c + 1)
-        more e c = omega arith
+    pub stands-corner : Filled m n f (m ^ n * (c + 1)) (scatter (m ^ n) (coefficientIndex m c) F old)
+    stands-corner =
+        subst (λ (i : ℕ). Filled m n f i (scatter (m ^ n) (coefficientIndex m c) F old)) (next-group (m ^ n) c) (stands-part (m ^ n) (le-refl (m ^ n)))
 
   -- nothing stands where nothing was written
-  pub stands-none : (xs : List ℤ) → ((K : ℕ) → at xs K ≡ pos 0) → Stands m n f 0 xs
-  stands-none xs h K l = h K ∙ sym (pick-false (ltb (turnOf m n K) 0) (f K) (pos 0) (le-ltb (turnOf m n K) 0 (zero-le)))
+  pub stands-none : (xs : List ℤ) → ((K : ℕ) → at xs K ≡ pos 0) → Filled m n f 0 xs
+  stands-none xs h K l = h K ∙ sym (pick-false (ltb (fillingOrder m n K) 0) (f K) (pos 0) (le-ltb (fillingOrder m n K) 0 (zero-le)))
 
   -- and after all corners every coefficient
-  pub stands-all : (xs : List ℤ) → Stands m n f (m ^ n * 2 ^ n) xs → (K : ℕ) → K < coefficientCount m n → at xs K ≡ f K
-  unfolding turnOf
-  stands-all xs h K l = h K l ∙ pick-true (ltb (turnOf m n K) (m ^ n * 2 ^ n)) (f K) (pos 0) (lt-ltb (turnOf m n K) (m ^ n * 2 ^ n) (rw (mul-comm (m ^ n) (2 ^ n) ∙ sym (count-split m n)) (turn-low K l)))
+  pub stands-all : (xs : List ℤ) → Filled m n f (m ^ n * 2 ^ n) xs → (K : ℕ) → K < coefficientCount m n → at xs K ≡ f K
+  unfolding fillingOrder
+  stands-all xs h K l = h K l ∙ pick-true (ltb (fillingOrder m n K) (m ^ n * 2 ^ n)) (f K) (pos 0) (lt-ltb (fillingOrder m n K) (m ^ n * 2 ^ n) (rw (mul-comm (m ^ n) (2 ^ n) ∙ sym (count-split m n)) (turn-low K l)))
     where
-      turn-low : (K : ℕ) → K < coefficientCount m n → turnOf m n K < coefficientCount m n
+      turn-low : (K : ℕ) → K < coefficientCount m n → fillingOrder m n K < coefficientCount m n
       turn-low K l = entry-in m n some _ (mirror-digits m n some (digit (λ b. 2 * m) K) (digits-in n (2 * m) K (omega arith) l))

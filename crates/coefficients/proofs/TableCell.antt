@@ -40,7 +40,8 @@ module _ (s : Shape) (ok : Shaped s) (cell : Place) (here : Accepted s cell) whe
   some = let h = orders-range (s .degree) .0 in omega arith
 
   -- entry i of the corners, in the table
-  corner-placed : (i : ℕ) → i < coefficientCount (orders s) (s .axes) → cornerPlace s cell i ≡ placed s cell (cornerNumbers (orders s) (s .axes) i)
+  pub corner-placed : (i : ℕ) → i < coefficientCount (orders s) (s .axes)
+      → cornerPlace s cell i ≡ placed s cell (cornerNumbers (orders s) (s .axes) i)
   unfolding cornerPlace cornerNumbers entries
   corner-placed i l = fun-ext (λ a. go a (decLt a (s .axes)))
     where
@@ -147,7 +148,7 @@ module _ (s : Shape) (ok : Shaped s) (cell : Place) (here : Accepted s cell) whe
   module _ (rs : List ℤ) (many : length rs ≡ size s) (l : Layout) (laid : Laid s cell l) where
     start-is : (c : ℕ) → startOf l c ≡ cornerStart s cell c
     unfolding cornerStart
-    start-is c = rw (laid .base-is, laid .far-x, laid .far-y, laid .far-z) refl
+    start-is c = rw (laid .base-is, laid .stride-x, laid .stride-y, laid .stride-z) refl
 
     pub gathered-is : (i : ℕ) → i < coefficientCount (orders s) (s .axes) → recordsField s rs (cornerPlace s cell i) ≡ gathered (entries s) l rs i
     unfolding gathered recordsField entries

@@ -1,7 +1,7 @@
 -- When a doubled entry is whole and within its limit.
 use mathlib.Core.Path.{_≡_, subst}
 use mathlib.Core.Bool.{true}
-use Prim.Native.Nat.{ℕ, _*_, _/_, _%_, _^_, _≤_, _<_}
+use Prim.Native.Nat.{ℕ, _/_, _%_, _^_, _≤_, _<_}
 use native.Mathlib.Nat.{one-le-pow}
 use lib.Dec.{leb, eqb, lit<}
 use lib.IntN.{ℤ, pos, _*ℤ_, natAbs}
@@ -10,20 +10,20 @@ use Rattle.arith.specs.Int.{floorDiv}
 use Rattle.arith.proofs.Choices.{and-true, true-and}
 use Rattle.arith.proofs.Round.{whole-is, rest-none, size-of}
 use Rattle.lattice.specs.Records.{entryLimit}
-use Rattle.coefficients.specs.Corners.{cornerNumbers, allowed}
+use Rattle.coefficients.specs.Corners.{cornerNumbers, entryAllowed}
 
 module _ (m n i : ℕ) (z : ℤ) where
   some : 0 < 2 ^ n
   some = one-le-pow n 2 (lit< tt)
 
-  pub allowed-of : (q : ℤ) → z ≡ pos (2 ^ n) *ℤ q → natAbs q ≤ entryLimit m n (cornerNumbers m n i) → allowed m n i z ≡ true
-  unfolding allowed
+  pub allowed-of : (q : ℤ) → z ≡ pos (2 ^ n) *ℤ q → natAbs q ≤ entryLimit m n (cornerNumbers m n i) → entryAllowed m n i z ≡ true
+  unfolding entryAllowed
   allowed-of q e h =
       true-and (eqb (natAbs z % 2 ^ n) 0) (leb (natAbs z / 2 ^ n) (entryLimit m n (cornerNumbers m n i))) (eq-eqb (natAbs z % 2 ^ n) 0 (rest-none (2 ^ n) some z q e))
       (le-leb (natAbs z / 2 ^ n) (entryLimit m n (cornerNumbers m n i)) (rw (size-of (2 ^ n) some z q e) h))
 
-  pub allowed-parts : allowed m n i z ≡ true → (z ≡ pos (2 ^ n) *ℤ floorDiv z (2 ^ n)) × (natAbs (floorDiv z (2 ^ n)) ≤ entryLimit m n (cornerNumbers m n i))
-  unfolding allowed
+  pub allowed-parts : entryAllowed m n i z ≡ true → (z ≡ pos (2 ^ n) *ℤ floorDiv z (2 ^ n)) × (natAbs (floorDiv z (2 ^ n)) ≤ entryLimit m n (cornerNumbers m n i))
+  unfolding entryAllowed
   allowed-parts h =
       let t = and-true (eqb (natAbs z % 2 ^ n) 0) (leb (natAbs z / 2 ^ n) (entryLimit m n (cornerNumbers m n i))) h in
       let e = whole-is (2 ^ n) some z (eqb-true (natAbs z % 2 ^ n) 0 (t .0)) in

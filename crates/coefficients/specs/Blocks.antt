@@ -28,24 +28,24 @@ pub record Sizes (m n r : ℕ) : Type 0 where
 -- ---- where a corner's coefficients stand
 
 -- the coefficient of number t: those of the high end are counted from there
-unfoldable pub mirror : ℕ → ℕ → ℕ
-mirror m t = pick (ltb t m) t (3 * m - 1 - t)
+unfoldable pub coefficientNumber : ℕ → ℕ → ℕ
+coefficientNumber m t = pick (ltb t m) t (3 * m - 1 - t)
 
 -- number k of the block of corner c, along each axis
 unfoldable pub blockNumbers : ℕ → ℕ → ℕ → Place
 blockNumbers m c k a = m * digit (λ b. 2) c a + digit (λ b. m) k a
 
 -- its coefficient's index
-unfoldable pub spot : ℕ → ℕ → ℕ → ℕ
-spot m c k = number 3 (λ b. 2 * m) (λ a. mirror m (blockNumbers m c k a))
+unfoldable pub coefficientIndex : ℕ → ℕ → ℕ → ℕ
+coefficientIndex m c k = number 3 (λ b. 2 * m) (λ a. coefficientNumber m (blockNumbers m c k a))
 
 -- entry i of the corner records, of `size` entries each
 unfoldable pub gathered : ℕ → Layout → List ℤ → ℕ → ℤ
 gathered size l rs i = at rs (startOf l (i / size) + i % size)
 
 -- coefficient K of the corner records that lie in the records
-abbrev pub wanted : ℕ → ℕ → Layout → List ℤ → ℕ → ℤ
-wanted m n l rs K = coefficients m n origin (λ t. gathered (m ^ n) l rs (cornerEntry m n t)) (digit (λ a. 2 * m) K)
+abbrev pub cellCoefficient : ℕ → ℕ → Layout → List ℤ → ℕ → ℤ
+cellCoefficient m n l rs K = coefficients m n origin (λ t. gathered (m ^ n) l rs (cornerEntry m n t)) (digit (λ a. 2 * m) K)
 
 -- ---- conversion
 
@@ -58,8 +58,8 @@ unfoldable pub converted : Bool → ℕ → ℕ → ℕ → (ℕ → ℤ) → �
 converted back m n c xs k = sweep (axes n) (ruleAt back m c) (λ p. xs (number n (λ b. m) p)) (digit (λ b. m) k)
 
 -- numbers within B
-abbrev pub Within : ℕ → ℕ → (ℕ → ℤ) → Type 0
-Within B n xs = (i : ℕ) → i < n → natAbs (xs i) ≤ B
+abbrev pub AllWithin : ℕ → ℕ → (ℕ → ℤ) → Type 0
+AllWithin B n xs = (i : ℕ) → i < n → natAbs (xs i) ≤ B
 
 -- 27 numbers that start with f 0, .., f (n - 1)
 pub record StartsWith (n : ℕ) (f : ℕ → ℤ) (xs : List ℤ) : Type 0 where
@@ -74,12 +74,12 @@ scatter zero place f old = old
 scatter (suc k) place f old = set (scatter k place f old) (place k) (f k)
 
 -- where coefficient K comes in the order of filling: corner by corner, then by number in the block
-unfoldable pub turnOf : ℕ → ℕ → ℕ → ℕ
-turnOf m n K = cornerEntry m n (λ a. mirror m (digit (λ b. 2 * m) K a))
+unfoldable pub fillingOrder : ℕ → ℕ → ℕ → ℕ
+fillingOrder m n K = cornerEntry m n (λ a. coefficientNumber m (digit (λ b. 2 * m) K a))
 
 -- after k numbers these coefficients stand, and all others are 0
-abbrev pub Stands : ℕ → ℕ → (ℕ → ℤ) → ℕ → List ℤ → Type 0
-Stands m n f k xs = (K : ℕ) → K < coefficientCount m n → at xs K ≡ pick (ltb (turnOf m n K) k) (f K) (pos 0)
+abbrev pub Filled : ℕ → ℕ → (ℕ → ℤ) → ℕ → List ℤ → Type 0
+Filled m n f k xs = (K : ℕ) → K < coefficientCount m n → at xs K ≡ pick (ltb (fillingOrder m n K) k) (f K) (pos 0)
 
 -- corner records that lie in the records, each entry within its limit
 pub record Gathered (m n : ℕ) (l : Layout) (rs : List ℤ) : Type 0 where

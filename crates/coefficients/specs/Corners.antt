@@ -12,7 +12,7 @@ use Rattle.lattice.specs.declared.Shape.{Shape}
 use Rattle.lattice.specs.Outcome.{Check, refuseUnless, first, firstOf, whenDone}
 use Rattle.lattice.specs.Buffer.{at, tabulate, overwrite}
 use Rattle.lattice.specs.Digits.{number, digit}
-use Rattle.lattice.specs.Shape.{orders, ordersOf, size, axesOutcome, degreeOutcome, shapeOutcome}
+use Rattle.lattice.specs.Shape.{shapeOf, orders, ordersOf, size, axesOutcome, degreeOutcome, shapeOutcome}
 use Rattle.lattice.specs.Axes.{Place, Field, origin, sweep, axes}
 use Rattle.lattice.specs.Records.{recordsField, entryLimit}
 use Rattle.hermite.specs.Hermite.{backward}
@@ -30,14 +30,14 @@ unfoldable pub coefficientList : ℕ → ℕ → Place → Field → List ℤ
 coefficientList m n cell g = tabulate (coefficientCount m n) (λ K. coefficients m n cell g (digit (λ b. 2 * m) K))
 
 -- 1, 2, 3, 4, 9, 14
-unfoldable pub askedOutcome : Shape → ℕ → Place → ℕ → Check
-askedOutcome s given cell room =
+unfoldable pub requestOutcome : Shape → ℕ → Place → ℕ → Check
+requestOutcome s given cell room =
     first (shapeOutcome s)
     (first (refuseUnless (eqb given (size s)) 4 0) (first (refuseUnless (leb (coefficientCount (orders s) (s .axes)) room) 9 0) (cellOutcome s cell)))
 
 -- and then 5
 unfoldable pub coefficientsOutcome : Shape → List ℤ → Place → ℕ → Check
-coefficientsOutcome s rs cell room = first (askedOutcome s (length rs) cell room) (cornersOutcome s rs cell)
+coefficientsOutcome s rs cell room = first (requestOutcome s (length rs) cell room) (cornersOutcome s rs cell)
 
 -- what the lent slice holds afterwards
 unfoldable pub coefficientsWrites : Shape → List ℤ → Place → List ℤ → List ℤ
@@ -58,7 +58,7 @@ unfoldable pub cornersField : ℕ → ℕ → List ℤ → Field
 cornersField m n r t = at r (cornerEntry m n t)
 
 -- every entry lies within its limit
-pub record Permitted (m n : ℕ) (r : List ℤ) : Type 0 where
+pub record PermittedCorners (m n : ℕ) (r : List ℤ) : Type 0 where
   pub many : length r ≡ coefficientCount m n
   pub within : (i : ℕ) → i < coefficientCount m n → natAbs (at r i) ≤ entryLimit m n (cornerNumbers m n i)
 
@@ -72,7 +72,7 @@ cornerRecords s rs cell = tabulate (coefficientCount (orders s) (s .axes)) (λ i
 
 -- the table of one cell: its records are the corner records
 unfoldable pub oneCell : ℕ → ℕ → Shape
-oneCell n degree = record { axes = n; degree = degree; counts = 2 ∷ pick (ltb 1 n) 2 1 ∷ pick (ltb 2 n) 2 1 ∷ [] }
+oneCell n degree = shapeOf n degree (2 ∷ pick (ltb 1 n) 2 1 ∷ pick (ltb 2 n) 2 1 ∷ [])
 
 -- ---- back
 
@@ -88,12 +88,12 @@ abbrev pub wholeWithin : ℕ → ℕ → ℤ → Bool
 wholeWithin n limit z = eqb (natAbs z % 2 ^ n) 0 && leb (natAbs z / 2 ^ n) limit
 
 -- so is entry i
-unfoldable pub allowed : ℕ → ℕ → ℕ → ℤ → Bool
-allowed m n i z = wholeWithin n (entryLimit m n (cornerNumbers m n i)) z
+unfoldable pub entryAllowed : ℕ → ℕ → ℕ → ℤ → Bool
+entryAllowed m n i z = wholeWithin n (entryLimit m n (cornerNumbers m n i)) z
 
 -- 13: coefficients that no permitted corner records have
 unfoldable pub possibleOutcome : ℕ → ℕ → List ℤ → Check
-possibleOutcome m n cs = firstOf (coefficientCount m n) (λ i. refuseUnless (allowed m n i (doubledEntry m n cs i)) 13 0)
+possibleOutcome m n cs = firstOf (coefficientCount m n) (λ i. refuseUnless (entryAllowed m n i (doubledEntry m n cs i)) 13 0)
 
 -- the corner records whose coefficients these are
 unfoldable pub entryList : ℕ → ℕ → List ℤ → List ℤ

@@ -6,22 +6,22 @@ ghost use lib.Dec.{leb, eqb};
 ghost use lib.IntN.{pos};
 ghost use lib.ListN.{length};
 ghost use Rattle.lattice.specs.Outcome.{refuseUnless, first};
-ghost use Rattle.lattice.specs.Answer.{meaning};
+ghost use Rattle.lattice.specs.Answers.{outcomeOf};
 ghost use Rattle.lattice.specs.Buffer.{at, tabulate, overwrite};
 ghost use Rattle.lattice.specs.Flat.{pass};
 ghost use Rattle.lattice.specs.Shape.{ordersOf, orders, size, Shaped};
 ghost use Rattle.hermite.specs.Hermite.{endRule};
 ghost use Rattle.cell.specs.Cell.{placeAt};
-ghost use Rattle.coefficients.specs.Corners.{coefficientCount, askedOutcome, coefficientsOutcome, coefficientsWrites};
-ghost use Rattle.coefficients.specs.Blocks.{Sizes, mirror, spot, wanted, converted, Within, StartsWith, scatter, Gathered};
+ghost use Rattle.coefficients.specs.Corners.{coefficientCount, requestOutcome, coefficientsOutcome, coefficientsWrites};
+ghost use Rattle.coefficients.specs.Blocks.{Sizes, coefficientNumber, coefficientIndex, cellCoefficient, converted, AllWithin, StartsWith, scatter, Gathered};
 use cell::Layout;
-use lattice::Answer;
+use lattice::Check;
 use lattice::Shape;
 
-// The coefficient of order o, counted from end e.
-pub fn counted(m: usize, e: usize, o: usize) -> usize
+// The coefficient of order o, coefficient_number from end e.
+pub fn coefficient_number(m: usize, e: usize, o: usize) -> usize
     requires { ⌜ (m ≤ 3) × (e < 2) × (o < m) ⌝ }
-    ensures { λ r. ⌜ (r ≡ mirror m (m * e + o)) × (r < 2 * m) ⌝ }
+    ensures { λ r. ⌜ (r ≡ coefficientNumber m (m * e + o)) × (r < 2 * m) ⌝ }
 {
     if e == 0 { o } else { 2 * m - 1 - o }
 }
@@ -29,17 +29,17 @@ pub fn counted(m: usize, e: usize, o: usize) -> usize
 // Where row g of corner c stands: its coefficients' places but for their number along x.
 pub fn row_place(m: usize, c: usize, g: usize) -> usize
     requires { ⌜ (2 ≤ m) × (m ≤ 3) ⌝ }
-    ensures { λ r. ⌜ (r ≤ 252) × ((t : ℕ) → t < m → spot m c (m * g + t) ≡ r + mirror m (m * (c % 2) + t)) ⌝ }
+    ensures { λ r. ⌜ (r ≤ 252) × ((t : ℕ) → t < m → coefficientIndex m c (m * g + t) ≡ r + coefficientNumber m (m * (c % 2) + t)) ⌝ }
 {
-    let y = counted(m, c / 2 % 2, g % m);
-    let z = counted(m, c / 2 / 2 % 2, g / m % m);
+    let y = coefficient_number(m, c / 2 % 2, g % m);
+    let z = coefficient_number(m, c / 2 / 2 % 2, g / m % m);
     2 * m * (y + 2 * m * z)
 }
 
 // Three numbers from i on; a third order that is not there is 0.
 fn group_at(m: usize, xs: &[i64; 27], i: usize) -> [i64; 3]
-    requires { ⌜ (2 ≤ m) × (m ≤ 3) × (i + m ≤ 27) × Within (2 ^ 50) m (λ t. at (now xs) (i + t)) ⌝ }
-    ensures { λ r. ⌜ ((t : ℕ) → t < m → at r t ≡ at (now (xs .entry)) (i + t)) × Within (2 ^ 50) 3 (at r) ⌝ }
+    requires { ⌜ (2 ≤ m) × (m ≤ 3) × (i + m ≤ 27) × AllWithin (2 ^ 50) m (λ t. at (now xs) (i + t)) ⌝ }
+    ensures { λ r. ⌜ ((t : ℕ) → t < m → at r t ≡ at (now (xs .entry)) (i + t)) × AllWithin (2 ^ 50) 3 (at r) ⌝ }
 {
     if m == 2 {
         return [xs[i], xs[i + 1], 0];
@@ -62,7 +62,7 @@ fn put_group(m: usize, r: usize, g: usize, z: [i64; 3], zs: &mut [i64; 27])
 // One pass: the fastest axis is converted, group by group, and becomes the slowest.
 fn convert_axis(back: bool, m: usize, r: usize, high: bool, xs: &[i64; 27], zs: &mut [i64; 27])
     requires { ⌜ (2 ≤ m) × (m ≤ 3) × (m * r ≤ 27) ⌝ }
-    requires { ⌜ Within (2 ^ 50) (m * r) (at (now xs)) × (length (now zs) ≡ 27) ⌝ }
+    requires { ⌜ AllWithin (2 ^ 50) (m * r) (at (now xs)) × (length (now zs) ≡ 27) ⌝ }
     ensures { λ _. ⌜ StartsWith (m * r) (pass m r (endRule back m high) (at (now (xs .entry)))) (now (zs .exit)) ⌝ }
 {
     let mut g: usize = 0;
@@ -83,10 +83,10 @@ pub fn convert(
     xs: &mut [i64; 27],
     zs: &mut [i64; 27],
 )
-    requires { ⌜ Sizes m n r × Within (2 ^ 31) (m ^ n) (at (now xs)) ⌝ }
+    requires { ⌜ Sizes m n r × AllWithin (2 ^ 31) (m ^ n) (at (now xs)) ⌝ }
     requires { ⌜ (length (now xs) ≡ 27) × (length (now zs) ≡ 27) ⌝ }
     ensures { λ _. ⌜ StartsWith (m ^ n) (converted back m n c (at (now (xs .entry)))) (now (zs .exit)) ⌝ }
-    ensures { λ _. ⌜ (length (now (xs .exit)) ≡ 27) × Within (2 ^ 50) (m ^ n) (at (now (zs .exit))) ⌝ }
+    ensures { λ _. ⌜ (length (now (xs .exit)) ≡ 27) × AllWithin (2 ^ 50) (m ^ n) (at (now (zs .exit))) ⌝ }
 {
     convert_axis(back, m, r, c % 2 == 1, xs, zs);
     if n == 1 {
@@ -137,7 +137,7 @@ pub fn copy_out(n: usize, xs: &[i32; 216], out: &mut [i32])
 // The record that starts at `start`, to `xs`.
 fn load(size: usize, start: usize, records: &[i32], xs: &mut [i64; 27])
     requires { ⌜ (size ≤ 27) × (start + size ≤ length (now records)) × (length (now xs) ≡ 27) ⌝ }
-    ensures { λ _. ⌜ StartsWith size (λ k. at (now (records .entry)) (start + k)) (now (xs .exit)) × Within (2 ^ 31) size (at (now (xs .exit))) ⌝ }
+    ensures { λ _. ⌜ StartsWith size (λ k. at (now (records .entry)) (start + k)) (now (xs .exit)) × AllWithin (2 ^ 31) size (at (now (xs .exit))) ⌝ }
 {
     let mut k: usize = 0;
     while k < size {
@@ -148,22 +148,22 @@ fn load(size: usize, start: usize, records: &[i32], xs: &mut [i64; 27])
 
 // The coefficients of row g of corner c, each to its place.
 fn store_row(m: usize, c: usize, g: usize, zs: &[i64; 27], out: &mut [i32; 216])
-    requires { ⌜ (2 ≤ m) × (m ≤ 3) × (m * g + m ≤ 27) × Within (2 ^ 30) m (λ t. at (now zs) (m * g + t)) ⌝ }
-    requires { ⌜ ((t : ℕ) → t < m → spot m c (m * g + t) < 216) ⌝ }
-    ensures { λ _. ⌜ now (out .exit) ≡ scatter m (λ t. spot m c (m * g + t)) (λ t. at (now (zs .entry)) (m * g + t)) (now (out .entry)) ⌝ }
+    requires { ⌜ (2 ≤ m) × (m ≤ 3) × (m * g + m ≤ 27) × AllWithin (2 ^ 30) m (λ t. at (now zs) (m * g + t)) ⌝ }
+    requires { ⌜ ((t : ℕ) → t < m → coefficientIndex m c (m * g + t) < 216) ⌝ }
+    ensures { λ _. ⌜ now (out .exit) ≡ scatter m (λ t. coefficientIndex m c (m * g + t)) (λ t. at (now (zs .entry)) (m * g + t)) (now (out .entry)) ⌝ }
 {
     let p = row_place(m, c, g);
     let mut t: usize = 0;
     while t < m {
-        out[p + counted(m, c % 2, t)] = zs[m * g + t] as i32;
+        out[p + coefficient_number(m, c % 2, t)] = zs[m * g + t] as i32;
         t += 1;
     }
 }
 
 // The coefficients of corner c, row by row.
 fn store(m: usize, n: usize, r: usize, c: usize, zs: &[i64; 27], out: &mut [i32; 216])
-    requires { ⌜ Sizes m n r × (c < 2 ^ n) × Within (2 ^ 30) (m ^ n) (at (now zs)) ⌝ }
-    ensures { λ _. ⌜ now (out .exit) ≡ scatter (m ^ n) (spot m c) (at (now (zs .entry))) (now (out .entry)) ⌝ }
+    requires { ⌜ Sizes m n r × (c < 2 ^ n) × AllWithin (2 ^ 30) (m ^ n) (at (now zs)) ⌝ }
+    ensures { λ _. ⌜ now (out .exit) ≡ scatter (m ^ n) (coefficientIndex m c) (at (now (zs .entry))) (now (out .entry)) ⌝ }
 {
     let mut g: usize = 0;
     while g < r {
@@ -176,7 +176,7 @@ fn store(m: usize, n: usize, r: usize, c: usize, zs: &[i64; 27], out: &mut [i32;
 fn fill(m: usize, n: usize, r: usize, l: Layout, records: &[i32], out: &mut [i32; 216])
     requires { ⌜ Sizes m n r × Gathered m n l (now records) ⌝ }
     requires { ⌜ ((K : ℕ) → at (now out) K ≡ pos 0) × (length (now out) ≡ 216) ⌝ }
-    ensures { λ _. ⌜ ((K : ℕ) → K < coefficientCount m n → at (now (out .exit)) K ≡ wanted m n l (now (records .entry)) K) ⌝ }
+    ensures { λ _. ⌜ ((K : ℕ) → K < coefficientCount m n → at (now (out .exit)) K ≡ cellCoefficient m n l (now (records .entry)) K) ⌝ }
 {
     let corners = power(2, n);
     let mut xs = [0i64; 27];
@@ -193,7 +193,7 @@ fn fill(m: usize, n: usize, r: usize, l: Layout, records: &[i32], out: &mut [i32
 // The coefficients of a cell of n axes.
 fn cell_coefficients(n: usize, l: Layout, records: &[i32]) -> [i32; 216]
     requires { ⌜ (2 ≤ l .orders) × (l .orders ≤ 3) × (1 ≤ n) × (n ≤ 3) × Gathered (l .orders) n l (now records) ⌝ }
-    ensures { λ xs. ⌜ ((K : ℕ) → K < coefficientCount (l .orders) n → at xs K ≡ wanted (l .orders) n l (now (records .entry)) K) ⌝ }
+    ensures { λ xs. ⌜ ((K : ℕ) → K < coefficientCount (l .orders) n → at xs K ≡ cellCoefficient (l .orders) n l (now (records .entry)) K) ⌝ }
 {
     let mut xs = [0i32; 216];
     if l.orders == 2 {
@@ -205,9 +205,9 @@ fn cell_coefficients(n: usize, l: Layout, records: &[i32]) -> [i32; 216]
 }
 
 // 4 and 9.
-fn check_sizes(s: Shape, given: usize, room: usize) -> Answer
+fn check_sizes(s: Shape, given: usize, room: usize) -> Check
     requires { ⌜ Shaped s ⌝ }
-    ensures { λ r. ⌜ meaning r ≡ first (refuseUnless (eqb given (size s)) 4 0) (refuseUnless (leb (coefficientCount (orders s) (s .axes)) room) 9 0) ⌝ }
+    ensures { λ r. ⌜ outcomeOf r ≡ first (refuseUnless (eqb given (size s)) 4 0) (refuseUnless (leb (coefficientCount (orders s) (s .axes)) room) 9 0) ⌝ }
 {
     let entries = lattice::table_entries(s);
     let count = coefficient_count(s.axes, s.degree);
@@ -216,11 +216,11 @@ fn check_sizes(s: Shape, given: usize, room: usize) -> Answer
 }
 
 // 1, 2, 3, 4, 9, 14.
-fn check_asked(s: Shape, given: usize, cell: [u32; 3], room: usize) -> Answer
-    ensures { λ r. ⌜ meaning r ≡ askedOutcome s given (placeAt cell) room ⌝ }
+fn check_request(s: Shape, given: usize, cell: [u32; 3], room: usize) -> Check
+    ensures { λ r. ⌜ outcomeOf r ≡ requestOutcome s given (placeAt cell) room ⌝ }
 {
     let shape = lattice::check_shape(s);
-    if let Answer::Refused(_) = shape {
+    if let Check::Refused(_) = shape {
         return shape;
     }
     let sizes = check_sizes(s, given, room);
@@ -231,17 +231,17 @@ fn check_asked(s: Shape, given: usize, cell: [u32; 3], room: usize) -> Answer
 }
 
 // The coefficients of a cell to the front of `out`.
-pub fn coefficients(s: Shape, records: &[i32], cell: [u32; 3], out: &mut [i32]) -> Answer
-    ensures { λ r. ⌜ meaning r ≡ coefficientsOutcome s (now (records .entry)) (placeAt cell) (length (now (out .entry))) ⌝ }
+pub fn coefficients(s: Shape, records: &[i32], cell: [u32; 3], out: &mut [i32]) -> Check
+    ensures { λ r. ⌜ outcomeOf r ≡ coefficientsOutcome s (now (records .entry)) (placeAt cell) (length (now (out .entry))) ⌝ }
     ensures { λ _. ⌜ now (out .exit) ≡ coefficientsWrites s (now (records .entry)) (placeAt cell) (now (out .entry)) ⌝ }
 {
-    let asked = check_asked(s, records.len(), cell, out.len());
-    if let Answer::Refused(_) = asked {
+    let asked = check_request(s, records.len(), cell, out.len());
+    if let Check::Refused(_) = asked {
         return asked;
     }
-    let l = cell::lay_out(s, cell);
+    let l = cell::layout_of(s, cell);
     let tested = cell::check_corners(s, records, cell, l);
-    if let Answer::Refused(_) = tested {
+    if let Check::Refused(_) = tested {
         return tested;
     }
     let xs = cell_coefficients(s.axes as usize, l, records);

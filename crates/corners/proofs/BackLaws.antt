@@ -18,12 +18,12 @@ use Rattle.lattice.specs.Digits.{digit}
 use Rattle.lattice.specs.Axes.{Place}
 use Rattle.lattice.specs.Records.{totalOrder, sampleLimit, entryLimit}
 use Rattle.lattice.proofs.BufferLaws.{fill}
-use Rattle.lattice.proofs.DigitsLaws.{digit-below, low-digit}
+use Rattle.lattice.proofs.DigitsLaws.{digit-below, low-digit, next-group}
 use Rattle.lattice.proofs.OutcomeLaws.{firstOf-same, firstOf-rows}
 use Rattle.cell.specs.Cell.{limitOf, limitIn, Limits}
 use Rattle.cell.proofs.CornerLaws.{digits-total}
-use Rattle.coefficients.specs.Corners.{wholeWithin, coefficientCount, cornerNumbers, doubledEntry, allowed, possibleOutcome}
-use Rattle.coefficients.specs.Blocks.{Sizes, blockNumbers, spot, converted, scatter}
+use Rattle.coefficients.specs.Corners.{wholeWithin, coefficientCount, cornerNumbers, doubledEntry, entryAllowed, possibleOutcome}
+use Rattle.coefficients.specs.Blocks.{Sizes, blockNumbers, coefficientIndex, converted, scatter}
 use Rattle.coefficients.proofs.NumberLaws.{count-split}
 use Rattle.coefficients.proofs.BlockLaws.{orders-some}
 use Rattle.coefficients.proofs.SpotLaws.{numbers-are, entry-of, scatter-length}
@@ -31,12 +31,12 @@ use Rattle.coefficients.proofs.ConvertLaws.{converted-same, backward-block}
 use Rattle.corners.specs.Back.{Gathers, blockTest, entryOf, entryTest}
 
 -- one coefficient more
-pub gathers-more : (m c k : ℕ) (cs xs : List ℤ) (v : ℤ) → k < 27 → Gathers m c k cs xs → v ≡ at cs (spot m c k) → natAbs v ≤ 2 ^ 31 → Gathers m c (k + 1) cs (set xs k v)
+pub gathers-more : (m c k : ℕ) (cs xs : List ℤ) (v : ℤ) → k < 27 → Gathers m c k cs xs → v ≡ at cs (coefficientIndex m c k) → natAbs v ≤ 2 ^ 31 → Gathers m c (k + 1) cs (set xs k v)
 gathers-more m c k cs xs v l g e h = record {
   long = simp length-set (g .long);
-  is = fill xs k (λ j. at cs (spot m c j)) v room (g .is) e;
-  low = λ j q. subst (λ z. natAbs z ≤ 2 ^ 31) (sym (fill xs k (λ j. at cs (spot m c j)) v room (g .is) e j q))
-      (below-more (λ j. natAbs (at cs (spot m c j)) ≤ 2 ^ 31) k (λ j p. subst (λ z. natAbs z ≤ 2 ^ 31) (g .is j p) (g .low j p)) (subst (λ z. natAbs z ≤ 2 ^ 31) e h) j q);
+  is = fill xs k (λ j. at cs (coefficientIndex m c j)) v room (g .is) e;
+  low = λ j q. subst (λ z. natAbs z ≤ 2 ^ 31) (sym (fill xs k (λ j. at cs (coefficientIndex m c j)) v room (g .is) e j q))
+      (below-more (λ j. natAbs (at cs (coefficientIndex m c j)) ≤ 2 ^ 31) k (λ j p. subst (λ z. natAbs z ≤ 2 ^ 31) (g .is j p) (g .low j p)) (subst (λ z. natAbs z ≤ 2 ^ 31) e h) j q);
 }
   where
     room : k < length xs
@@ -64,14 +64,14 @@ module _ {m n r : ℕ} (ok : Sizes m n r) where
           (total-ext n (λ a. (m * digit (λ b. 2) c a + digit (λ a. m) k a) % m) (digit (λ a. m) k) (λ a l. low-digit m (digit (λ b. 2) c a) (digit (λ a. m) k a) (digit-below (λ a. m) k a some))
           ∙ digits-total m n k (ok .orders-low) (ok .orders-high) (ok .axes-low) (ok .axes-high) hk))
 
-      module _ (xs zs : ℕ → ℤ) (hx : (j : ℕ) → j < m ^ n → xs j ≡ at cs (spot m c j)) (hz : (k : ℕ) → k < m ^ n → zs k ≡ converted true m n c xs k) where
+      module _ (xs zs : ℕ → ℤ) (hx : (j : ℕ) → j < m ^ n → xs j ≡ at cs (coefficientIndex m c j)) (hz : (k : ℕ) → k < m ^ n → zs k ≡ converted true m n c xs k) where
         -- number k of the block
         doubled-is : (k : ℕ) → k < m ^ n → zs k ≡ doubledEntry m n cs (m ^ n * c + k)
         doubled-is k l =
-            hz k l ∙ converted-same true m n c (ok .orders-low) (ok .orders-high) xs (λ j. at cs (spot m c j)) hx k l ∙ backward-block m n (ok .orders-low) (ok .orders-high) (ok .axes-low) (ok .axes-high) c hc cs k l
+            hz k l ∙ converted-same true m n c (ok .orders-low) (ok .orders-high) xs (λ j. at cs (coefficientIndex m c j)) hx k l ∙ backward-block m n (ok .orders-low) (ok .orders-high) (ok .axes-low) (ok .axes-high) c hc cs k l
 
         pub tests-are : firstOf (m ^ n) (blockTest n limits zs) ≡ firstOf (m ^ n) (λ k. entryTest m n cs (m ^ n * c + k))
-        unfolding allowed
+        unfolding entryAllowed
         tests-are = firstOf-same (m ^ n) (blockTest n limits zs) (λ k. entryTest m n cs (m ^ n * c + k)) (λ k l.
             ap (λ (i : ℕ). refuseUnless (wholeWithin n i (zs k)) 13 0) (limit-is k l)
             ∙ ap (λ z. refuseUnless (wholeWithin n (entryLimit m n (cornerNumbers m n (m ^ n * c + k))) z) 13 0) (doubled-is k l))
@@ -90,10 +90,7 @@ module _ {m n r : ℕ} (ok : Sizes m n r) where
               fill (part k) (m ^ n * c + k) (entryOf m n cs) (floorDiv (zs k) (2 ^ n)) (omega arith) (part-is k (omega arith)) (ap (λ z. floorDiv z (2 ^ n)) (doubled-is k (omega arith))) i (omega arith)
 
           pub filled : (i : ℕ) → i < m ^ n * (c + 1) → at (part (m ^ n)) i ≡ entryOf m n cs i
-          filled i h = part-is (m ^ n) (le-refl (m ^ n)) i (more (m ^ n) c h)
-            where
-              more : (e c : ℕ) → i < e * (c + 1) → i < e * c + e
-              more e c h = omega arith
+          filled i h = part-is (m ^ n) (le-refl (m ^ n)) i (rw (next-group (m ^ n) c) h)
 
 -- the tests corner by corner
 pub count-is : (m n : ℕ) → coefficientCount m n ≡ m ^ n * 2 ^ n

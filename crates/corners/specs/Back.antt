@@ -8,13 +8,13 @@ use Rattle.arith.specs.Int.{floorDiv}
 use Rattle.lattice.specs.Outcome.{Check, refuseUnless}
 use Rattle.lattice.specs.Buffer.{at}
 use Rattle.cell.specs.Cell.{limitIn}
-use Rattle.coefficients.specs.Corners.{wholeWithin, allowed, doubledEntry}
-use Rattle.coefficients.specs.Blocks.{spot}
+use Rattle.coefficients.specs.Corners.{wholeWithin, entryAllowed, doubledEntry}
+use Rattle.coefficients.specs.Blocks.{coefficientIndex}
 
 -- the first k numbers are the coefficients of corner c, counted from it, each within 32 bits
 pub record Gathers (m c k : ℕ) (cs xs : List ℤ) : Type 0 where
   pub long : length xs ≡ 27
-  pub is : (j : ℕ) → j < k → at xs j ≡ at cs (spot m c j)
+  pub is : (j : ℕ) → j < k → at xs j ≡ at cs (coefficientIndex m c j)
   pub low : (j : ℕ) → j < k → natAbs (at xs j) ≤ 2 ^ 31
 
 -- the test of number k of a corner's block after back
@@ -26,4 +26,4 @@ abbrev pub entryOf : ℕ → ℕ → List ℤ → ℕ → ℤ
 entryOf m n cs i = floorDiv (doubledEntry m n cs i) (2 ^ n)
 
 abbrev pub entryTest : ℕ → ℕ → List ℤ → ℕ → Check
-entryTest m n cs i = refuseUnless (allowed m n i (doubledEntry m n cs i)) 13 0
+entryTest m n cs i = refuseUnless (entryAllowed m n i (doubledEntry m n cs i)) 13 0

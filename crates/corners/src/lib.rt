@@ -5,30 +5,30 @@ ghost use lib.Dec.{leb, eqb};
 ghost use lib.ListN.{length};
 ghost use Rattle.arith.specs.Int.{floorDiv};
 ghost use Rattle.lattice.specs.Outcome.{done, refuseUnless, first, firstOf};
-ghost use Rattle.lattice.specs.Answer.{meaning};
+ghost use Rattle.lattice.specs.Answers.{outcomeOf};
 ghost use Rattle.lattice.specs.Buffer.{at};
 ghost use Rattle.lattice.specs.Shape.{ordersOf};
 ghost use Rattle.cell.specs.Cell.{Limits};
 ghost use Rattle.coefficients.specs.Corners.{wholeWithin, coefficientCount, possibleOutcome, numbersOutcome, backOutcome, backWrites};
-ghost use Rattle.coefficients.specs.Blocks.{Sizes, spot, Within, scatter};
+ghost use Rattle.coefficients.specs.Blocks.{Sizes, coefficientIndex, AllWithin, scatter};
 ghost use Rattle.corners.specs.Back.{Gathers, blockTest, entryOf};
-use lattice::Answer;
+use lattice::Check;
 
-// The coefficients of row g of corner c, counted from it.
+// The coefficients of row g of corner c, coefficient_number from it.
 fn gather_row(m: usize, c: usize, g: usize, cs: &[i32], xs: &mut [i64; 27])
     requires { ⌜ (2 ≤ m) × (m ≤ 3) × (m * g + m ≤ 27) ⌝ }
-    requires { ⌜ ((t : ℕ) → t < m → spot m c (m * g + t) < length (now cs)) × Gathers m c (m * g) (now cs) (now xs) ⌝ }
+    requires { ⌜ ((t : ℕ) → t < m → coefficientIndex m c (m * g + t) < length (now cs)) × Gathers m c (m * g) (now cs) (now xs) ⌝ }
     ensures { λ _. ⌜ Gathers m c (m * g + m) (now (cs .entry)) (now (xs .exit)) ⌝ }
 {
     let p = coefficients::row_place(m, c, g);
     let mut t: usize = 0;
     while t < m {
-        xs[m * g + t] = cs[p + coefficients::counted(m, c % 2, t)] as i64;
+        xs[m * g + t] = cs[p + coefficients::coefficient_number(m, c % 2, t)] as i64;
         t += 1;
     }
 }
 
-// The coefficients of corner c, counted from it, row by row.
+// The coefficients of corner c, coefficient_number from it, row by row.
 fn gather(m: usize, n: usize, r: usize, c: usize, cs: &[i32], xs: &mut [i64; 27])
     requires { ⌜ Sizes m n r × (c < 2 ^ n) × (length (now cs) ≡ coefficientCount m n) × (length (now xs) ≡ 27) ⌝ }
     ensures { λ _. ⌜ Gathers m c (m ^ n) (now (cs .entry)) (now (xs .exit)) ⌝ }
@@ -58,10 +58,10 @@ fn store(
     limits: &[i32; 27],
     zs: &[i64; 27],
     out: &mut [i32; 216],
-) -> Answer
-    requires { ⌜ (n ≤ 3) × (size ≤ 27) × (c < 8) × Within (2 ^ 50) size (at (now zs)) × Limits size (now limits) ⌝ }
-    ensures { λ r. ⌜ meaning r ≡ firstOf size (blockTest n (now (limits .entry)) (at (now (zs .entry)))) ⌝ }
-    ensures { λ r. ⌜ (meaning r ≡ done tt → now (out .exit) ≡ scatter size (λ k. size * c + k) (λ k. floorDiv (at (now (zs .entry)) k) (2 ^ n)) (now (out .entry))) ⌝ }
+) -> Check
+    requires { ⌜ (n ≤ 3) × (size ≤ 27) × (c < 8) × AllWithin (2 ^ 50) size (at (now zs)) × Limits size (now limits) ⌝ }
+    ensures { λ r. ⌜ outcomeOf r ≡ firstOf size (blockTest n (now (limits .entry)) (at (now (zs .entry)))) ⌝ }
+    ensures { λ r. ⌜ (outcomeOf r ≡ done tt → now (out .exit) ≡ scatter size (λ k. size * c + k) (λ k. floorDiv (at (now (zs .entry)) k) (2 ^ n)) (now (out .entry))) ⌝ }
 {
     let first = size * c;
     let mut k: usize = 0;
@@ -74,14 +74,14 @@ fn store(
         }
         k += 1;
     }
-    Answer::Done
+    Check::Done
 }
 
 // The corner records, filled corner by corner into the front of `out`; 13 where there are none.
-fn corner_records(m: usize, n: usize, r: usize, cs: &[i32], out: &mut [i32; 216]) -> Answer
+fn corner_records(m: usize, n: usize, r: usize, cs: &[i32], out: &mut [i32; 216]) -> Check
     requires { ⌜ Sizes m n r × (length (now cs) ≡ coefficientCount m n) × (length (now out) ≡ 216) ⌝ }
-    ensures { λ r. ⌜ meaning r ≡ possibleOutcome m n (now (cs .entry)) ⌝ }
-    ensures { λ r. ⌜ (meaning r ≡ done tt → (i : ℕ) → i < coefficientCount m n → at (now (out .exit)) i ≡ entryOf m n (now (cs .entry)) i) ⌝ }
+    ensures { λ r. ⌜ outcomeOf r ≡ possibleOutcome m n (now (cs .entry)) ⌝ }
+    ensures { λ r. ⌜ (outcomeOf r ≡ done tt → (i : ℕ) → i < coefficientCount m n → at (now (out .exit)) i ≡ entryOf m n (now (cs .entry)) i) ⌝ }
 {
     let limits = cell::entry_limits(m);
     let corners = coefficients::power(2, n);
@@ -92,19 +92,19 @@ fn corner_records(m: usize, n: usize, r: usize, cs: &[i32], out: &mut [i32; 216]
         gather(m, n, r, c, cs, &mut xs);
         coefficients::convert(true, m, n, r, c, &mut xs, &mut zs);
         let one = store(n, m * r, c, &limits, &zs, out);
-        if let Answer::Refused(_) = one {
+        if let Check::Refused(_) = one {
             return one;
         }
         c += 1;
     }
-    Answer::Done
+    Check::Done
 }
 
 // The corner records of a cell of n axes with m orders on each.
-fn records_of(m: usize, n: usize, cs: &[i32], out: &mut [i32; 216]) -> Answer
+fn records_of(m: usize, n: usize, cs: &[i32], out: &mut [i32; 216]) -> Check
     requires { ⌜ (2 ≤ m) × (m ≤ 3) × (1 ≤ n) × (n ≤ 3) × (length (now cs) ≡ coefficientCount m n) × (length (now out) ≡ 216) ⌝ }
-    ensures { λ r. ⌜ meaning r ≡ possibleOutcome m n (now (cs .entry)) ⌝ }
-    ensures { λ r. ⌜ (meaning r ≡ done tt → (i : ℕ) → i < coefficientCount m n → at (now (out .exit)) i ≡ entryOf m n (now (cs .entry)) i) ⌝ }
+    ensures { λ r. ⌜ outcomeOf r ≡ possibleOutcome m n (now (cs .entry)) ⌝ }
+    ensures { λ r. ⌜ (outcomeOf r ≡ done tt → (i : ℕ) → i < coefficientCount m n → at (now (out .exit)) i ≡ entryOf m n (now (cs .entry)) i) ⌝ }
 {
     if m == 2 {
         return corner_records(2, n, coefficients::power(2, n - 1), cs, out);
@@ -113,9 +113,9 @@ fn records_of(m: usize, n: usize, cs: &[i32], out: &mut [i32; 216]) -> Answer
 }
 
 // 15 and 9.
-fn check_lengths(axes: u32, degree: u32, given: usize, room: usize) -> Answer
+fn check_lengths(axes: u32, degree: u32, given: usize, room: usize) -> Check
     requires { ⌜ (1 ≤ axes) × (axes ≤ 3) ⌝ }
-    ensures { λ r. ⌜ meaning r ≡ first (refuseUnless (eqb given (coefficientCount (ordersOf degree) axes)) 15 0) (refuseUnless (leb (coefficientCount (ordersOf degree) axes) room) 9 0) ⌝ }
+    ensures { λ r. ⌜ outcomeOf r ≡ first (refuseUnless (eqb given (coefficientCount (ordersOf degree) axes)) 15 0) (refuseUnless (leb (coefficientCount (ordersOf degree) axes) room) 9 0) ⌝ }
 {
     let count = coefficients::coefficient_count(axes, degree);
     let whole = lattice::refuse_unless(given == count, 15, 0);
@@ -123,23 +123,23 @@ fn check_lengths(axes: u32, degree: u32, given: usize, room: usize) -> Answer
 }
 
 // 1, 2, 15, 9.
-fn check_numbers(axes: u32, degree: u32, given: usize, room: usize) -> Answer
-    ensures { λ r. ⌜ meaning r ≡ numbersOutcome axes degree given room ⌝ }
+fn check_numbers(axes: u32, degree: u32, given: usize, room: usize) -> Check
+    ensures { λ r. ⌜ outcomeOf r ≡ numbersOutcome axes degree given room ⌝ }
 {
     let kind = lattice::earlier(lattice::check_axes(axes), lattice::check_degree(degree));
-    if let Answer::Refused(_) = kind {
+    if let Check::Refused(_) = kind {
         return kind;
     }
     check_lengths(axes, degree, given, room)
 }
 
 // The corner records whose coefficients these are, to the front of `out`.
-pub fn corners(axes: u32, degree: u32, coefficients: &[i32], out: &mut [i32]) -> Answer
-    ensures { λ r. ⌜ meaning r ≡ backOutcome axes degree (now (coefficients .entry)) (length (now (out .entry))) ⌝ }
+pub fn corners(axes: u32, degree: u32, coefficients: &[i32], out: &mut [i32]) -> Check
+    ensures { λ r. ⌜ outcomeOf r ≡ backOutcome axes degree (now (coefficients .entry)) (length (now (out .entry))) ⌝ }
     ensures { λ _. ⌜ now (out .exit) ≡ backWrites axes degree (now (coefficients .entry)) (now (out .entry)) ⌝ }
 {
     let asked = check_numbers(axes, degree, coefficients.len(), out.len());
-    if let Answer::Refused(_) = asked {
+    if let Check::Refused(_) = asked {
         return asked;
     }
     let mut xs = [0i32; 216];
@@ -149,7 +149,7 @@ pub fn corners(axes: u32, degree: u32, coefficients: &[i32], out: &mut [i32]) ->
         coefficients,
         &mut xs,
     );
-    if let Answer::Refused(_) = tested {
+    if let Check::Refused(_) = tested {
         return tested;
     }
     coefficients::copy_out(coefficients::coefficient_count(axes, degree), &xs, out);

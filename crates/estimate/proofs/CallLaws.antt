@@ -25,7 +25,7 @@ use Rattle.estimate.proofs.RowsLaws.{grids}
 pub estimated : (s : Shape) (xs : List ℤ) (room : ℕ) → estimateOutcome s xs room ≡ done tt → Estimable s xs room
 unfolding estimateOutcome
 estimated s xs room h =
-    let last : Check = limitOutcome sampleLimit xs in
+    let last : Check = limitOutcome 5 sampleLimit xs in
     let fits : Check = first (refuseUnless (leb (size s) room) 9 0) last in
     let a = first-done (shapeOutcome s) (first (refuseUnless (eqb (length xs) (nodes s)) 4 0) fits) tt h in
     let b = first-done (refuseUnless (eqb (length xs) (nodes s)) 4 0) fits tt (a .1) in
@@ -34,7 +34,7 @@ estimated s xs room h =
       passed = a .0;
       shape = shaped s (a .0);
       whole = eqb-true (length xs) (nodes s) (refuse-done (eqb (length xs) (nodes s)) 4 0 (b .0));
-      small = limit-each sampleLimit xs (c .1);
+      small = limit-each 5 sampleLimit xs (c .1);
       fits = leb-true (size s) room (refuse-done (leb (size s) room) 9 0 (c .0));
     }
 

@@ -6,4 +6,3 @@ pub mod RingLaws
 pub mod EntryLaws
 pub mod RowsLaws
 pub mod CallLaws
-pub mod Examples

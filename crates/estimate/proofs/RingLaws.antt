@@ -14,7 +14,7 @@ use Rattle.lattice.specs.Buffer.{at}
 use Rattle.lattice.proofs.DigitsLaws.{high-below, high-digit}
 use Rattle.estimate.specs.declared.Grid.{Grid}
 use Rattle.estimate.specs.Estimate.{left, right, NextTo}
-use Rattle.estimate.specs.Passes.{placed, since, grouped, passOf, rowStart, rowZ, rowYZ, Read, Samples, Stands, Ring}
+use Rattle.estimate.specs.Passes.{placed, since, grouped, passOf, rowStart, rowZ, rowYZ, Read, Samples, RowStands, Ring}
 use Rattle.estimate.proofs.EstimateLaws.{near-left, near-right}
 use Rattle.estimate.proofs.PlacedLaws.{placed-length, placed-off, placed-at, placed-front}
 use Rattle.estimate.proofs.PassesLaws.{row-read, row-z-high, row-yz-high, row-z-size, one-pass}
@@ -25,9 +25,9 @@ right-top {count} {i} {v} near = on-pick (λ k. v ≤ k) (ltb (suc i) count) (su
 
 -- rows u, y and v stand in a list
 pub record Three (g : Grid) (xs : List ℤ) (u y v z : ℕ) (b : List ℤ) (low mid high : ℕ) : Type 0 where
-  pub below : Stands g xs u z b low
-  pub here : Stands g xs y z b mid
-  pub above : Stands g xs v z b high
+  pub below : RowStands g xs u z b low
+  pub here : RowStands g xs y z b mid
+  pub above : RowStands g xs v z b high
 
 module _ {g : Grid} {xs : List ℤ} (ok : Samples g xs) where
   abbrev w : ℕ
@@ -37,7 +37,7 @@ module _ {g : Grid} {xs : List ℤ} (ok : Samples g xs) where
   slot v = w * (v % 3)
 
   -- a row of samples that have no orders along z
-  plain : g .mz ≡ 1 → (v z : ℕ) → v < g .cy → z < g .cz → Stands g xs v z xs (rowStart g v z)
+  plain : g .mz ≡ 1 → (v z : ℕ) → v < g .cy → z < g .cz → RowStands g xs v z xs (rowStart g v z)
   unfolding rowZ rowStart
   plain e v z i l =
       record {
@@ -51,12 +51,12 @@ module _ {g : Grid} {xs : List ℤ} (ok : Samples g xs) where
   slot-in v = let s : v % 3 + 1 ≤ 3 = omega arith in omega (arith, mul-le-mul (row-z-high g (ok .grid)) s)
 
   module _ (v z : ℕ) (b next : List ℤ) (long : length b ≡ 576) (e : next ≡ placed (slot v) w (rowZ g xs v z) b) where
-    added : Stands g xs v z next (slot v)
+    added : RowStands g xs v z next (slot v)
     added =
         let l : slot v + w ≤ length b = omega (arith, slot-in v) in
         rw e (record { inside = rw placed-length l; same = λ t i. placed-at (slot v) w (rowZ g xs v z) b t i l })
 
-    kept : (u : ℕ) → u < v → v ≤ u + 2 → Stands g xs u z b (slot u) → Stands g xs u z next (slot u)
+    kept : (u : ℕ) → u < v → v ≤ u + 2 → RowStands g xs u z b (slot u) → RowStands g xs u z next (slot u)
     kept u l h s =
         rw e
         (record {
@@ -75,7 +75,7 @@ module _ {g : Grid} {xs : List ℤ} (ok : Samples g xs) where
 
   -- ---- row y and its neighbours
 
-  read : {i z k : ℕ} {b : List ℤ} → Stands g xs i z b k → Read b k w
+  read : {i z k : ℕ} {b : List ℤ} → RowStands g xs i z b k → Read b k w
   read {i} {z} s = record { inside = s .inside; small = λ t l. rw (s .same t l) (le-trans (row-z-size g xs i z t ok) (omega arith)) }
 
   pub reads : {u y v z low mid high : ℕ} {b : List ℤ} → Three g xs u y v z b low mid high → Read b low w × Read b mid w × Read b high w
@@ -98,7 +98,7 @@ module _ {g : Grid} {xs : List ℤ} (ok : Samples g xs) where
 
     -- in the ring they stand once the upper one is added
     module _ (in-y : y < g .cy) (some : g .mz ≡ 1 → ⊥) {b next : List ℤ} (long : length b ≡ 576) (ring : Ring g xs y z b) (e : next ≡ placed (slot v) w (rowZ g xs v z) b) where
-      stand : (i : ℕ) → NextTo (g .cy) y i → Stands g xs i z next (slot i)
+      stand : (i : ℕ) → NextTo (g .cy) y i → RowStands g xs i z next (slot i)
       stand i near =
           let h = rw (← high-is) at (near-right (g .cy) y in-y) in
           ⊎-elim (λ (d : i ≡ v). rw d (added v z b next long e))

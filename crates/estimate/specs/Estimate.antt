@@ -54,7 +54,7 @@ recordsOf s xs = tabulate (size s) (λ i. tableRecords s xs (entryPlace s i))
 unfoldable pub estimateOutcome : Shape → List ℤ → ℕ → Check
 estimateOutcome s xs room =
     first (shapeOutcome s)
-    (first (refuseUnless (eqb (length xs) (nodes s)) 4 0) (first (refuseUnless (leb (size s) room) 9 0) (limitOutcome sampleLimit xs)))
+    (first (refuseUnless (eqb (length xs) (nodes s)) 4 0) (first (refuseUnless (leb (size s) room) 9 0) (limitOutcome 5 sampleLimit xs)))
 
 -- what the records slice holds afterwards
 unfoldable pub estimateWrites : Shape → List ℤ → List ℤ → List ℤ

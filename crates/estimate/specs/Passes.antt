@@ -117,10 +117,10 @@ pub record Samples (g : Grid) (xs : List ℤ) : Type 0 where
   pub small : (i : ℕ) → natAbs (at xs i) ≤ sampleLimit
 
 -- row v of plane z, worked off along z, stands in a list from index k on
-pub record Stands (g : Grid) (xs : List ℤ) (v z : ℕ) (b : List ℤ) (k : ℕ) : Type 0 where
+pub record RowStands (g : Grid) (xs : List ℤ) (v z : ℕ) (b : List ℤ) (k : ℕ) : Type 0 where
   pub inside : k + g .mz * g .cx ≤ length b
   pub same : (t : ℕ) → t < g .mz * g .cx → since b k t ≡ rowZ g xs v z t
 
 -- on three axes row y and the row below it stand in the ring, each at its number's slot
 abbrev pub Ring : Grid → List ℤ → ℕ → ℕ → List ℤ → Type 0
-Ring g xs y z b = (g .mz ≡ 1 → ⊥) → (v : ℕ) → y ≤ v + 1 → v ≤ y → v < g .cy → Stands g xs v z b (g .mz * g .cx * (v % 3))
+Ring g xs y z b = (g .mz ≡ 1 → ⊥) → (v : ℕ) → y ≤ v + 1 → v ≤ y → v < g .cy → RowStands g xs v z b (g .mz * g .cx * (v % 3))

@@ -3,11 +3,11 @@ ghost use mathlib.Core.Path.{_≡_};
 ghost use Prim.Native.Nat.{ℕ, _+_, _*_, _<_, _≤_};
 ghost use lib.IntN.{natAbs};
 ghost use lib.ListN.{length};
-ghost use Rattle.lattice.specs.Answer.{meaning};
+ghost use Rattle.lattice.specs.Answers.{outcomeOf};
 ghost use Rattle.lattice.specs.Buffer.{at, overwrite};
 ghost use Rattle.estimate.specs.Estimate.{left, right, byOrder, recordsOf, estimateOutcome, estimateWrites, Estimable};
 ghost use Rattle.estimate.specs.Passes.{passLimit, placed, since, passOf, ordersOn, gridOf, rowStart, rowZ, rowYZ, rowSize, rowOf, planeSize, planeOf, planesOf, OrderCount, Read, Grids, Samples, Ring};
-use lattice::Answer;
+use lattice::Check;
 use lattice::Shape;
 
 // The node counts, and the numbers that a record holds along each axis: 1 along an unused one.
@@ -204,29 +204,35 @@ fn fill_records(s: Shape, samples: &[i32], records: &mut [i32])
     }
 }
 
-// Every refusal of estimation: 1, 2, 3, then 4, 9, 5.
-fn check_estimate(s: Shape, samples: &[i32], room: usize) -> Answer
-    ensures { λ r. ⌜ meaning r ≡ estimateOutcome s (now (samples .entry)) room ⌝ }
+// Every refusal of estimation: 1, 2, 3, then 4, 9, 5. No sample is read before the lengths are right.
+fn check_estimate(s: Shape, samples: &[i32], room: usize) -> Check
+    ensures { λ r. ⌜ outcomeOf r ≡ estimateOutcome s (now (samples .entry)) room ⌝ }
 {
     let shape = lattice::check_shape(s);
-    match shape {
-        Answer::Refused(_) => shape,
-        Answer::Done => {
-            let counted = lattice::refuse_unless(samples.len() == lattice::node_count(s), 4, 0);
-            let roomy = lattice::refuse_unless(lattice::table_entries(s) <= room, 9, 0);
-            let limited = lattice::check_limit(samples, 32768);
-            lattice::earlier(counted, lattice::earlier(roomy, limited))
-        }
+    if let Check::Refused(_) = shape {
+        return shape;
     }
+    let given = samples.len();
+    let nodes = lattice::node_count(s);
+    let entries = lattice::table_entries(s);
+    let counted = lattice::refuse_unless(given == nodes, 4, 0);
+    if let Check::Refused(_) = counted {
+        return counted;
+    }
+    let roomy = lattice::refuse_unless(entries <= room, 9, 0);
+    if let Check::Refused(_) = roomy {
+        return roomy;
+    }
+    lattice::check_limit(samples, lattice::SAMPLE_LIMIT, 5)
 }
 
 // Estimation: all records of a table from its samples.
-pub fn estimate(s: Shape, samples: &[i32], records: &mut [i32]) -> Answer
-    ensures answer { λ r. ⌜ meaning r ≡ estimateOutcome s (now (samples .entry)) (length (now (records .entry))) ⌝ }
+pub fn estimate(s: Shape, samples: &[i32], records: &mut [i32]) -> Check
+    ensures answer { λ r. ⌜ outcomeOf r ≡ estimateOutcome s (now (samples .entry)) (length (now (records .entry))) ⌝ }
     ensures written { λ r. ⌜ now (records .exit) ≡ estimateWrites s (now (samples .entry)) (now (records .entry)) ⌝ }
 {
     let answer = check_estimate(s, samples, records.len());
-    if let Answer::Done = answer {
+    if let Check::Done = answer {
         fill_records(s, samples, records);
     }
     answer

@@ -2,39 +2,59 @@
 use mathlib.Core.Path.{_≡_, refl, sym, ap, subst, _∙_, fun-ext}
 use mathlib.Core.Bool.{Bool, true, false}
 use mathlib.Core.List.{List, [], _∷_}
-use Prim.Native.Nat.{ℕ, _*_, _≤_, _<_}
+use Prim.Native.Nat.{ℕ, zero, suc, _*_, _≤_, _<_}
 use native.Mathlib.Omega.{arith}
 use native.Mathlib.Decide.{ℕ-discrete}
-use lib.Dec.{eqb}
+use lib.Dec.{eqb, lit≤}
 use lib.IntN.{ℤ, pos, _*ℤ_}
 use borrow.Author.Tests.{ne-eqb, eq-eqb}
 use Rattle.arith.specs.Int.{Rounding}
+use Rattle.arith.specs.Choice.{pick}
 use Rattle.arith.proofs.Choices.{pick-true, pick-false}
 use Rattle.lattice.specs.Axes.{Place, Field, origin, put, along, sweep, axes, without}
 use Rattle.lattice.proofs.Along.{put-at, put-off, Each, each-axes, each-without, Fresh, Distinct, distinct-axes, distinct-without, fresh-out, fresh-back}
 use Rattle.lattice.proofs.Local.{Depends, linear-depends, sweep-local, used, OnAxis, on-used}
-use Rattle.hermite.specs.Hermite.{value, slope, kindOf, stageSum}
+use Rattle.hermite.specs.Hermite.{stageSum}
+use Rattle.hermite.specs.Stage.{Smooth}
 use Rattle.hermite.proofs.HermiteLaws.{stage-linear}
 use Rattle.cell.specs.Cell.{AtEnds, InCorners}
-use Rattle.evaluate.specs.Evaluate.{Want, dose, slopeAlong, Ask, kindOn, lastAxis, divisorOn, stageOn, toEighth, toUnit, inEighths, before, answerBy}
-use Rattle.evaluate.specs.Wants.{wantOf}
+use Rattle.evaluate.specs.Evaluate.{Want, dose, slopeAlong, Ask, orderOn, lastAxis, divisorOn, stageOn, toEighth, toUnit, inEighths, before, answerBy}
+use Rattle.evaluate.specs.Wants.{wantOf, orderOf}
 
--- an axis before the last has the weights of a value
-pub kind-before : (w : Want) (a n : ℕ) → (a ≡ lastAxis n w → ⊥) → kindOn w a ≡ value
-unfolding kindOn lastAxis
-kind-before dose a n h = refl
-kind-before (slopeAlong l) a n h = pick-false (eqb a l) slope value (ne-eqb a l h)
+-- on an axis before the last no derivative is taken
+pub order-before : (w : Want) (a n : ℕ) → (a ≡ lastAxis n w → ⊥) → orderOn w a ≡ 0
+unfolding orderOn lastAxis
+order-before dose a n h = refl
+order-before (slopeAlong l) a n h = pick-false (eqb a l) 1 0 (ne-eqb a l h)
 
--- a slope's axis has those of a slope
-pub kind-slope : (l n : ℕ) → kindOn (slopeAlong l) (lastAxis n (slopeAlong l)) ≡ slope
-unfolding kindOn lastAxis
-kind-slope l n = pick-true (eqb l l) slope value (eq-eqb l l refl)
+-- on a slope's axis the first
+pub order-slope : (l n : ℕ) → orderOn (slopeAlong l) (lastAxis n (slopeAlong l)) ≡ 1
+unfolding orderOn lastAxis
+order-slope l n = pick-true (eqb l l) 1 0 (eq-eqb l l refl)
 
--- and so it is by whether it is a slope
-pub kind-last : (b : Bool) (a n : ℕ) → kindOf b ≡ kindOn (wantOf b a) (lastAxis n (wantOf b a))
-unfolding kindOf kindOn
-kind-last true a n = sym (kind-slope a n)
-kind-last false a n = refl
+-- and so it is by the order that the code is given
+pub order-last : (order a n : ℕ) → orderOf order ≡ orderOn (wantOf order a) (lastAxis n (wantOf order a))
+unfolding orderOn
+order-last zero a n = refl
+order-last (suc order) a n = sym (order-slope a n)
+
+-- any order but 0 is that of a slope
+pub order-some : (order : ℕ) → (order ≡ 0 → ⊥) → orderOf order ≡ 1
+order-some zero h = absurd (h refl)
+order-some (suc order) h = refl
+
+pub want-some : (order a : ℕ) → (order ≡ 0 → ⊥) → wantOf order a ≡ slopeAlong a
+want-some zero a h = absurd (h refl)
+want-some (suc order) a h = refl
+
+pub order-smooth : (w : Want) (a m : ℕ) → Smooth (orderOn w a) m
+unfolding orderOn pick
+order-smooth dose a m = lit≤ tt
+order-smooth (slopeAlong l) a m = one (eqb a l)
+  where
+    one : (b : Bool) → pick b 1 0 ≤ 1
+    one true = lit≤ tt
+    one false = lit≤ tt
 
 -- ---- the axes before the last
 
@@ -67,7 +87,7 @@ module _ (round : Rounding) (q : Ask) where
   stage-depends : (a : ℕ) → a < q .n → Depends (stageOn q a) (Any a) (Ends a)
   unfolding stageOn stage-linear Ends
   stage-depends a l =
-      linear-depends (stage-linear (kindOn (q .want) a) (q .m) (q .N) (q .cell a) (q .step a))
+      linear-depends (stage-linear (orderOn (q .want) a) (q .m) (q .N a) (q .cell a) (q .step a))
       (λ j t e k. (λ h. record { low = omega arith; high = omega arith }, λ h. absurd (not-both l h)))
     where
       not-both : {a n : ℕ} → a < n → n ≤ a → ⊥

@@ -14,12 +14,12 @@ use lib.Signed.{mag}
 use mir.Syntax.{w32, w64}
 use mir.Val.{SFits, toZ, ofZ}
 use mir.Facts.{toZ-ofZ}
-use Rattle.arith.specs.Int.{roundHalfUp}
+use Rattle.arith.specs.Int.{Rounding}
 use Rattle.arith.proofs.Abs.{abs-mul, sfits-abs}
 use Rattle.arith.proofs.Machine.{read}
 use Rattle.arith.proofs.Choices.{pick-true, by-m, by-3}
 use borrow.Author.Tests.{lt-ltb}
-use Rattle.arith.proofs.Round.{half-up-nearly}
+use Rattle.arith.proofs.Round.{Sound}
 use Rattle.lattice.specs.declared.Shape.{Shape}
 use Rattle.lattice.specs.Buffer.{at}
 use Rattle.lattice.specs.Shape.{orders, Shaped}
@@ -27,20 +27,20 @@ use Rattle.lattice.specs.Axes.{Place, put, axes, without}
 use Rattle.lattice.specs.Records.{totalOrder, entryLimit, entryIndex, recordsField}
 use Rattle.lattice.proofs.Along.{Each, Fresh, Distinct}
 use Rattle.lattice.proofs.ShapeLaws.{orders-range}
-use Rattle.hermite.specs.Hermite.{kindOf, Kind, value, divisor}
-use Rattle.hermite.specs.Stage.{steps, worth}
+use Rattle.hermite.specs.Hermite.{steps, divisor}
+use Rattle.hermite.specs.Stage.{Smooth, Folds, eighthsIn, shiftOf}
 use Rattle.hermite.proofs.StageLaws.{worth-some, shifted, stage-fits}
-use Rattle.cell.specs.Cell.{Accepted, InCorners, offset, placeAt, Laid, base, far, near}
+use Rattle.cell.specs.Cell.{Accepted, InCorners, offset, placeAt, Laid, base, nodeStride, orderStride}
 use Rattle.cell.proofs.CellLaws.{Numbers, placed, entry-at, entry-below}
 use Rattle.cell.proofs.CornerLaws.{corners-within}
 use Rattle.evaluate.specs.declared.Axis.{Axis}
-use Rattle.evaluate.specs.Evaluate.{Want, Ask, askAt, kindOn, lastAxis, before, answer}
+use Rattle.evaluate.specs.Evaluate.{Want, Ask, askAt, orderOn, lastAxis, before, answerBy}
 use Rattle.evaluate.specs.Wants.{wantOf}
-use Rattle.evaluate.specs.Stages.{after, numbersAt, also, stridesOf, Prepared, AllPrepared, Safe, Made, later, AllMade, AllSteps, Workable, WorkedOff, Ready}
-use Rattle.evaluate.proofs.AnswerLaws.{distinct-before, fresh-before}
-use Rattle.evaluate.proofs.EndLaws.{offset-low, offset-high, number-at}
-use Rattle.evaluate.proofs.Sizes.{noughts, orders-left, cap, Plain, reads-size, plain-before, answer-small}
-use Rattle.evaluate.proofs.ByIndex.{Holds, offset-is, counts, AllHeld, Left, index, index-put, placed-put, left-put, got, after-is, index-base, nought, answer-is}
+use Rattle.evaluate.specs.Stages.{after, numbersAt, also, stridesOf, Safe, Made, later, AllMade, AllSteps, Workable, WorkedOff, Ready}
+use Rattle.evaluate.proofs.AnswerLaws.{order-smooth, distinct-before, fresh-before}
+use Rattle.evaluate.proofs.EndLaws.{number-at}
+use Rattle.evaluate.proofs.Sizes.{noughts, orders-left, cap, Plain, reads-size, plain-before, answer-below}
+use Rattle.evaluate.proofs.ByIndex.{Holds, low-at, high-at, lows, highs, counts, AllHeld, Left, index, index-put, placed-put, left-put, got, after-is, index-base, nought, answer-is}
 use mathlib.Core.Bool.{Bool, true, false}
 use Rattle.cell.specs.declared.Layout.{Layout}
 use Rattle.evaluate.specs.declared.Strides.{Strides}
@@ -103,8 +103,8 @@ placed-corners s cell t here h =
 -- the strides of axis a
 pub record IsAxis (s : Shape) (step : Place) (a : ℕ) (v : Strides) : Type 0 where
   pub step-is : v .step ≡ step a
-  pub far-is : v .far ≡ far s a
-  pub near-is : v .near ≡ near s a
+  pub node-is : v .node ≡ nodeStride s a
+  pub order-is : v .order ≡ orderStride s a
 
 -- those of a list of axes
 abbrev pub AreAxes : Shape → Place → List ℕ → List Strides → Type 0
@@ -114,38 +114,48 @@ AreAxes s step (a ∷ ls) [] = ⊥
 AreAxes s step (a ∷ ls) (v ∷ vs) = IsAxis s step a v × AreAxes s step ls vs
 
 -- numbers count 8 eighths before the first stage and 1 after it
-later-counts : (s : Shape) (step : Place) (ls : List ℕ) (vs : List Strides) → AreAxes s step ls vs → worth (later vs) ≡ counts ls
-unfolding worth
+later-counts : (s : Shape) (step : Place) (ls : List ℕ) (vs : List Strides) → AreAxes s step ls vs → eighthsIn (later vs) ≡ counts ls
+unfolding eighthsIn
 later-counts s step [] [] h = refl
 later-counts s step [] (v ∷ vs) h = absurd h
 later-counts s step (a ∷ ls) [] h = absurd h
 later-counts s step (a ∷ ls) (v ∷ vs) h = refl
 
-held : {s : Shape} {want : Want} {step : Place} {a : ℕ} (slope from to : Bool) {v : Strides} {x : Axis} → kindOf slope ≡ kindOn want a → IsAxis s step a v
-    → Made (orders s) slope from to v x → Holds s want step (worth from) (worth to) a x
-held {s} slope from to {v} {x} k i h =
-    let f = shifted slope from to (orders s) (h .prepared .folds .m-low) (h .prepared .folds .m-high) in
+held : {s : Shape} {want : Want} {step : Place} {a : ℕ} (order : ℕ) (from to : Bool) {v : Strides} {x : Axis} → order ≡ orderOn want a → IsAxis s step a v
+    → Made (orders s) order from to v x → Holds s want step (eighthsIn from) (eighthsIn to) a (x .shift) x
+held {s} {want} {step} {a} order from to {v} {x} k i h =
+    let f = shifted order (orders s) from to (h .folds .smooth) (h .folds .m-low) (h .folds .m-high) in
     record {
-      kind-is = ap kindOf (h .slope-is) ∙ k;
-      step-is = h .step-is ∙ i .step-is;
-      far-is = h .far-is ∙ i .far-is;
-      near-is = h .near-is ∙ i .near-is;
+      folds = subst (λ (u : ℕ). Folds (orderOn want a) (orders s) u (x .basis)) (i .step-is) (subst (λ (k : ℕ). Folds k (orders s) (v .step) (x .basis)) k (h .folds));
+      node-is = h .node-is ∙ i .node-is;
+      order-is = h .order-is ∙ i .order-is;
       some = worth-some from;
-      shift-is = ap (λ (n : ℕ). 2 ^ (n + 1) * worth from) (h .shift-is) ∙ f .is ∙ ap (λ (k : Kind). divisor k (orders s) steps * worth to) k;
+      shift-is = ap (λ (n : ℕ). 2 ^ (n + 1) * eighthsIn from) (h .shift-is) ∙ f .is ∙ ap (λ (k : ℕ). divisor k (orders s) steps * eighthsIn to) k;
     }
 
-all-held : (s : Shape) (want : Want) (step : Place) (ls : List ℕ) (vs : List Strides) (xs : List Axis) → AreAxes s step ls vs → Each (λ a. kindOn want a ≡ value) ls
+-- a stage for each axis
+later-same : (m : ℕ) (vs : List Strides) (xs : List Axis) → AllMade m vs xs → later vs ≡ later xs
+later-same m [] [] h = refl
+later-same m [] (x ∷ xs) h = absurd h
+later-same m (v ∷ vs) [] h = absurd h
+later-same m (v ∷ vs) (x ∷ xs) h = refl
+
+all-held : (s : Shape) (want : Want) (step : Place) (ls : List ℕ) (vs : List Strides) (xs : List Axis) → AreAxes s step ls vs → Each (λ a. orderOn want a ≡ 0) ls
     → AllMade (orders s) vs xs → AllHeld s want step ls xs
-unfolding worth kindOf
+unfolding eighthsIn
 all-held s want step [] [] [] i k h = tt
 all-held s want step [] [] (x ∷ xs) i k h = absurd h
 all-held s want step [] (v ∷ vs) xs i k h = absurd i
 all-held s want step (a ∷ ls) [] xs i k h = absurd i
 all-held s want step (a ∷ ls) (v ∷ vs) [] i k h = absurd h
-all-held s want step (a ∷ ls) (v ∷ vs) (x ∷ xs) i k h =
-    (subst (λ (c : ℕ). Holds s want step c 1 a x) (later-counts s step ls vs (i .1)) (held false (later vs) true (sym (k .0)) (i .0) (h .0)), all-held s want step ls vs xs (i .1) (k .1) (h .1))
+all-held s want step (a ∷ ls) (v ∷ vs) (x ∷ xs) i k h = (
+  subst (λ (n : ℕ). Holds s want step (counts ls) 1 a n x)
+      (h .0 .shift-is ∙ ap (λ (b : Bool). shiftOf 0 (orders s) b true) (later-same (orders s) vs xs (h .1)))
+      (subst (λ (c : ℕ). Holds s want step c 1 a (x .shift) x) (later-counts s step ls vs (i .1)) (held 0 (later vs) true (sym (k .0)) (i .0) (h .0))),
+  all-held s want step ls vs xs (i .1) (k .1) (h .1),
+)
 
-module _ (s : Shape) (rs : List ℤ) (cell step : Place) (want : Want) (l : Layout) (ready : Ready s rs cell step want l) where
+module _ {round : Rounding} (sound : Sound round) (s : Shape) (rs : List ℤ) (cell step : Place) (want : Want) (l : Layout) (ready : Ready s rs cell step want l) where
   abbrev m : ℕ
   m = orders s
 
@@ -166,7 +176,10 @@ module _ (s : Shape) (rs : List ℤ) (cell step : Place) (want : Want) (l : Layo
   m3 = orders-range (s .degree) .1
 
   abbrev q : Ask
-  q = record { m = m; n = s .axes; N = steps; want = want; cell = cell; step = step }
+  q = record { m = m; n = s .axes; want = want; N = λ a. steps; cell = cell; step = step }
+
+  pub some : (a : ℕ) → 0 < q .N a
+  some a = lit≤ tt
 
   pub limited : (p : Place) → InCorners m (s .axes) cell p → natAbs (recordsField s rs p) ≤ entryLimit m (s .axes) p
   limited p h =
@@ -174,10 +187,10 @@ module _ (s : Shape) (rs : List ℤ) (cell step : Place) (want : Want) (l : Layo
       subst (λ (p : Place). natAbs (recordsField s rs p) ≤ entryLimit m (s .axes) p) (sym (n .1)) (corners-within s rs cell (ready .corners) ok here (λ a. p a - m * cell a) (n .0))
 
   abbrev pub PlainHere : ℕ → Type 0
-  PlainHere = Plain roundHalfUp half-up-nearly q m2 m3 (lit≤ tt) (recordsField s rs) limited
+  PlainHere = Plain round sound q m2 m3 some (recordsField s rs) limited
 
   -- one more stage, of axis a
-  module _ (a to : ℕ) (ls : List ℕ) (x : Axis) (xs : List Axis) (hx : Holds s want step (counts ls) to a x) (fx : Prepared m x) (hs : AllHeld s want step ls xs)
+  module _ (a to k : ℕ) (ls : List ℕ) (x : Axis) (xs : List Axis) (hx : Holds s want step (counts ls) to a k x) (hs : AllHeld s want step ls xs)
       (fresh : Fresh a ls) (used : a < s .axes) (d : Distinct ls) (plains : Each PlainHere ls) (t : Place) (left : Left s (a ∷ ls) t) where
     below-all : (ms : List ℕ) → Each PlainHere ms → Each (λ a. a < s .axes) ms
     below-all [] h = tt
@@ -189,19 +202,19 @@ module _ (s : Shape) (rs : List ℤ) (cell step : Place) (want : Want) (l : Layo
     abbrev order : ℕ
     order = totalOrder m (s .axes) (noughts ls (put a 0 (placed s cell t)))
 
-    number-size : (u : ℕ) → u < 2 * m → natAbs (after m xs (at rs) (place t + offset s a u)) ≤ capOf ls * 2 ^ order * 2 ^ (u % m)
+    number-size : (u : ℕ) → u < 2 * m → natAbs (after round m xs (at rs) (place t + offset s a u)) ≤ capOf ls * 2 ^ order * 2 ^ (u % m)
     unfolding askAt
     number-size u l =
-        counted (counts ls) (natAbs (after m xs (at rs) (place t + offset s a u))) (cap (length ls)) (capOf ls) (2 ^ order) (2 ^ (u % m)) (hx .some)
-        (le-trans (le-of-eq (sym (ap natAbs value ∙ abs-mul (pos (counts ls)) (after m xs (at rs) (place t + offset s a u)))))
-        (reads-size roundHalfUp half-up-nearly q m2 m3 (lit≤ tt) (recordsField s rs) limited ls d plains a fresh used (placed s cell t) (placed-corners s cell t here (left .numbers)) u l))
+        counted (counts ls) (natAbs (after round m xs (at rs) (place t + offset s a u))) (cap (length ls)) (capOf ls) (2 ^ order) (2 ^ (u % m)) (hx .some)
+        (le-trans (le-of-eq (sym (ap natAbs value ∙ abs-mul (pos (counts ls)) (after round m xs (at rs) (place t + offset s a u)))))
+        (reads-size round sound q m2 m3 some (recordsField s rs) limited ls d plains a fresh used (placed s cell t) (placed-corners s cell t here (left .numbers)) u l))
         (cap-is ls)
       where
-        value : got s ok cell here rs want step ls (put a (m * cell a + u) (placed s cell t)) ≡ pos (counts ls) *ℤ after m xs (at rs) (place t + offset s a u)
+        value : got s ok cell here sound rs want step ls (put a (m * cell a + u) (placed s cell t)) ≡ pos (counts ls) *ℤ after round m xs (at rs) (place t + offset s a u)
         value =
-            ap (got s ok cell here rs want step ls) (placed-put s ok cell here a u t)
-            ∙ after-is s ok cell here rs want step ls xs hs d (below-all ls plains) (put a u t) (left-put s ok cell here a ls u t fresh used l left)
-            ∙ ap (λ (i : ℕ). pos (counts ls) *ℤ after m xs (at rs) i) (index-put s ok cell here a u t (axis-low (ok .axes-high)) (left .worked-off .0))
+            ap (got s ok cell here sound rs want step ls) (placed-put s ok cell here a u t)
+            ∙ after-is s ok cell here sound rs want step ls xs hs d (below-all ls plains) (put a u t) (left-put s ok cell here a ls u t fresh used l left)
+            ∙ ap (λ (i : ℕ). pos (counts ls) *ℤ after round m xs (at rs) i) (index-put s ok cell here a u t (axis-low (ok .axes-high)) (left .worked-off .0))
 
     small : capOf ls * 2 ^ order ≤ 2 ^ 21
     unfolding noughts
@@ -209,38 +222,44 @@ module _ (s : Shape) (rs : List ℤ) (cell step : Place) (want : Want) (l : Layo
         let h = few-orders m (s .axes) (length ls) order m2 m3 (ok .axes-high) (orders-left m (s .axes) m2 (a ∷ ls) (fresh, d) (used, below-all ls plains) (placed s cell t)) in
         small-cap ls order (h .0) (h .1)
 
-    -- a number of the low and of the high end
-    low-size : (o : ℕ) → o < m → natAbs (numbersAt m (after m xs (at rs)) (place t) (x .near) o) ≤ capOf ls * 2 ^ order * 2 ^ o
-    low-size o l =
-        subst (λ (i : ℕ). natAbs (numbersAt m (after m xs (at rs)) (place t) (x .near) o) ≤ capOf ls * 2 ^ order * 2 ^ i) (mod-eq-of-lt l)
-        (le-trans (le-of-eq (ap natAbs (number-at m (after m xs (at rs)) (place t) (x .near) o l
-        ∙ ap (λ (i : ℕ). after m xs (at rs) (place t + i)) (sym (offset-low m (x .near) (x .far) o l) ∙ offset-is hx o))))
-        (number-size o (omega arith)))
+    -- the numbers of the two ends
+    abbrev number : ℕ → ℤ
+    number = after round m xs (at rs)
 
-    high-size : (o : ℕ) → o < m → natAbs (numbersAt m (after m xs (at rs)) (place t + x .far) (x .near) o) ≤ capOf ls * 2 ^ order * 2 ^ o
-    high-size o l =
-        subst (λ (i : ℕ). natAbs (numbersAt m (after m xs (at rs)) (place t + x .far) (x .near) o) ≤ capOf ls * 2 ^ order * 2 ^ i) (add-mod-left m o ∙ mod-eq-of-lt l)
-        (le-trans (le-of-eq (ap natAbs (number-at m (after m xs (at rs)) (place t + x .far) (x .near) o l
-        ∙ ap (after m xs (at rs)) (assoc (place t) (x .far) (o * x .near))
-        ∙ ap (λ (i : ℕ). after m xs (at rs) (place t + i)) (sym (offset-high m (x .near) (x .far) o l) ∙ offset-is hx (m + o)))))
-        (number-size (m + o) (omega arith)))
+    end-low : (o : ℕ) → o < m → numbersAt m number (place t) (x .order) o ≡ number (place t + offset s a o)
+    end-low o l = number-at m number (place t) (x .order) o l ∙ lows hx number (place t) o l
+
+    end-high : (o : ℕ) → o < m → numbersAt m number (place t + x .node) (x .order) o ≡ number (place t + offset s a (m + o))
+    end-high o l = number-at m number (place t + x .node) (x .order) o l ∙ highs hx number (place t) o l
+
+    pub safe-more : ((t : Place) → Left s ls t → Safe round m (length rs) xs (at rs) (place t)) → Safe round m (length rs) (x ∷ xs) (at rs) (place t)
+    safe-more rest = (
+      λ o l. (
+        subst (λ (i : ℕ). Safe round m (length rs) xs (at rs) (place t + i)) (low-at hx o l) (moved o (omega arith)),
+        subst (Safe round m (length rs) xs (at rs)) (ap (λ (i : ℕ). place t + i) (high-at hx o l) ∙ assoc (place t) (x .node) (o * x .order)) (moved (m + o) (omega arith)),
+      ),
+      stage-fits (hx .folds) (numbersAt m number (place t) (x .order)) (numbersAt m number (place t + x .node) (x .order)) (λ u. number (place t + offset s a u)) end-low end-high
+          (capOf ls * 2 ^ order) number-size small,
+    )
       where
-        assoc : (i f n : ℕ) → i + f + n ≡ i + (f + n)
+        moved : (u : ℕ) → u < 2 * m → Safe round m (length rs) xs (at rs) (place t + offset s a u)
+        moved u l =
+            subst (Safe round m (length rs) xs (at rs)) (index-put s ok cell here a u t (axis-low (ok .axes-high)) (left .worked-off .0))
+            (rest (put a u t) (left-put s ok cell here a ls u t fresh used l left))
+
+        assoc : (i f n : ℕ) → i + (f + n) ≡ i + f + n
         assoc i f n = omega arith
 
-    pub safe-more : ((t : Place) → Left s ls t → Safe m (length rs) xs (at rs) (place t)) → Safe m (length rs) (x ∷ xs) (at rs) (place t)
-    safe-more rest = (
-      λ u l. subst (Safe m (length rs) xs (at rs)) (index-put s ok cell here a u t (axis-low (ok .axes-high)) (left .worked-off .0) ∙ ap (λ (i : ℕ). place t + i) (sym (offset-is hx u)))
-          (rest (put a u t) (left-put s ok cell here a ls u t fresh used l left)),
-      stage-fits (kindOf (x .slope)) m (x .step) (x .basis) (fx .folds) (numbersAt m (after m xs (at rs)) (place t) (x .near)) (numbersAt m (after m xs (at rs)) (place t + x .far) (x .near)) (capOf ls * 2 ^ order) low-size high-size small,
-    )
-
-  pub safe : (ls : List ℕ) (xs : List Axis) → AllHeld s want step ls xs → AllPrepared m xs → Distinct ls → Each PlainHere ls → (t : Place) → Left s ls t → Safe m (length rs) xs (at rs) (place t)
+  pub safe : (ls : List ℕ) (xs : List Axis) → AllHeld s want step ls xs → Distinct ls → Each PlainHere ls → (t : Place) → Left s ls t
+      → Safe round m (length rs) xs (at rs) (place t)
   unfolding index
-  safe [] [] h f d e t left = subst (λ (i : ℕ). i < length rs) (entry-at s ok cell here t (left .numbers)) (subst (λ (i : ℕ). entryIndex s (placed s cell t) < i) (sym (ready .long)) (entry-below s ok cell here t (left .numbers)))
-  safe [] (x ∷ xs) h f d e t left = absurd h
-  safe (a ∷ ls) [] h f d e t left = absurd h
-  safe (a ∷ ls) (x ∷ xs) h f d e t left = safe-more a 1 ls x xs (h .0) (f .0) (h .1) (d .0) (e .0 .used) (d .1) (e .1) t left (safe ls xs (h .1) (f .1) (d .1) (e .1))
+  safe [] [] h d e t left =
+      subst (λ (i : ℕ). i < length rs) (entry-at s ok cell here t (left .numbers))
+      (subst (λ (i : ℕ). entryIndex s (placed s cell t) < i) (sym (ready .long)) (entry-below s ok cell here t (left .numbers)))
+  safe [] (x ∷ xs) h d e t left = absurd h
+  safe (a ∷ ls) [] h d e t left = absurd h
+  safe (a ∷ ls) (x ∷ xs) h d e t left =
+      safe-more a 1 (shiftOf 0 m (later xs) true) ls x xs (h .0) (h .1) (d .0) (e .0 .used) (d .1) (e .1) t left (safe ls xs (h .1) (d .1) (e .1))
 
   -- ---- the stages of all axes
 
@@ -251,20 +270,20 @@ module _ (s : Shape) (rs : List ℤ) (cell step : Place) (want : Want) (l : Layo
   plain : Each PlainHere prior
   unfolding askAt
   plain =
-      plain-before roundHalfUp half-up-nearly q m2 m3 (lit≤ tt) (recordsField s rs) limited (ready .last) (ready .steps-low) (ready .here .unused)
+      plain-before round sound q m2 m3 some (recordsField s rs) limited (ready .last) (ready .steps-low) (ready .here .unused)
 
-  module _ (slope : Bool) (kind : kindOf slope ≡ kindOn want (lastAxis (s .axes) want)) (b : Strides) (vs : List Strides)
+  module _ (order : ℕ) (order-is : order ≡ orderOn want (lastAxis (s .axes) want)) (b : Strides) (vs : List Strides)
       (last-is : IsAxis s step (lastAxis (s .axes) want) b) (are : AreAxes s step prior vs) where
-    kinds : (ls : List ℕ) → Each PlainHere ls → Each (λ a. kindOn want a ≡ value) ls
-    kinds [] h = tt
-    kinds (a ∷ ls) h = (h .0 .plain, kinds ls (h .1))
+    none-before : (ls : List ℕ) → Each PlainHere ls → Each (λ a. orderOn want a ≡ 0) ls
+    none-before [] h = tt
+    none-before (a ∷ ls) h = (h .0 .plain, none-before ls (h .1))
 
-    last-held : (z : Axis) → Made m slope (later vs) false b z → Holds s want step (counts prior) 8 (lastAxis (s .axes) want) z
-    unfolding worth
-    last-held z h = subst (λ (c : ℕ). Holds s want step c 8 (lastAxis (s .axes) want) z) (later-counts s step prior vs are) (held slope (later vs) false kind last-is h)
+    last-held : (z : Axis) → Made m order (later vs) false b z → Holds s want step (counts prior) 8 (lastAxis (s .axes) want) (z .shift) z
+    unfolding eighthsIn
+    last-held z h = subst (λ (c : ℕ). Holds s want step c 8 (lastAxis (s .axes) want) (z .shift) z) (later-counts s step prior vs are) (held order (later vs) false order-is last-is h)
 
     others-held : (xs : List Axis) → AllMade m vs xs → AllHeld s want step prior xs
-    others-held xs = all-held s want step prior vs xs are (kinds prior plain)
+    others-held xs = all-held s want step prior vs xs are (none-before prior plain)
 
     all-steps : (ls : List ℕ) (ws : List Strides) → Each PlainHere ls → AreAxes s step ls ws → AllSteps ws
     all-steps [] [] h i = tt
@@ -272,41 +291,41 @@ module _ (s : Shape) (rs : List ℤ) (cell step : Place) (want : Want) (l : Layo
     all-steps (a ∷ ls) [] h i = absurd i
     all-steps (a ∷ ls) (v ∷ ws) h i = (subst (λ (u : ℕ). u ≤ steps) (sym (i .0 .step-is)) (h .0 .step), all-steps ls ws (h .1) (i .1))
 
-    pub workable : Workable (l .orders) slope b vs (length rs) (at rs) (l .base)
+    pub workable : Workable round (l .orders) order b vs (length rs) (at rs) (l .base)
     unfolding askAt
     workable =
-        subst (λ (m : ℕ). Workable m slope b vs (length rs) (at rs) (l .base)) (sym (ready .laid .orders-are))
-        (subst (λ (p : ℕ). Workable m slope b vs (length rs) (at rs) p) (index-base s ok cell here ∙ sym (ready .laid .base-is))
+        subst (λ (m : ℕ). Workable round m order b vs (length rs) (at rs) (l .base)) (sym (ready .laid .orders-are))
+        (subst (λ (p : ℕ). Workable round m order b vs (length rs) (at rs) p) (index-base s ok cell here ∙ sym (ready .laid .base-is))
         (record {
+          smooth = subst (λ (i : ℕ). Smooth i m) (sym order-is) (order-smooth want (lastAxis (s .axes) want) m);
           m-low = m2;
           m-high = m3;
           steps-in = (subst (λ (u : ℕ). u ≤ steps) (sym (last-is .step-is)) (ready .steps-low (lastAxis (s .axes) want) (ready .last)), all-steps prior vs plain are);
           safe = safe-all;
         }))
       where
-        safe-all : (z : Axis) (xs : List Axis) → Made m slope (later vs) false b z → AllMade m vs xs → AllPrepared m (z ∷ xs)
-            → Safe m (length rs) (z ∷ xs) (at rs) (place (λ a. 0))
-        safe-all z xs hz hx p =
-            safe-more (lastAxis (s .axes) want) 8 prior z xs (last-held z hz) (p .0) (others-held xs hx)
+        safe-all : (z : Axis) (xs : List Axis) → Made m order (later vs) false b z → AllMade m vs xs → Safe round m (length rs) (z ∷ xs) (at rs) (place (λ a. 0))
+        safe-all z xs hz hx =
+            safe-more (lastAxis (s .axes) want) 8 (z .shift) prior z xs (last-held z hz) (others-held xs hx)
             (fresh-before q) (ready .last) (distinct-before q) plain (λ a. 0)
-            (nought s ok cell here rs want step)
-            (safe prior xs (others-held xs hx) (p .1) (distinct-before q) plain)
+            (nought s ok cell here sound rs want step)
+            (safe prior xs (others-held xs hx) (distinct-before q) plain)
 
-    pub worked-answer : (r : ℤ) → WorkedOff (l .orders) slope b vs (at rs) (l .base) r → r ≡ answer (askAt s want cell step) (recordsField s rs)
+    pub worked-answer : (r : ℤ) → WorkedOff round (l .orders) order b vs (at rs) (l .base) r → r ≡ answerBy round (askAt s want cell step) (recordsField s rs)
     worked-answer r w =
-        finish (subst (λ (m : ℕ). WorkedOff m slope b vs (at rs) (base s cell) r) (ready .laid .orders-are) (subst (λ (p : ℕ). WorkedOff (l .orders) slope b vs (at rs) p r) (ready .laid .base-is) w))
+        finish (subst (λ (m : ℕ). WorkedOff round m order b vs (at rs) (base s cell) r) (ready .laid .orders-are) (subst (λ (p : ℕ). WorkedOff round (l .orders) order b vs (at rs) p r) (ready .laid .base-is) w))
       where
-        finish : WorkedOff m slope b vs (at rs) (base s cell) r → r ≡ answer (askAt s want cell step) (recordsField s rs)
-        finish w = w .is ∙ sym (answer-is s ok cell here rs want step (w .last) (w .others) (ready .last) (last-held (w .last) (w .made-last)) (others-held (w .others) (w .made)))
+        finish : WorkedOff round m order b vs (at rs) (base s cell) r → r ≡ answerBy round (askAt s want cell step) (recordsField s rs)
+        finish w = w .is ∙ sym (answer-is s ok cell here sound rs want step (w .last) (w .others) (ready .last) (last-held (w .last) (w .made-last)) (others-held (w .others) (w .made)))
 
   -- the answer fits 32 bits
-  pub answer-fits : natAbs (answer (askAt s want cell step) (recordsField s rs)) < 2 ^ 24
+  pub answer-fits : natAbs (answerBy round (askAt s want cell step) (recordsField s rs)) < 2 ^ 24
   unfolding askAt
   answer-fits =
-      answer-small q m2 m3 (ready .shape .axes-high) (lit≤ tt) (ready .last) (ready .steps-low) (ready .here .unused) (recordsField s rs) limited
+      answer-below round sound q m2 m3 some (recordsField s rs) limited (ready .last) (ready .steps-low) (ready .here .unused) (ready .shape .axes-high)
 
   -- n axes, of which a is the last
-  module _ (n a : ℕ) (en : s .axes ≡ n) (ea : lastAxis (s .axes) want ≡ a) (slope : Bool) (kind : (n : ℕ) → kindOf slope ≡ kindOn want (lastAxis n want)) (b : Strides) (vs : List Strides)
+  module _ (n a : ℕ) (en : s .axes ≡ n) (ea : lastAxis (s .axes) want ≡ a) (order : ℕ) (order-is : (n : ℕ) → order ≡ orderOn want (lastAxis n want)) (b : Strides) (vs : List Strides)
       (last-is : IsAxis s step a b) (are : AreAxes s step (without a (axes n)) vs) where
     last-in : IsAxis s step (lastAxis (s .axes) want) b
     last-in = subst (λ (i : ℕ). IsAxis s step i b) (sym ea) last-is
@@ -315,17 +334,17 @@ module _ (s : Shape) (rs : List ℤ) (cell step : Place) (want : Want) (l : Layo
     unfolding before askAt
     are-in = subst (λ (ls : List ℕ). AreAxes s step ls vs) (sym (ap₂ (λ (i j : ℕ). without i (axes j)) ea en)) are
 
-    pub workable-in : Workable (l .orders) slope b vs (length rs) (at rs) (l .base)
-    workable-in = workable slope (kind (s .axes)) b vs last-in are-in
+    pub workable-in : Workable round (l .orders) order b vs (length rs) (at rs) (l .base)
+    workable-in = workable order (order-is (s .axes)) b vs last-in are-in
 
-    pub answer-in : (r : ℤ) → WorkedOff (l .orders) slope b vs (at rs) (l .base) r → r ≡ answer (askAt s want cell step) (recordsField s rs)
-    answer-in = worked-answer slope (kind (s .axes)) b vs last-in are-in
+    pub answer-in : (r : ℤ) → WorkedOff round (l .orders) order b vs (at rs) (l .base) r → r ≡ answerBy round (askAt s want cell step) (recordsField s rs)
+    answer-in = worked-answer order (order-is (s .axes)) b vs last-in are-in
 
 -- the axes of a layout
 module _ (s : Shape) (cell : Place) (xs : List ℕ) (l : Layout) (laid : Laid s cell l) where
-  pub is-axis : (a : ℕ) → a < 3 → IsAxis s (placeAt xs) a (stridesOf (getD xs a 0) (getD (l .far) a 0) (l .orders ^ a))
-  unfolding placeAt near
-  is-axis a h = record { step-is = sym (pick-true (ltb a 3) (getD xs a 0) 0 (lt-ltb a 3 h)); far-is = by-3 (λ a. getD (l .far) a 0 ≡ far s a) (laid .far-x) (laid .far-y) (laid .far-z) a h; near-is = ap (λ (m : ℕ). m ^ a) (laid .orders-are) }
+  pub is-axis : (a : ℕ) → a < 3 → IsAxis s (placeAt xs) a (stridesOf (getD xs a 0) (getD (l .strides) a 0) (l .orders ^ a))
+  unfolding placeAt orderStride
+  is-axis a h = record { step-is = sym (pick-true (ltb a 3) (getD xs a 0) 0 (lt-ltb a 3 h)); node-is = by-3 (λ a. getD (l .strides) a 0 ≡ nodeStride s a) (laid .stride-x) (laid .stride-y) (laid .stride-z) a h; order-is = ap (λ (m : ℕ). m ^ a) (laid .orders-are) }
 
 -- two axes, and a third between them where there is one
 pub are-axes : (s : Shape) (step : Place) (three : Bool) (i j : ℕ) (a b : Strides) → IsAxis s step i a → IsAxis s step j b → AreAxes s step (also three j (i ∷ [])) (also three b (a ∷ []))
@@ -334,20 +353,20 @@ are-axes s step false i j a b h k = (h, tt)
 
 -- ---- what the calls return
 
-module _ (s : Shape) (rs : List ℤ) (cell : Place) (xs : List ℕ) (slope : Bool) (axis : ℕ) (l : Layout) (ready : Ready s rs cell (placeAt xs) (wantOf slope axis) l) where
+module _ {round : Rounding} (sound : Sound round) (s : Shape) (rs : List ℤ) (cell : Place) (xs : List ℕ) (order axis : ℕ) (l : Layout) (ready : Ready s rs cell (placeAt xs) (wantOf order axis) l) where
   pub orders-low : l .orders ≤ 3
   orders-low = subst (λ (i : ℕ). i ≤ 3) (sym (ready .laid .orders-are)) (orders-range (s .degree) .1)
 
   -- the strides that the code finds
-  pub found : (a : ℕ) → a < 3 → (v : Strides) → v ≡ stridesOf (getD xs a 0) (getD (l .far) a 0) (l .orders ^ a) → IsAxis s (placeAt xs) a v
+  pub found : (a : ℕ) → a < 3 → (v : Strides) → v ≡ stridesOf (getD xs a 0) (getD (l .strides) a 0) (l .orders ^ a) → IsAxis s (placeAt xs) a v
   found a h v e = subst (IsAxis s (placeAt xs) a) (sym e) (is-axis s cell xs l (ready .laid) a h)
 
   -- the stages' result r is the answer, and fits 32 bits
-  module _ (r : ℤ) (ok : mag r < 2 ^ 63) (e : r ≡ answer (askAt s (wantOf slope axis) cell (placeAt xs)) (recordsField s rs)) where
+  module _ (r : ℤ) (ok : mag r < 2 ^ 63) (e : r ≡ answerBy round (askAt s (wantOf order axis) cell (placeAt xs)) (recordsField s rs)) where
     pub fits : SFits w32 (toZ w64 (ofZ w64 r))
     fits =
         sfits-abs (toZ w64 (ofZ w64 r)) (lt-of-lt-of-le
-        (subst (λ z. natAbs z < 2 ^ 24) (sym (read r ok ∙ e)) (answer-fits s rs cell (placeAt xs) (wantOf slope axis) l ready)) (lit≤ tt))
+        (subst (λ z. natAbs z < 2 ^ 24) (sym (read r ok ∙ e)) (answer-fits sound s rs cell (placeAt xs) (wantOf order axis) l ready)) (lit≤ tt))
 
-    pub cast : toZ w32 (ofZ w32 (toZ w64 (ofZ w64 r))) ≡ answer (askAt s (wantOf slope axis) cell (placeAt xs)) (recordsField s rs)
+    pub cast : toZ w32 (ofZ w32 (toZ w64 (ofZ w64 r))) ≡ answerBy round (askAt s (wantOf order axis) cell (placeAt xs)) (recordsField s rs)
     cast = toZ-ofZ {w = w32} fits ∙ read r ok ∙ e

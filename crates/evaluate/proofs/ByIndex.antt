@@ -1,17 +1,18 @@
 -- The stages by index in the records are those of the definition: number t of a cell stands at its base plus its offset on each axis.
 use mathlib.Core.Path.{_≡_, refl, sym, ap, ap₂, subst, _∙_, fun-ext}
+use mathlib.Core.Bool.{true, false}
 use mathlib.Core.List.{List, [], _∷_}
 use Prim.Native.Nat.{ℕ, _+_, _*_, _/_, _%_, _^_, _≤_, _<_}
-use native.Mathlib.Nat.{zero-div, zero-mod, mul-one, mul-comm}
+use native.Mathlib.Nat.{zero-div, zero-mod, mul-one, mul-comm, mod-eq-of-lt, add-mod-left, div-eq-of-lt, add-div-left}
 use lib.Pow.{pow-pos}
 use native.Mathlib.Omega.{arith}
 use native.Mathlib.Decide.{ℕ-discrete}
 use lib.IntN.{ℤ, pos, _*ℤ_}
-use Rattle.arith.specs.Int.{roundHalfUp}
+use Rattle.arith.specs.Int.{Rounding}
 use Rattle.arith.specs.Choice.{pick}
 use Rattle.arith.proofs.Choices.{by-3}
 use Rattle.arith.proofs.Laws.{pos-one-*ℤ}
-use Rattle.arith.proofs.Round.{round-common}
+use Rattle.arith.proofs.Round.{Sound}
 use Rattle.lattice.specs.declared.Shape.{Shape}
 use Rattle.lattice.specs.Buffer.{at}
 use Rattle.lattice.specs.Shape.{orders, Shaped}
@@ -19,46 +20,66 @@ use Rattle.lattice.specs.Axes.{Place, Field, put, sweep, axes}
 use Rattle.lattice.specs.Records.{recordsField}
 use Rattle.lattice.proofs.Along.{put-at, put-off, Each, Fresh, Distinct}
 use Rattle.lattice.proofs.ShapeLaws.{orders-range}
-use Rattle.hermite.specs.Hermite.{Kind, kindOf, divisor, stageSum}
-use Rattle.hermite.specs.Stage.{steps}
+use Rattle.hermite.specs.Hermite.{steps, divisor, stageSum}
+use Rattle.hermite.specs.Stage.{Folds, shiftOf}
 use Rattle.hermite.proofs.HermiteLaws.{stage-multiple}
-use Rattle.cell.specs.Cell.{Accepted, base, far, near, offset}
+use Rattle.hermite.proofs.StageLaws.{stage-folded}
+use Rattle.cell.specs.Cell.{Accepted, base, nodeStride, orderStride, offset}
 use Rattle.cell.proofs.CellLaws.{Numbers, placed, entry-at}
 use Rattle.evaluate.specs.declared.Axis.{Axis}
-use Rattle.evaluate.specs.Evaluate.{Want, Ask, kindOn, lastAxis, stageOn, divisorOn, toEighth, toUnit, inEighths, before, answer, askAt}
-use Rattle.evaluate.specs.Stages.{offsetBy, offsetOf, worked, after}
+use Rattle.evaluate.specs.Evaluate.{Want, Ask, orderOn, lastAxis, stageOn, divisorOn, toEighth, toUnit, inEighths, before, answerBy, askAt}
+use Rattle.evaluate.specs.Stages.{worked, later, after}
 use Rattle.evaluate.proofs.AnswerLaws.{each-before, distinct-before, fresh-before, answer-anywhere}
 use Rattle.evaluate.proofs.EndLaws.{stage-of}
 
 -- ---- one stage
 
--- what an axis of the code holds of axis a of a cell; of its numbers one counts `from` eighths, of its stage's `to`
-pub record Holds (s : Shape) (want : Want) (step : Place) (from to a : ℕ) (x : Axis) : Type 0 where
-  pub kind-is : kindOf (x .slope) ≡ kindOn want a
-  pub step-is : x .step ≡ step a
-  pub far-is : x .far ≡ far s a
-  pub near-is : x .near ≡ near s a
+-- what a stage of shift k along an axis of the code holds of axis a of a cell; of its numbers one counts `from` eighths, of its stage's `to`
+pub record Holds (s : Shape) (want : Want) (step : Place) (from to a k : ℕ) (x : Axis) : Type 0 where
+  pub folds : Folds (orderOn want a) (orders s) (step a) (x .basis)
+  pub node-is : x .node ≡ nodeStride s a
+  pub order-is : x .order ≡ orderStride s a
   pub some : 0 < from
-  pub shift-is : 2 ^ (x .shift + 1) * from ≡ divisor (kindOn want a) (orders s) steps * to
+  pub shift-is : 2 ^ (k + 1) * from ≡ divisor (orderOn want a) (orders s) steps * to
 
-module _ {s : Shape} {want : Want} {step : Place} {from to a : ℕ} {x : Axis} (h : Holds s want step from to a x) where
-  pub offset-is : (t : ℕ) → offsetOf (orders s) x t ≡ offset s a t
-  unfolding offsetBy offset
-  offset-is t = ap₂ (λ (f n : ℕ). t / orders s * f + t % orders s * n) (h .far-is) (h .near-is)
+module _ {s : Shape} {want : Want} {step : Place} {from to a k : ℕ} {x : Axis} (h : Holds s want step from to a k x) where
+  -- where the numbers of the two ends stand
+  pub low-at : (o : ℕ) → o < orders s → offset s a o ≡ o * x .order
+  unfolding offset
+  low-at o l = rw (div-eq-of-lt l, mod-eq-of-lt l, h .order-is) (omega arith)
 
-  -- the definition's stage of numbers X, which count `from` eighths each
-  worked-is : (c i j : ℕ) (g X : ℕ → ℤ) → ((t : ℕ) → t < 2 * orders s → X (orders s * c + t) ≡ pos from *ℤ g (i + offset s a t))
-      → roundHalfUp (stageSum (kindOn want a) (orders s) steps c (step a) X j) (divisor (kindOn want a) (orders s) steps * to) ≡ worked (orders s) x g i
-  unfolding worked
-  worked-is c i j g X e =
-      ap₂ roundHalfUp
-      (stage-of (kindOn want a) (orders s) steps c (step a) X (λ t. pos from *ℤ g (i + offset s a t)) j e
-      ∙ stage-multiple (kindOn want a) (orders s) steps 0 (step a) (pos from) (λ t. g (i + offset s a t)) 0)
-      (sym (h .shift-is) ∙ mul-comm (2 ^ (x .shift + 1)) from)
-      ∙ round-common from (stageSum (kindOn want a) (orders s) steps 0 (step a) (λ t. g (i + offset s a t)) 0) (2 ^ (x .shift + 1)) (h .some) (pow-pos (x .shift + 1))
-      ∙ ap (λ z. roundHalfUp z (2 ^ (x .shift + 1)))
-      (ap₂ (λ (k : Kind) (u : ℕ). stageSum k (orders s) steps 0 u (λ t. g (i + offset s a t)) 0) (sym (h .kind-is)) (sym (h .step-is))
-      ∙ ap (λ (o : ℕ → ℕ). stageSum (kindOf (x .slope)) (orders s) steps 0 (x .step) (λ t. g (i + o t)) 0) (fun-ext (λ t. sym (offset-is t))))
+  pub high-at : (o : ℕ) → o < orders s → offset s a (orders s + o) ≡ x .node + o * x .order
+  unfolding offset
+  high-at o l =
+      ap₂ (λ (d r : ℕ). d * nodeStride s a + r * orderStride s a) (above (orders s) o l) (add-mod-left (orders s) o ∙ mod-eq-of-lt l)
+      ∙ rw (h .node-is, h .order-is) (omega arith)
+    where
+      above : (m o : ℕ) → o < m → (m + o) / m ≡ 1
+      above m o l = add-div-left o {k = m} (omega arith) ∙ ap (λ (i : ℕ). i + 1) (div-eq-of-lt l)
+
+  -- the numbers g from index i on, by end
+  module _ (g : ℕ → ℤ) (i : ℕ) where
+    pub lows : (o : ℕ) → o < orders s → g (i + o * x .order) ≡ g (i + offset s a o)
+    lows o l = ap (λ (j : ℕ). g (i + j)) (sym (low-at o l))
+
+    pub highs : (o : ℕ) → o < orders s → g (i + x .node + o * x .order) ≡ g (i + offset s a (orders s + o))
+    highs o l = ap g (assoc i (x .node) (o * x .order) ∙ ap (λ (j : ℕ). i + j) (sym (high-at o l)))
+      where
+        assoc : (i f n : ℕ) → i + f + n ≡ i + (f + n)
+        assoc i f n = omega arith
+
+    -- the definition's stage of numbers X, which count `from` eighths each
+    worked-is : {round : Rounding} → Sound round → (c j : ℕ) (X : ℕ → ℤ) → ((t : ℕ) → t < 2 * orders s → X (orders s * c + t) ≡ pos from *ℤ g (i + offset s a t))
+        → round (stageSum (orderOn want a) (orders s) steps c (step a) X j) (divisor (orderOn want a) (orders s) steps * to) ≡ worked round k x g i
+    unfolding worked
+    worked-is {round} sound c j X e =
+        ap₂ round
+        (stage-of (orderOn want a) (orders s) steps c (step a) X (λ t. pos from *ℤ g (i + offset s a t)) j e
+        ∙ stage-multiple (orderOn want a) (orders s) steps 0 (step a) (pos from) (λ t. g (i + offset s a t)) 0)
+        (sym (h .shift-is) ∙ mul-comm (2 ^ (k + 1)) from)
+        ∙ sound .common from (stageSum (orderOn want a) (orders s) steps 0 (step a) (λ t. g (i + offset s a t)) 0) (2 ^ (k + 1)) (h .some) (pow-pos (k + 1))
+        ∙ ap (λ z. round z (2 ^ (k + 1)))
+        (sym (stage-folded (h .folds) (λ o. g (i + o * x .order)) (λ o. g (i + x .node + o * x .order)) (λ t. g (i + offset s a t)) lows highs))
 
 -- ---- all stages
 
@@ -72,7 +93,7 @@ abbrev pub AllHeld : Shape → Want → Place → List ℕ → List Axis → Typ
 AllHeld s want step [] [] = Unit {0}
 AllHeld s want step [] (x ∷ xs) = ⊥
 AllHeld s want step (a ∷ ls) [] = ⊥
-AllHeld s want step (a ∷ ls) (x ∷ xs) = Holds s want step (counts ls) 1 a x × AllHeld s want step ls xs
+AllHeld s want step (a ∷ ls) (x ∷ xs) = Holds s want step (counts ls) 1 a (shiftOf 0 (orders s) (later xs) true) x × AllHeld s want step ls xs
 
 -- numbers of a cell, 0 on the axes of a list
 pub record Left (s : Shape) (ls : List ℕ) (t : Place) : Type 0 where
@@ -125,25 +146,25 @@ module _ (s : Shape) (ok : Shaped s) (cell : Place) (here : Accepted s cell) whe
       off [] f e = tt
       off (b ∷ ms) f e = (put-off a u b t (λ i. f .0 (sym i)) ∙ e .0, off ms (f .1) (e .1))
 
-  module _ (rs : List ℤ) (want : Want) (step : Place) where
+  module _ {round : Rounding} (sound : Sound round) (rs : List ℤ) (want : Want) (step : Place) where
     abbrev q : Ask
     q = askAt s want cell step
 
     abbrev pub got : List ℕ → Field
-    got ls = sweep ls (toEighth roundHalfUp q) (inEighths (recordsField s rs))
+    got ls = sweep ls (toEighth round q) (inEighths (recordsField s rs))
 
     pub after-is : (ls : List ℕ) (xs : List Axis) → AllHeld s want step ls xs → Distinct ls → Each (λ a. a < s .axes) ls → (t : Place) → Left s ls t
-        → got ls (placed s cell t) ≡ pos (counts ls) *ℤ after (orders s) xs (at rs) (index t)
+        → got ls (placed s cell t) ≡ pos (counts ls) *ℤ after round (orders s) xs (at rs) (index t)
     unfolding sweep inEighths recordsField after toEighth stageOn divisorOn askAt index
     after-is [] [] m d e t h = ap (λ (i : ℕ). pos 8 *ℤ at rs i) (entry-at s ok cell here t (h .numbers))
     after-is [] (x ∷ xs) m d e t h = absurd m
     after-is (a ∷ ls) [] m d e t h = absurd m
     after-is (a ∷ ls) (x ∷ xs) m d e t h =
-        ap (roundHalfUp (stageSum (kindOn want a) (orders s) steps (cell a) (step a) (λ j. got ls (put a j (placed s cell t))) (placed s cell t a))) (sym (mul-one (divisor (kindOn want a) (orders s) steps)))
-        ∙ worked-is (m .0) (cell a) (index t) (placed s cell t a) (after (orders s) xs (at rs)) (λ j. got ls (put a j (placed s cell t)))
+        ap (round (stageSum (orderOn want a) (orders s) steps (cell a) (step a) (λ j. got ls (put a j (placed s cell t))) (placed s cell t a))) (sym (mul-one (divisor (orderOn want a) (orders s) steps)))
+        ∙ worked-is (m .0) (after round (orders s) xs (at rs)) (index t) sound (cell a) (placed s cell t a) (λ j. got ls (put a j (placed s cell t)))
         (λ u l. ap (got ls) (placed-put a u t) ∙ after-is ls xs (m .1) (d .1) (e .1) (put a u t) (left-put a ls u t (d .0) (e .0) l h)
-        ∙ ap (λ (i : ℕ). pos (counts ls) *ℤ after (orders s) xs (at rs) i) (index-put a u t (below a (e .0) (ok .axes-high)) (h .worked-off .0)))
-        ∙ sym (pos-one-*ℤ (worked (orders s) x (after (orders s) xs (at rs)) (index t)))
+        ∙ ap (λ (i : ℕ). pos (counts ls) *ℤ after round (orders s) xs (at rs) i) (index-put a u t (below a (e .0) (ok .axes-high)) (h .worked-off .0)))
+        ∙ sym (pos-one-*ℤ (after round (orders s) (x ∷ xs) (at rs) (index t)))
       where
         below : (a : ℕ) → a < s .axes → s .axes ≤ 3 → a < 3
         below a i k = omega arith
@@ -163,16 +184,16 @@ module _ (s : Shape) (ok : Shaped s) (cell : Place) (here : Accepted s cell) whe
         each [] = tt
         each (a ∷ ls) = (refl, each ls)
 
-    pub answer-is : (z : Axis) (xs : List Axis) → l < s .axes → Holds s want step (counts (before q)) 8 l z → AllHeld s want step (before q) xs
-        → answer q (recordsField s rs) ≡ after (orders s) (z ∷ xs) (at rs) (base s cell)
-    unfolding answer toUnit stageOn divisorOn askAt after
+    pub answer-is : (z : Axis) (xs : List Axis) → l < s .axes → Holds s want step (counts (before q)) 8 l (z .shift) z → AllHeld s want step (before q) xs
+        → answerBy round q (recordsField s rs) ≡ worked round (z .shift) z (after round (orders s) xs (at rs)) (base s cell)
+    unfolding toUnit stageOn divisorOn askAt
     answer-is z xs last hz hx =
-        answer-anywhere roundHalfUp q (recordsField s rs) (placed s cell (λ a. 0)) none
-        ∙ ap (roundHalfUp (stageSum (kindOn want l) (orders s) steps (cell l) (step l) X (placed s cell (λ a. 0) l))) (mul-comm 8 (divisor (kindOn want l) (orders s) steps))
-        ∙ worked-is hz (cell l) (index (λ a. 0)) (placed s cell (λ a. 0) l) (after (orders s) xs (at rs)) X
+        answer-anywhere round q (recordsField s rs) (placed s cell (λ a. 0)) none
+        ∙ ap (round (stageSum (orderOn want l) (orders s) steps (cell l) (step l) X (placed s cell (λ a. 0) l))) (mul-comm 8 (divisor (orderOn want l) (orders s) steps))
+        ∙ worked-is hz (after round (orders s) xs (at rs)) (index (λ a. 0)) sound (cell l) (placed s cell (λ a. 0) l) X
         (λ u k. ap (got (before q)) (placed-put l u (λ a. 0)) ∙ after-is (before q) xs hx (distinct-before q) (each-before q (λ a. a < s .axes) (λ a i n. i)) (put l u (λ a. 0)) (left-put l (before q) u (λ a. 0) (fresh-before q) last k nought)
-        ∙ ap (λ (i : ℕ). pos (counts (before q)) *ℤ after (orders s) xs (at rs) i) (index-put l u (λ a. 0) (below (ok .axes-high)) refl))
-        ∙ ap (worked (orders s) z (after (orders s) xs (at rs))) index-base
+        ∙ ap (λ (i : ℕ). pos (counts (before q)) *ℤ after round (orders s) xs (at rs) i) (index-put l u (λ a. 0) (below (ok .axes-high)) refl))
+        ∙ ap (worked round (z .shift) z (after round (orders s) xs (at rs))) index-base
       where
         X : ℕ → ℤ
         X j = got (before q) (put l j (placed s cell (λ a. 0)))

@@ -1,28 +1,33 @@
--- The numbers of the two ends of a stage, by index: what a stage of the code makes of them is the stage by index.
-use mathlib.Core.Path.{_≡_, sym, ap, ap₂, subst, _∙_}
+-- The numbers of two ends, by index: what a stage of the code asks for of them, and that it makes of them the number of the definition's stage.
+use mathlib.Core.Path.{_≡_, refl, sym, ap, ap₂, subst, _∙_}
 use mathlib.Core.List.{List, [], _∷_}
-use Prim.Native.Nat.{ℕ, _+_, _*_, _-_, _/_, _^_, _≤_, _<_}
-use native.Mathlib.Nat.{mod-eq-of-lt, add-mod-left, div-eq-of-lt, add-div-left, le-trans, le-of-eq}
+use Prim.Native.Nat.{ℕ, _+_, _*_, _-_, _^_, _≤_, _<_}
+use native.Mathlib.Nat.{le-trans, le-of-eq}
 use native.Mathlib.Omega.{arith}
 use native.Mathlib.Decide.{decLt}
 use lib.Dec.{ltb, lit<}
-use lib.IntN.{ℤ, pos, _*ℤ_, natAbs}
+use lib.IntN.{ℤ, pos, _+ℤ_, _*ℤ_, natAbs}
+use lib.ListN.{length, take, drop, length-take, length-drop}
+use lib.Seq.{take-all, getD-drop}
 use borrow.Author.Tests.{lt-ltb, le-ltb}
-use Rattle.arith.specs.Int.{roundHalfUp}
-use Rattle.arith.proofs.Choices.{pick-true, pick-false, by-3}
+use Rattle.arith.specs.Choice.{pick}
+use Rattle.arith.specs.Int.{Rounding}
+use Rattle.arith.specs.Sum.{sum, total}
+use Rattle.arith.proofs.Choices.{pick-true, pick-false, by-3, by-place}
 use Rattle.arith.proofs.Sums.{sum-ext, total-ext}
 use Rattle.lattice.specs.Buffer.{at}
 use Rattle.hermite.specs.declared.Basis.{Basis}
-use Rattle.hermite.specs.Hermite.{Kind, kindOf, stageSum, basis}
-use Rattle.hermite.specs.Stage.{steps, bothEnds, load}
+use Rattle.hermite.specs.declared.Ends.{Ends}
+use Rattle.hermite.specs.Hermite.{stageSum, basis}
+use Rattle.hermite.specs.Stage.{weighted, load}
 use Rattle.hermite.proofs.HermiteLaws.{stage-linear}
-use Rattle.hermite.proofs.StageLaws.{ends-low, ends-high}
+use Rattle.hermite.proofs.StageLaws.{end-sum}
 use Rattle.evaluate.specs.declared.Axis.{Axis}
-use Rattle.evaluate.specs.Stages.{offsetBy, offsetOf, worked, after, numbersAt, Safe}
+use Rattle.evaluate.specs.Stages.{numbersAt, IsEnd, AreEnds, AtBoth, placeOf, worked, after, Prepared, Safe}
 
 -- ---- a stage of the 2m numbers y, wherever they stand
 
-pub stage-of : (k : Kind) (m N c u : ℕ) (x y : ℕ → ℤ) (j : ℕ) → ((t : ℕ) → t < 2 * m → x (m * c + t) ≡ y t) → stageSum k m N c u x j ≡ stageSum k m N 0 u y 0
+pub stage-of : (k m N c u : ℕ) (x y : ℕ → ℤ) (j : ℕ) → ((t : ℕ) → t < 2 * m → x (m * c + t) ≡ y t) → stageSum k m N c u x j ≡ stageSum k m N 0 u y 0
 unfolding stage-linear
 stage-of k m N c u x y j h =
     stage-linear k m N c u .is x j
@@ -32,97 +37,110 @@ stage-of k m N c u x y j h =
 
 -- ---- numbers by end and order
 
-module _ (m near far o : ℕ) (l : o < m) where
-  pub offset-low : offsetBy m near far o ≡ o * near
-  unfolding offsetBy
-  offset-low = rw (div-eq-of-lt l, mod-eq-of-lt l) (omega arith)
-
-  pub offset-high : offsetBy m near far (m + o) ≡ far + o * near
-  unfolding offsetBy
-  offset-high = ap₂ (λ (d r : ℕ). d * far + r * near) (above m o l) (add-mod-left m o ∙ mod-eq-of-lt l) ∙ omega arith
-    where
-      above : (m o : ℕ) → o < m → (m + o) / m ≡ 1
-      above m o l = add-div-left o {k = m} (omega arith) ∙ ap (λ (i : ℕ). i + 1) (div-eq-of-lt l)
-
-pub number-at : (m : ℕ) (g : ℕ → ℤ) (p near o : ℕ) → o < m → numbersAt m g p near o ≡ g (p + o * near)
+pub number-at : (m : ℕ) (g : ℕ → ℤ) (p orderStride o : ℕ) → o < m → numbersAt m g p orderStride o ≡ g (p + o * orderStride)
 unfolding numbersAt
-number-at m g p near o l = pick-true (ltb o m) (g (p + o * near)) (pos 0) (lt-ltb o m l)
+number-at m g p orderStride o l = pick-true (ltb o m) (g (p + o * orderStride)) (pos 0) (lt-ltb o m l)
 
-pub number-none : (m : ℕ) (g : ℕ → ℤ) (p near o : ℕ) → m ≤ o → numbersAt m g p near o ≡ pos 0
+pub number-none : (m : ℕ) (g : ℕ → ℤ) (p orderStride o : ℕ) → m ≤ o → numbersAt m g p orderStride o ≡ pos 0
 unfolding numbersAt
-number-none m g p near o h = pick-false (ltb o m) (g (p + o * near)) (pos 0) (le-ltb o m h)
+number-none m g p orderStride o h = pick-false (ltb o m) (g (p + o * orderStride)) (pos 0) (le-ltb o m h)
 
--- the numbers of an end as an array
-pub end-numbers : (m : ℕ) (g : ℕ → ℤ) (p near : ℕ) (a b c : ℤ) → 2 ≤ m → a ≡ g p → b ≡ g (p + near) → c ≡ numbersAt m g p near 2
-    → (o : ℕ) → o < 3 → at (a ∷ b ∷ c ∷ []) o ≡ numbersAt m g p near o
-end-numbers m g p near a b c h ea eb ec =
-    by-3 (λ o. at (a ∷ b ∷ c ∷ []) o ≡ numbersAt m g p near o) (ea ∙ ap g (omega arith) ∙ sym (number-at m g p near 0 (omega arith)))
-    (eb ∙ ap g (omega arith) ∙ sym (number-at m g p near 1 (omega arith))) ec
+-- the numbers of an end as an array: two and nothing, or three
+module _ (m : ℕ) (g : ℕ → ℤ) (p orderStride : ℕ) (a b : ℤ) (ea : a ≡ g p) (eb : b ≡ g (p + orderStride)) where
+  end-numbers : (c : ℤ) → 2 ≤ m → c ≡ numbersAt m g p orderStride 2 → IsEnd m g p orderStride (a ∷ b ∷ c ∷ [])
+  end-numbers c h ec =
+      by-3 (λ o. at (a ∷ b ∷ c ∷ []) o ≡ numbersAt m g p orderStride o) (ea ∙ ap g (omega arith) ∙ sym (number-at m g p orderStride 0 (omega arith)))
+      (eb ∙ ap g (omega arith) ∙ sym (number-at m g p orderStride 1 (omega arith))) ec
 
--- ---- the ends as a stage takes them
+  pub end-of-two : m ≡ 2 → IsEnd m g p orderStride (a ∷ b ∷ pos 0 ∷ [])
+  end-of-two e = end-numbers (pos 0) (omega arith) (sym (number-none m g p orderStride 2 (omega arith)))
 
--- two arrays that hold the numbers of the ends of axis x from p on
-module _ (m : ℕ) (x : Axis) (g : ℕ → ℤ) (p : ℕ) (low high : ℕ → ℤ)
-    (lows : (o : ℕ) → o < m → low o ≡ g (p + o * x .near)) (highs : (o : ℕ) → o < m → high o ≡ g (p + x .far + o * x .near)) where
-  both-are : (t : ℕ) → t < 2 * m → bothEnds m low high t ≡ g (p + offsetOf m x t)
-  both-are t l = go (decLt t m)
+  pub end-of-three : m ≡ 3 → (c : ℤ) → c ≡ g (p + 2 * orderStride) → IsEnd m g p orderStride (a ∷ b ∷ c ∷ [])
+  end-of-three e c ec = end-numbers c (omega arith) (ec ∙ sym (number-at m g p orderStride 2 (omega arith)))
+
+-- ---- numbers read from index p of a list on
+
+module _ (xs : List ℤ) (p : ℕ) where
+  abbrev part : List ℤ
+  part = take (length xs - p) (drop p xs)
+
+  part-at : (i : ℕ) → at part i ≡ at xs (p + i)
+  part-at i = ap (λ (l : List ℤ). at l i) (take-all (length xs - p) (drop p xs) (le-of-eq (length-drop p xs))) ∙ getD-drop p xs i (pos 0)
+
+  pub part-index : (i : ℕ) → p + i < length xs → i < length part
+  part-index i l = simp (length-take, length-drop) (omega arith)
+
+  pub part-end : (m q orderStride : ℕ) (r : List ℤ) → IsEnd m (at part) q orderStride r → IsEnd m (at xs) (p + q) orderStride r
+  unfolding numbersAt
+  part-end m q orderStride r h o l = h o l ∙ ap (λ z. pick (ltb o m) z (pos 0)) (part-at (q + o * orderStride) ∙ ap (at xs) (assoc p q (o * orderStride)))
     where
-      again : (m t : ℕ) → (t < m → ⊥) → m + (t - m) ≡ t
-      again m t n = omega arith
+      assoc : (p q i : ℕ) → p + (q + i) ≡ p + q + i
+      assoc p q i = omega arith
 
-      upper : (m t : ℕ) → t < 2 * m → (t < m → ⊥) → t - m < m
-      upper m t l n = omega arith
+-- ---- a stage of two ends
 
-      assoc : (p f n : ℕ) → p + f + n ≡ p + (f + n)
-      assoc p f n = omega arith
-
-      go : Dec (t < m) → bothEnds m low high t ≡ g (p + offsetOf m x t)
-      go (yes k) = ends-low m low high t k ∙ lows t k ∙ ap (λ (i : ℕ). g (p + i)) (sym (offset-low m (x .near) (x .far) t k))
-      go (no n) =
-          subst (λ (i : ℕ). bothEnds m low high i ≡ g (p + offsetOf m x i)) (again m t n)
-          (ends-high m low high (t - m) ∙ highs (t - m) (upper m t l n)
-          ∙ ap g (assoc p (x .far) ((t - m) * x .near) ∙ ap (λ (i : ℕ). p + i) (sym (offset-high m (x .near) (x .far) (t - m) (upper m t l n)))))
-
-  -- the stage of the document
-  pub worked-by : roundHalfUp (stageSum (kindOf (x .slope)) m steps 0 (x .step) (bothEnds m low high) 0) (2 ^ (x .shift + 1)) ≡ worked m x g p
-  unfolding worked
-  worked-by =
-      ap (λ z. roundHalfUp z (2 ^ (x .shift + 1)))
-      (stage-of (kindOf (x .slope)) m steps 0 (x .step) (bothEnds m low high) (λ t. g (p + offsetOf m x t)) 0 (λ t l. ap (bothEnds m low high) (omega arith) ∙ both-are t l))
-
--- the sizes of all products, where the arrays are equal
-pub load-same : (b : Basis) (low high low′ high′ : ℕ → ℤ) → ((o : ℕ) → o < 3 → low o ≡ low′ o) → ((o : ℕ) → o < 3 → high o ≡ high′ o) → load b low high ≡ load b low′ high′
+-- the sizes of all products, where the numbers are equal
+load-same : (b : Basis) (low high low′ high′ : ℕ → ℤ) → ((o : ℕ) → o < 3 → low o ≡ low′ o) → ((o : ℕ) → o < 3 → high o ≡ high′ o)
+    → load b low high ≡ load b low′ high′
 unfolding load
-load-same b low high low′ high′ e f =
-    ap₂ _+_ (total-ext 3 (λ o. natAbs (at (b .low) o) * natAbs (low o)) (λ o. natAbs (at (b .low) o) * natAbs (low′ o)) (λ o l. ap (λ z. natAbs (at (b .low) o) * natAbs z) (e o l)))
-    (total-ext 3 (λ o. natAbs (at (b .high) o) * natAbs (high o)) (λ o. natAbs (at (b .high) o) * natAbs (high′ o)) (λ o l. ap (λ z. natAbs (at (b .high) o) * natAbs z) (f o l)))
+load-same b low high low′ high′ e f = ap₂ _+_ (one (b .low) low low′ e) (one (b .high) high high′ f)
+  where
+    one : (r : List ℤ) (x y : ℕ → ℤ) → ((o : ℕ) → o < 3 → x o ≡ y o)
+        → total 3 (λ o. natAbs (at r o) * natAbs (x o)) ≡ total 3 (λ o. natAbs (at r o) * natAbs (y o))
+    one r x y e = total-ext 3 (λ o. natAbs (at r o) * natAbs (x o)) (λ o. natAbs (at r o) * natAbs (y o)) (λ o l. ap (λ z. natAbs (at r o) * natAbs z) (e o l))
 
--- ---- what is safe before a stage
+-- two ends that hold the numbers of axis x from p on
+module _ {m : ℕ} {x : Axis} {g : ℕ → ℤ} {p : ℕ} {e : Ends} (h : Prepared m x) (ends : AreEnds m g p (x .order) (x .node) e) where
+  -- what a stage asks for
+  pub stage-asks : (k : ℕ) → k ≤ 44 → load (x .basis) (numbersAt m g p (x .order)) (numbersAt m g (p + x .node) (x .order)) ≤ 2 ^ 63 - 2 ^ 45
+      → ((k ≤ 44) × (load (x .basis) (at (e .low)) (at (e .high)) ≤ 2 ^ 63 - 2 ^ 45)) × (m ≡ 2 → (at (e .low) 2 ≡ pos 0) × (at (e .high) 2 ≡ pos 0))
+  stage-asks k l s = (
+    (l, le-trans (le-of-eq (load-same (x .basis) _ _ _ _ (ends .low) (ends .high))) s),
+    λ two. (ends .low 2 (lit< tt) ∙ number-none m g p (x .order) 2 (omega arith), ends .high 2 (lit< tt) ∙ number-none m g (p + x .node) (x .order) 2 (omega arith)),
+  )
 
-module _ (m n : ℕ) (x : Axis) (xs : List Axis) (g : ℕ → ℤ) (p : ℕ) (safe : Safe m n (x ∷ xs) g p) where
-  pub safe-low : (o : ℕ) → o < m → Safe m n xs g (p + o * x .near)
-  safe-low o l = subst (λ (i : ℕ). Safe m n xs g (p + i)) (offset-low m (x .near) (x .far) o l) (safe .0 o (omega arith))
-
-  pub safe-high : (o : ℕ) → o < m → Safe m n xs g (p + x .far + o * x .near)
-  safe-high o l = subst (Safe m n xs g) (ap (λ (i : ℕ). p + i) (offset-high m (x .near) (x .far) o l) ∙ assoc p (x .far) (o * x .near)) (safe .0 (m + o) (omega arith))
+  -- and what it gives
+  pub stage-gives : (round : Rounding) (k : ℕ) → round (weighted (x .basis) (at (e .low)) (at (e .high))) (2 ^ (k + 1)) ≡ worked round k x g p
+  unfolding worked weighted
+  stage-gives round k =
+      ap (λ z. round z (2 ^ (k + 1)))
+      (ap₂ _+ℤ_ (one (at (x .basis .low)) (λ o i l. h .none o i l .0) (at (e .low)) p (ends .low))
+      (one (at (x .basis .high)) (λ o i l. h .none o i l .1) (at (e .high)) (p + x .node) (ends .high)))
     where
-      assoc : (p f k : ℕ) → p + (f + k) ≡ p + f + k
+      -- of order m and above nothing counts
+      one : (r : ℕ → ℤ) → ((o : ℕ) → m ≤ o → o < 3 → r o ≡ pos 0) → (y : ℕ → ℤ) (p : ℕ) → ((o : ℕ) → o < 3 → y o ≡ numbersAt m g p (x .order) o)
+          → sum 3 (λ o. r o *ℤ y o) ≡ sum 3 (λ o. r o *ℤ g (p + o * x .order))
+      one r none y p is =
+          end-sum m (h .m-low) (h .m-high) r y none r (λ o. g (p + o * x .order)) (λ o l. refl)
+          (λ o l. is o (let k = h .m-high in omega arith) ∙ number-at m g p (x .order) o l)
+          ∙ sym (end-sum m (h .m-low) (h .m-high) r (λ o. g (p + o * x .order)) none r (λ o. g (p + o * x .order)) (λ o l. refl) (λ o l. refl))
+
+-- ---- where the numbers of two ends stand
+
+module _ (m orderStride nodeStride : ℕ) where
+  pub place-low : (o : ℕ) → o < m → placeOf m orderStride nodeStride o ≡ o * orderStride
+  unfolding placeOf
+  place-low o l = pick-true (ltb o m) (o * orderStride) (nodeStride + (o - m) * orderStride) (lt-ltb o m l)
+
+  pub place-high : (o : ℕ) → placeOf m orderStride nodeStride (m + o) ≡ nodeStride + o * orderStride
+  unfolding placeOf
+  place-high o =
+      pick-false (ltb (m + o) m) ((m + o) * orderStride) (nodeStride + (m + o - m) * orderStride) (le-ltb (m + o) m (omega arith))
+      ∙ ap (λ (i : ℕ). nodeStride + i * orderStride) (again m o)
+    where
+      again : (m o : ℕ) → m + o - m ≡ o
+      again m o = omega arith
+
+  -- what holds at each number of two ends holds at each place
+  pub at-place : (P : ℕ → Type 0) (p : ℕ) → AtBoth m P p orderStride nodeStride → (t : ℕ) → t < 2 * m → P (p + placeOf m orderStride nodeStride t)
+  at-place P p h =
+      by-place m (λ t. P (p + placeOf m orderStride nodeStride t)) (λ o l. subst (λ (i : ℕ). P (p + i)) (sym (place-low o l)) (h o l .0))
+      (λ o l. subst P (assoc p nodeStride (o * orderStride) ∙ ap (λ (i : ℕ). p + i) (sym (place-high o))) (h o l .1))
+    where
+      assoc : (p f k : ℕ) → p + f + k ≡ p + (f + k)
       assoc p f k = omega arith
 
-  -- with arrays that hold the numbers of the ends
-  module _ (low high : ℕ → ℤ) (lows : (o : ℕ) → o < 3 → low o ≡ numbersAt m (after m xs g) p (x .near) o) (highs : (o : ℕ) → o < 3 → high o ≡ numbersAt m (after m xs g) (p + x .far) (x .near) o) where
-    pub safe-load : load (x .basis) low high ≤ 2 ^ 63 - 2 ^ 45
-    safe-load =
-        le-trans (le-of-eq (load-same (x .basis) low high (numbersAt m (after m xs g) p (x .near)) (numbersAt m (after m xs g) (p + x .far) (x .near)) lows highs)) (safe .1)
-
-    -- a stage gives the number after it
-    pub stage-after : m ≤ 3 → (r : ℤ) → r ≡ roundHalfUp (stageSum (kindOf (x .slope)) m steps 0 (x .step) (bothEnds m low high) 0) (2 ^ (x .shift + 1)) → r ≡ after m (x ∷ xs) g p
-    unfolding after
-    stage-after h r e =
-        e ∙ worked-by m x (after m xs g) p low high
-        (λ o l. lows o (omega arith) ∙ number-at m (after m xs g) p (x .near) o l) (λ o l. highs o (omega arith) ∙ number-at m (after m xs g) (p + x .far) (x .near) o l)
-
--- a cubic end has no third number
-pub no-third : (m : ℕ) (g : ℕ → ℤ) (p near : ℕ) (end : ℕ → ℤ) → ((o : ℕ) → o < 3 → end o ≡ numbersAt m g p near o) → m ≡ 2 → end 2 ≡ pos 0
-unfolding numbersAt
-no-third m g p near end h e = h 2 (lit< tt) ∙ pick-false (ltb 2 m) (g (p + 2 * near)) (pos 0) (le-ltb 2 m (omega arith))
+-- what is safe is an index of the records
+pub safe-index : (round : Rounding) (m n : ℕ) (xs : List Axis) (g : ℕ → ℤ) (p : ℕ) → 0 < m → Safe round m n xs g p → p < n
+safe-index round m n [] g p h s = s
+safe-index round m n (x ∷ xs) g p h s = let k = safe-index round m n xs g (p + 0 * x .order) h (s .0 0 h .0) in omega arith

@@ -12,17 +12,16 @@ use lib.IntN.{pos, natAbs}
 use Rattle.arith.specs.Int.{Rounding, roundHalfUp}
 use Rattle.arith.specs.Sum.{total}
 use Rattle.arith.proofs.Choices.{by-3}
-use Rattle.arith.proofs.Round.{Nearly, half-up-nearly}
+use Rattle.arith.proofs.Round.{Sound, half-up-sound}
 use Rattle.arith.proofs.Abs.{abs-mul}
 use Rattle.arith.proofs.Sums.{total-ext}
 use Rattle.lattice.specs.Axes.{Place, Field, put, sweep}
 use Rattle.lattice.specs.Records.{totalOrder, entryLimit}
 use Rattle.lattice.proofs.Along.{put-at, put-off, put-swap, Each, Fresh, Distinct, last-first, length-order, length-axes}
-use Rattle.hermite.specs.Hermite.{value}
 use Rattle.hermite.proofs.Sizes.{eighth-size, unit-size}
 use Rattle.cell.specs.Cell.{AtEnds, InCorners}
-use Rattle.evaluate.specs.Evaluate.{Ask, kindOn, lastAxis, divisorOn, stageOn, toEighth, toUnit, inEighths, before, answerBy, answer}
-use Rattle.evaluate.proofs.AnswerLaws.{kind-before, each-before, distinct-before, fresh-before, answer-anywhere}
+use Rattle.evaluate.specs.Evaluate.{Ask, orderOn, lastAxis, divisorOn, stageOn, toEighth, toUnit, inEighths, before, answerBy, answer}
+use Rattle.evaluate.proofs.AnswerLaws.{order-before, order-smooth, each-before, distinct-before, fresh-before, answer-anywhere}
 
 -- ---- orders that are 0 on the axes worked off
 
@@ -89,11 +88,6 @@ unfoldable pub cap : ℕ → ℕ
 cap zero = 262144
 cap (suc k) = 2 * cap k
 
-cap-some : (k : ℕ) → 2 ≤ cap k
-unfolding cap
-cap-some zero = lit≤ tt
-cap-some (suc k) = let h = cap-some k in omega arith
-
 -- moved along a used axis to a number of the cell, a corner's entry stays one
 pub corners-put : {m n : ℕ} {cell : Place} (a t : ℕ) (p : Place) → a < n → t < 2 * m → InCorners m n cell p → InCorners m n cell (put a (m * cell a + t) p)
 corners-put {m} {n} {cell} a t p l k h = record { used = λ b i. one b i (ℕ-discrete b a); unused = λ b i. put-off a (m * cell a + t) b p (apart b i) ∙ h .unused b i }
@@ -108,7 +102,7 @@ corners-put {m} {n} {cell} a t p l k h = record { used = λ b i. one b i (ℕ-di
     one b i (yes e) = subst (λ (c : ℕ). AtEnds m (cell c) (put a (m * cell a + t) p c)) (sym e) (subst (AtEnds m (cell a)) (sym (put-at a (m * cell a + t) p)) here)
     one b i (no e) = subst (AtEnds m (cell b)) (sym (put-off a (m * cell a + t) b p e)) (h .used b i)
 
-module _ (round : Rounding) (nearly : Nearly round) (q : Ask) (m2 : 2 ≤ q .m) (m3 : q .m ≤ 3) (some : 0 < q .N) (g : Field)
+module _ (round : Rounding) (sound : Sound round) (q : Ask) (m2 : 2 ≤ q .m) (m3 : q .m ≤ 3) (some : (a : ℕ) → 0 < q .N a) (g : Field)
     (limited : (p : Place) → InCorners (q .m) (q .n) (q .cell) p → natAbs (g p) ≤ entryLimit (q .m) (q .n) p) where
   -- the bound at a place after the stages of a list
   abbrev pub bound : List ℕ → Place → ℕ
@@ -136,10 +130,10 @@ module _ (round : Rounding) (nearly : Nearly round) (q : Ask) (m2 : 2 ≤ q .m) 
           ∙ ap (λ (i : ℕ). i + totalOrder (q .m) (q .n) (put a 0 (noughts ls p))) (mul-add-mod-self-left (q .m) (q .cell a) t)
           ∙ ap (λ (z : Place). t % q .m + totalOrder (q .m) (q .n) z) (sym (noughts-put ls a 0 p fresh))
 
-  -- an axis before the last: the weights of a value, a step of the cell, and used
+  -- an axis before the last: no derivative, a step of the cell, and used
   pub record Plain (a : ℕ) : Type 0 where
-    pub plain : kindOn (q .want) a ≡ value
-    pub step : q .step a ≤ q .N
+    pub plain : orderOn (q .want) a ≡ 0
+    pub step : q .step a ≤ q .N a
     pub used : a < q .n
 
   pub stages-size : (ls : List ℕ) → Distinct ls → Each Plain ls → (p : Place) → InCorners (q .m) (q .n) (q .cell) p → natAbs (got ls p) ≤ bound ls p
@@ -147,15 +141,11 @@ module _ (round : Rounding) (nearly : Nearly round) (q : Ask) (m2 : 2 ≤ q .m) 
   stages-size [] d e p h = le-trans (le-of-eq (abs-mul (pos 8) (g p))) (let k = limited p h in omega arith)
   stages-size (a ∷ ls) d e p h =
       le-trans
-      (eighth-size (kindOn (q .want) a) (q .m) (q .N) (q .cell a) (q .step a) (λ t. got ls (put a t p)) (bound ls (put a 0 p))
+      (eighth-size (orderOn (q .want) a) (q .m) (q .N a) (q .cell a) (q .step a) (λ t. got ls (put a t p)) (bound ls (put a 0 p))
       (reads ls a p (d .0) (e .0 .used) h (stages-size ls (d .1) (e .1)))
-      round nearly m2 m3 some (e .0 .step) (p a) (e .0 .plain)
-      (at-least (cap (length ls)) (2 ^ totalOrder (q .m) (q .n) (noughts ls (put a 0 p))) (cap-some (length ls)) (one-le-pow (totalOrder (q .m) (q .n) (noughts ls (put a 0 p))) 2 (lit≤ tt))))
+      round sound (order-smooth (q .want) a (q .m)) m2 m3 (some a) (e .0 .step) (p a) (e .0 .plain))
       (le-of-eq (regroup (cap (length ls)) (2 ^ totalOrder (q .m) (q .n) (noughts ls (put a 0 p)))))
     where
-      at-least : (c w : ℕ) → 2 ≤ c → 1 ≤ w → 2 ≤ c * w
-      at-least c w h k = let z = mul-le-mul h k in omega arith
-
       regroup : (c w : ℕ) → 2 * (c * w) ≡ 2 * c * w
       regroup c w = omega arith
 
@@ -166,7 +156,7 @@ module _ (round : Rounding) (nearly : Nearly round) (q : Ask) (m2 : 2 ≤ q .m) 
 
   -- ---- the answer
 
-  module _ (last : lastAxis (q .n) (q .want) < q .n) (steps-in : (a : ℕ) → a < q .n → q .step a ≤ q .N) (none : (a : ℕ) → q .n ≤ a → q .cell a ≡ 0) where
+  module _ (last : lastAxis (q .n) (q .want) < q .n) (steps-in : (a : ℕ) → a < q .n → q .step a ≤ q .N a) (none : (a : ℕ) → q .n ≤ a → q .cell a ≡ 0) where
     abbrev l : ℕ
     l = lastAxis (q .n) (q .want)
 
@@ -183,7 +173,7 @@ module _ (round : Rounding) (nearly : Nearly round) (q : Ask) (m2 : 2 ≤ q .m) 
     corner-in = record { used = λ a i. record { low = omega arith; high = omega arith }; unused = corner-none }
 
     pub plain-before : Each Plain (before q)
-    plain-before = each-before q Plain (λ a i n. record { plain = kind-before (q .want) a (q .n) n; step = steps-in a i; used = i })
+    plain-before = each-before q Plain (λ a i n. record { plain = order-before (q .want) a (q .n) n; step = steps-in a i; used = i })
 
     pub stages-before : q .n ≡ suc (length (before q))
     unfolding before
@@ -194,8 +184,9 @@ module _ (round : Rounding) (nearly : Nearly round) (q : Ask) (m2 : 2 ≤ q .m) 
     unfolding toUnit stageOn divisorOn
     answer-size =
         le-trans (le-of-eq (ap natAbs (answer-anywhere round q g corner corner-none)))
-        (unit-size (kindOn (q .want) l) (q .m) (q .N) (q .cell l) (q .step l) (λ t. got (before q) (put l t corner)) (bound (before q) (put l 0 corner))
-        (reads-size (before q) (distinct-before q) plain-before l (fresh-before q) last corner corner-in) round nearly m2 m3 some (steps-in l last) (corner l))
+        (unit-size (orderOn (q .want) l) (q .m) (q .N l) (q .cell l) (q .step l) (λ t. got (before q) (put l t corner)) (bound (before q) (put l 0 corner))
+        (reads-size (before q) (distinct-before q) plain-before l (fresh-before q) last corner corner-in) round sound
+        (order-smooth (q .want) l (q .m)) m2 m3 (some l) (steps-in l last) (corner l))
 
     no-order : totalOrder (q .m) (q .n) (noughts (before q) (put l 0 corner)) ≡ 0
     unfolding noughts
@@ -218,10 +209,3 @@ module _ (round : Rounding) (nearly : Nearly round) (q : Ask) (m2 : 2 ≤ q .m) 
         lt-of-le-of-lt answer-size
         (subst (λ (i : ℕ). 2 * (cap (length (before q)) * 2 ^ i) < 2 ^ 24) (sym no-order)
         (few (length (before q)) (subst (λ (i : ℕ). i ≤ 3) stages-before n3)))
-
--- corner records within their limits have answers below 2^24, so that a 32-bit float holds each exactly
-pub answer-small : (q : Ask) → 2 ≤ q .m → q .m ≤ 3 → q .n ≤ 3 → 0 < q .N → lastAxis (q .n) (q .want) < q .n
-    → ((a : ℕ) → a < q .n → q .step a ≤ q .N) → ((a : ℕ) → q .n ≤ a → q .cell a ≡ 0)
-    → (g : Field) → ((p : Place) → InCorners (q .m) (q .n) (q .cell) p → natAbs (g p) ≤ entryLimit (q .m) (q .n) p) → natAbs (answer q g) < 2 ^ 24
-unfolding answer
-answer-small q m2 m3 n3 some last steps none g limited = answer-below roundHalfUp half-up-nearly q m2 m3 some g limited last steps none n3

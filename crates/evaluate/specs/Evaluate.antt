@@ -9,8 +9,7 @@ use Rattle.arith.specs.Choice.{pick}
 use Rattle.lattice.specs.declared.Shape.{Shape}
 use Rattle.lattice.specs.Shape.{orders}
 use Rattle.lattice.specs.Axes.{Place, Field, Rule, origin, along, sweep, axes, without}
-use Rattle.hermite.specs.Hermite.{Kind, value, slope, weightAt, divisor, stageSum}
-use Rattle.hermite.specs.Stage.{steps}
+use Rattle.hermite.specs.Hermite.{steps, weightAt, divisor, stageSum}
 use Rattle.cell.specs.Coefficients.{coefficients}
 
 -- what is asked for: a dose, or a slope along an axis
@@ -18,22 +17,22 @@ pub data Want : Type 0 where
   dose : Want
   slopeAlong : ℕ → Want
 
--- the kind of weights on an axis
-unfoldable pub kindOn : Want → ℕ → Kind
-kindOn dose a = value
-kindOn (slopeAlong l) a = pick (eqb a l) slope value
+-- the order of the derivative on an axis
+unfoldable pub orderOn : Want → ℕ → ℕ
+orderOn dose a = 0
+orderOn (slopeAlong l) a = pick (eqb a l) 1 0
 
 -- the axis that is worked off last
 unfoldable pub lastAxis : ℕ → Want → ℕ
 lastAxis n dose = n - 1
 lastAxis n (slopeAlong l) = l
 
--- m, the number of axes, the number N of steps, what is asked for, the cell and the in-cell step on each axis
+-- m, the number of axes, what is asked for, and on each axis the number N of steps, the cell and the in-cell step
 pub record Ask : Type 0 where
   pub m : ℕ
   pub n : ℕ
-  pub N : ℕ
   pub want : Want
+  pub N : Place
   pub cell : Place
   pub step : Place
 
@@ -41,7 +40,7 @@ pub record Ask : Type 0 where
 
 -- the weight of coefficient i on one axis
 unfoldable pub weightOn : Ask → ℕ → ℕ → ℤ
-weightOn q a i = weightAt (kindOn (q .want) a) (q .m) (q .N) (q .step a) i
+weightOn q a i = weightAt (orderOn (q .want) a) (q .m) (q .N a) (q .step a) i
 
 -- the sum over places 0 to w - 1 of each axis
 unfoldable pub sumOver : List ℕ → ℕ → Field → Field
@@ -52,7 +51,7 @@ exactSum q g =
     sumOver (axes (q .n)) (2 * q .m) (λ i. coefficients (q .m) (q .n) (q .cell) g i *ℤ product (axes (q .n)) (λ a. weightOn q a (i a))) origin
 
 unfoldable pub divisorOn : Ask → ℕ → ℕ
-divisorOn q a = divisor (kindOn (q .want) a) (q .m) (q .N)
+divisorOn q a = divisor (orderOn (q .want) a) (q .m) (q .N a)
 
 unfoldable pub exactDivisor : Ask → ℕ
 exactDivisor q = times (axes (q .n)) (divisorOn q)
@@ -61,7 +60,7 @@ exactDivisor q = times (axes (q .n)) (divisorOn q)
 
 -- a stage before its rounding
 unfoldable pub stageOn : Ask → ℕ → Rule
-stageOn q a = stageSum (kindOn (q .want) a) (q .m) (q .N) (q .cell a) (q .step a)
+stageOn q a = stageSum (orderOn (q .want) a) (q .m) (q .N a) (q .cell a) (q .step a)
 
 -- every stage but the last rounds to an eighth
 unfoldable pub toEighth : Rounding → Ask → ℕ → Rule
@@ -84,9 +83,9 @@ answerBy round q g =
     (sweep (before q) (toEighth round q) (inEighths g)) origin
 
 -- to the nearest, halves up
-unfoldable pub answer : Ask → Field → ℤ
+abbrev pub answer : Ask → Field → ℤ
 answer q g = answerBy roundHalfUp q g
 
 -- of a table of shape s
 unfoldable pub askAt : Shape → Want → Place → Place → Ask
-askAt s want cell step = record { m = orders s; n = s .axes; N = steps; want = want; cell = cell; step = step }
+askAt s want cell step = record { m = orders s; n = s .axes; want = want; N = λ a. steps; cell = cell; step = step }

@@ -1,14 +1,17 @@
 -- What a query asks for, in the terms of document 01.
-use mathlib.Core.Bool.{Bool, true, false}
-use Prim.Native.Nat.{ℕ}
+use Prim.Native.Nat.{ℕ, zero, suc}
 use Rattle.evaluate.specs.Evaluate.{Want, dose, slopeAlong}
-use Rattle.evaluate.specs.declared.SlopeAxis.{SlopeAxis}
+use Rattle.evaluate.specs.declared.Derivative.{Derivative}
 
--- a slope along an axis, or a dose
-abbrev pub wantOf : Bool → ℕ → Want
-wantOf true a = slopeAlong a
-wantOf false a = dose
+-- order 0 is a dose, any other a slope along an axis
+abbrev pub wantOf : ℕ → ℕ → Want
+wantOf zero a = dose
+wantOf (suc order) a = slopeAlong a
 
--- a query for a dose has no slope axis
-abbrev pub wanted : SlopeAxis → Want
-wanted a = wantOf (a .given) (a .axis)
+-- the order of the derivative that is then taken
+abbrev pub orderOf : ℕ → ℕ
+orderOf zero = 0
+orderOf (suc order) = 1
+
+abbrev pub wanted : Derivative → Want
+wanted a = wantOf (a .order) (a .axis)

@@ -1,65 +1,71 @@
 // The stages of a dose or a slope in a cell, straight from the records.
 ghost use mathlib.Core.Path.{_≡_};
-ghost use mathlib.Core.List.{[], _∷_};
 ghost use mathlib.Core.Bool.{true, false};
-ghost use Prim.Native.Nat.{ℕ, _+_, _*_, _-_, _^_, _<_, _≤_};
-ghost use lib.IntN.{ℤ};
+ghost use mathlib.Core.List.{[], _∷_};
+ghost use Prim.Native.Nat.{ℕ, _+_, _*_, _^_, _<_, _≤_};
 ghost use lib.ListN.{length, getD};
 ghost use Rattle.lattice.specs.Buffer.{at};
 ghost use Rattle.lattice.specs.Records.{recordsField};
-ghost use Rattle.hermite.specs.Stage.{steps, load, shiftOf};
+ghost use Rattle.arith.specs.Int.{roundHalfUp};
+ghost use Rattle.hermite.specs.Hermite.{steps};
+ghost use Rattle.hermite.specs.Stage.{Smooth};
 ghost use Rattle.cell.specs.Cell.{placeAt};
 ghost use Rattle.evaluate.specs.Evaluate.{answer, askAt, lastAxis};
-ghost use Rattle.evaluate.specs.Wants.{wantOf};
-ghost use Rattle.evaluate.specs.Stages.{worked, after, numbersAt, offsetBy, also, stridesOf, ofAxis, beside, Made, Prepared, AllPrepared, Safe, Workable, WorkedOff, Ready};
+ghost use Rattle.evaluate.specs.Wants.{wantOf, orderOf};
+ghost use Rattle.evaluate.specs.Stages.{IsEnd, AreEnds, AtBoth, worked, after, placeOf, also, stridesOf, ofAxis, beside, Made, Prepared, AllPrepared, Safe, Workable, WorkedOff, Ready};
 use cell::Layout;
 use hermite::Basis;
+use hermite::Ends;
 use lattice::Shape;
 
-// A query for a dose has no slope axis.
-pub struct SlopeAxis {
-    pub given: bool,
+// The order of the derivative and its axis; a query for a dose has order 0 and no slope axis.
+pub struct Derivative {
+    pub order: u32,
     pub axis: u32,
 }
 
 // One axis of a cell: the step in it, and the strides to the next node and to the next order.
 pub struct Strides {
     pub step: u32,
-    pub far: usize,
-    pub near: usize,
+    pub node: usize,
+    pub order: usize,
 }
 
-// The stage of an axis: its step with the basis, the shift of its rounding, and the strides.
+// The stage of an axis: the shift of its rounding, the basis of its step, and the strides.
 pub struct Axis {
-    pub slope: bool,
-    pub step: u32,
     pub shift: u32,
     pub basis: Basis,
-    pub far: usize,
-    pub near: usize,
+    pub node: usize,
+    pub order: usize,
 }
 
-// The axes in the order in which they are worked off; of two there is no middle one.
-pub struct Order {
+// The axes in the sequence in which they are worked off; of two there is no middle one.
+pub struct Sequence {
     pub first: Strides,
     pub middle: Strides,
     pub last: Strides,
 }
 
 // The stage of an axis whose numbers come and go in units, or in eighths where `from` or `to` is set.
-fn axis_of(m: usize, slope: bool, from: bool, to: bool, step: u32, far: usize, near: usize) -> Axis
-    requires { ⌜ (2 ≤ m) × (m ≤ 3) × (step ≤ steps) ⌝ }
-    ensures { λ r. ⌜ Made m slope from to (stridesOf step far near) r ⌝ }
+fn axis_of(
+    m: usize,
+    derivative: u32,
+    from: bool,
+    to: bool,
+    step: u32,
+    node: usize,
+    order: usize,
+) -> Axis
+    requires { ⌜ Smooth derivative m × (2 ≤ m) × (m ≤ 3) × (step ≤ steps) ⌝ }
+    ensures { λ r. ⌜ Made m derivative from to (stridesOf step node order) r ⌝ }
 {
-    let shift = hermite::shift(slope, m, from, to);
-    let basis = hermite::basis_at(slope, m, step);
+    let shift = hermite::shift(derivative, m, from, to);
+    let basis = hermite::basis_at(derivative, m, step);
     Axis {
-        slope: slope,
-        step: step,
         shift: shift,
         basis: basis,
-        far: far,
-        near: near,
+        node: node,
+        order: order,
     }
 }
 
@@ -70,94 +76,90 @@ fn entry(records: &[i32], i: usize) -> i64
     records[i] as i64
 }
 
-// The numbers of an end, from the records.
-fn end_in(m: usize, records: &[i32], p: usize, near: usize) -> [i64; 3]
-    requires { ⌜ (2 ≤ m) × (m ≤ 3) × ((o : ℕ) → o < m → p + o * near < length (now records)) ⌝ }
-    ensures { λ r. ⌜ ((o : ℕ) → o < 3 → at r o ≡ numbersAt m (at (now (records .entry))) p near o) ⌝ }
+// The numbers of an end, from the records; here and below `order` and `node` are the strides to the next order and node.
+fn end_in(m: usize, records: &[i32], p: usize, order: usize) -> [i64; 3]
+    requires { ⌜ (2 ≤ m) × (m ≤ 3) × ((o : ℕ) → o < m → p + o * order < length (now records)) ⌝ }
+    ensures { λ r. ⌜ IsEnd m (at (now (records .entry))) p order r ⌝ }
 {
     let a = entry(records, p);
-    let b = entry(records, p + near);
+    let b = entry(records, p + order);
     if m == 2 {
         return [a, b, 0];
     }
-    [a, b, entry(records, p + 2 * near)]
+    [a, b, entry(records, p + 2 * order)]
 }
 
 // The number after the first stage, from p on; k is the stage's shift, here and below.
 fn first(m: usize, k: u32, x: Axis, records: &[i32], p: usize) -> i64
-    requires { ⌜ AllPrepared m (x ∷ []) × (k ≡ x .shift) ⌝ }
-    requires { ⌜ Safe m (length (now records)) (x ∷ []) (at (now records)) p ⌝ }
-    ensures { λ r. ⌜ r ≡ after m (x ∷ []) (at (now (records .entry))) p ⌝ }
+    requires { ⌜ Prepared m x × (k ≤ 44) ⌝ }
+    requires { ⌜ Safe roundHalfUp m (length (now records)) (x ∷ []) (at (now records)) p ⌝ }
+    ensures { λ r. ⌜ r ≡ worked roundHalfUp k x (at (now (records .entry))) p ⌝ }
 {
-    let low = end_in(m, records, p, x.near);
-    let high = end_in(m, records, p + x.far, x.near);
+    // A part that starts at p spares the inner sums its addition.
+    let here = &records[p..];
+    let low = end_in(m, here, 0, x.order);
+    let high = end_in(m, here, x.node, x.order);
     let basis = x.basis;
-    hermite::stage(m, basis, k, low, high)
+    let ends = Ends {
+        low: low,
+        high: high,
+    };
+    hermite::stage(m, basis, k, ends)
 }
 
-// Where number t of both ends stands, from the first on.
-fn place_at(m: usize, near: usize, far: usize, t: usize) -> usize
-    requires { ⌜ (t < 2 * m) × (offsetBy m near far t < 2 ^ 64) ⌝ }
-    ensures { λ r. ⌜ r ≡ offsetBy m near far t ⌝ }
+// The numbers of an end after the first stage.
+fn first_end(m: usize, k: u32, x: Axis, records: &[i32], p: usize, order: usize) -> [i64; 3]
+    requires { ⌜ Prepared m x × (k ≤ 44) ⌝ }
+    requires { ⌜ ((o : ℕ) → o < m → Safe roundHalfUp m (length (now records)) (x ∷ []) (at (now records)) (p + o * order)) ⌝ }
+    ensures { λ r. ⌜ IsEnd m (worked roundHalfUp k x (at (now (records .entry)))) p order r ⌝ }
 {
-    if t < m {
-        return t * near;
-    }
-    far + (t - m) * near
-}
-
-// Where all of them stand.
-fn places_of(m: usize, near: usize, far: usize) -> [usize; 6]
-    requires { ⌜ (2 ≤ m) × (m ≤ 3) × ((t : ℕ) → t < 2 * m → offsetBy m near far t < 2 ^ 64) ⌝ }
-    ensures { λ r. ⌜ ((t : ℕ) → t < 2 * m → getD r t 0 ≡ offsetBy m near far t) ⌝ }
-{
-    let a = place_at(m, near, far, 0);
-    let b = place_at(m, near, far, 1);
-    let c = place_at(m, near, far, 2);
-    let d = place_at(m, near, far, 3);
+    let a = first(m, k, x, records, p);
+    let b = first(m, k, x, records, p + order);
     if m == 2 {
-        return [a, b, c, d, 0, 0];
+        return [a, b, 0];
     }
-    let e = place_at(m, near, far, 4);
-    let f = place_at(m, near, far, 5);
-    [a, b, c, d, e, f]
+    [a, b, first(m, k, x, records, p + 2 * order)]
 }
 
-// One stage of the numbers of both ends, which stand one after the other.
-fn work_off(m: usize, k: u32, a: Axis, numbers: [i64; 6]) -> i64
-    requires { ⌜ Prepared m a × (k ≡ a .shift) × (load (a .basis) (numbersAt m (at numbers) 0 1) (numbersAt m (at numbers) m 1) ≤ 2 ^ 63 - 2 ^ 45) ⌝ }
-    ensures { λ r. ⌜ ((g : ℕ → ℤ) (p : ℕ) → ((t : ℕ) → t < 2 * m → at numbers t ≡ g (p + offsetBy m (a .near) (a .far) t)) → r ≡ worked m a g p) ⌝ }
+// The numbers of two ends after the first stage.
+fn first_ends(
+    m: usize,
+    k: u32,
+    x: Axis,
+    records: &[i32],
+    p: usize,
+    order: usize,
+    node: usize,
+) -> Ends
+    requires { ⌜ Prepared m x × (k ≤ 44) ⌝ }
+    requires { ⌜ AtBoth m (Safe roundHalfUp m (length (now records)) (x ∷ []) (at (now records))) p order node ⌝ }
+    ensures { λ r. ⌜ AreEnds m (worked roundHalfUp k x (at (now (records .entry)))) p order node r ⌝ }
 {
-    let n = numbers;
-    let basis = a.basis;
-    if m == 2 {
-        return hermite::stage(2, basis, k, [n[0], n[1], 0], [n[2], n[3], 0]);
+    let low = first_end(m, k, x, records, p, order);
+    let high = first_end(m, k, x, records, p + node, order);
+    Ends {
+        low: low,
+        high: high,
     }
-    hermite::stage(3, basis, k, [n[0], n[1], n[2]], [n[3], n[4], n[5]])
 }
 
-// The number after the second stage: the first gives the numbers of both ends.
+// The number after the second stage.
 fn second(m: usize, k: u32, y: Axis, x: Axis, records: &[i32], p: usize) -> i64
-    requires { ⌜ AllPrepared m (y ∷ x ∷ []) × (k ≡ y .shift) × (x .shift ≡ shiftOf false m false true) ⌝ }
-    requires { ⌜ Safe m (length (now records)) (y ∷ x ∷ []) (at (now records)) p ⌝ }
-    ensures { λ r. ⌜ r ≡ after m (y ∷ x ∷ []) (at (now (records .entry))) p ⌝ }
+    requires { ⌜ AllPrepared m (y ∷ x ∷ []) × (k ≤ 44) ⌝ }
+    requires { ⌜ Safe roundHalfUp m (length (now records)) (y ∷ x ∷ []) (at (now records)) p ⌝ }
+    ensures { λ r. ⌜ r ≡ worked roundHalfUp k y (after roundHalfUp m (x ∷ []) (at (now (records .entry)))) p ⌝ }
 {
-    let before = hermite::shift(false, m, false, true);
-    let mut numbers = [0i64; 6];
-    let mut t: usize = 0;
-    while t < 2 * m {
-        let place = place_at(m, y.near, y.far, t);
-        numbers[t] = first(m, before, x, records, p + place);
-        t += 1;
-    }
-    work_off(m, k, y, numbers)
+    let before = hermite::shift(0, m, false, true);
+    let ends = first_ends(m, before, x, records, p, y.order, y.node);
+    let basis = y.basis;
+    hermite::stage(m, basis, k, ends)
 }
 
 // The stages of two axes, m a constant of the call.
 fn both_stages(m: usize, z: Axis, x: Axis, records: &[i32], p: usize) -> i64
-    requires { ⌜ AllPrepared m (z ∷ x ∷ []) × (x .shift ≡ shiftOf false m false true) ⌝ }
-    requires { ⌜ Safe m (length (now records)) (z ∷ x ∷ []) (at (now records)) p ⌝ }
-    ensures { λ r. ⌜ r ≡ after m (z ∷ x ∷ []) (at (now (records .entry))) p ⌝ }
+    requires { ⌜ AllPrepared m (z ∷ x ∷ []) × (z .shift ≤ 44) ⌝ }
+    requires { ⌜ Safe roundHalfUp m (length (now records)) (z ∷ x ∷ []) (at (now records)) p ⌝ }
+    ensures { λ r. ⌜ r ≡ worked roundHalfUp (z .shift) z (after roundHalfUp m (x ∷ []) (at (now (records .entry)))) p ⌝ }
 {
     let k = z.shift;
     if m == 2 {
@@ -168,120 +170,176 @@ fn both_stages(m: usize, z: Axis, x: Axis, records: &[i32], p: usize) -> i64
 
 // The stages of three axes but the last, m a constant of the call.
 fn first_stages(m: usize, y: Axis, x: Axis, records: &[i32], p: usize) -> i64
-    requires { ⌜ AllPrepared m (y ∷ x ∷ []) × (y .shift ≡ shiftOf false m true true) × (x .shift ≡ shiftOf false m false true) ⌝ }
-    requires { ⌜ Safe m (length (now records)) (y ∷ x ∷ []) (at (now records)) p ⌝ }
-    ensures { λ r. ⌜ r ≡ after m (y ∷ x ∷ []) (at (now (records .entry))) p ⌝ }
+    requires { ⌜ AllPrepared m (y ∷ x ∷ []) ⌝ }
+    requires { ⌜ Safe roundHalfUp m (length (now records)) (y ∷ x ∷ []) (at (now records)) p ⌝ }
+    ensures { λ r. ⌜ r ≡ after roundHalfUp m (y ∷ x ∷ []) (at (now (records .entry))) p ⌝ }
 {
     if m == 2 {
-        return second(2, hermite::shift(false, 2, true, true), y, x, records, p);
+        return second(2, hermite::shift(0, 2, true, true), y, x, records, p);
     }
-    second(3, hermite::shift(false, 3, true, true), y, x, records, p)
+    second(3, hermite::shift(0, 3, true, true), y, x, records, p)
 }
 
-// The number after the third stage: the second gives the numbers of both ends.
-fn third(m: usize, z: Axis, y: Axis, x: Axis, records: &[i32], p: usize) -> i64
-    requires { ⌜ AllPrepared m (z ∷ y ∷ x ∷ []) × (y .shift ≡ shiftOf false m true true) × (x .shift ≡ shiftOf false m false true) ⌝ }
-    requires { ⌜ Safe m (length (now records)) (z ∷ y ∷ x ∷ []) (at (now records)) p ⌝ }
-    ensures { λ r. ⌜ r ≡ after m (z ∷ y ∷ x ∷ []) (at (now (records .entry))) p ⌝ }
+// Where number t of two ends stands: those of the low end first.
+fn place_at(m: usize, order: usize, node: usize, t: usize) -> usize
+    requires { ⌜ (t < 2 * m) × (placeOf m order node t < 2 ^ 64) ⌝ }
+    ensures { λ r. ⌜ r ≡ placeOf m order node t ⌝ }
 {
-    let place = places_of(m, z.near, z.far);
-    let mut numbers = [0i64; 6];
+    if t < m {
+        return t * order;
+    }
+    node + (t - m) * order
+}
+
+// Where all of them stand.
+fn places_of(m: usize, order: usize, node: usize) -> [usize; 6]
+    requires { ⌜ (2 ≤ m) × (m ≤ 3) × ((t : ℕ) → t < 2 * m → placeOf m order node t < 2 ^ 64) ⌝ }
+    ensures { λ r. ⌜ ((t : ℕ) → t < 2 * m → getD r t 0 ≡ placeOf m order node t) ⌝ }
+{
+    let a = place_at(m, order, node, 0);
+    let b = place_at(m, order, node, 1);
+    let c = place_at(m, order, node, 2);
+    let d = place_at(m, order, node, 3);
+    if m == 2 {
+        return [a, b, c, d, 0, 0];
+    }
+    let e = place_at(m, order, node, 4);
+    let f = place_at(m, order, node, 5);
+    [a, b, c, d, e, f]
+}
+
+// The numbers of two ends after the second stage.
+fn second_ends(
+    m: usize,
+    y: Axis,
+    x: Axis,
+    records: &[i32],
+    p: usize,
+    order: usize,
+    node: usize,
+) -> Ends
+    requires { ⌜ AllPrepared m (y ∷ x ∷ []) ⌝ }
+    requires { ⌜ AtBoth m (Safe roundHalfUp m (length (now records)) (y ∷ x ∷ []) (at (now records))) p order node ⌝ }
+    ensures { λ r. ⌜ AreEnds m (after roundHalfUp m (y ∷ x ∷ []) (at (now (records .entry)))) p order node r ⌝ }
+{
+    let place = places_of(m, order, node);
+    let mut n = [0i64; 6];
     let mut t: usize = 0;
     while t < 2 * m {
-        numbers[t] = first_stages(m, y, x, records, p + place[t]);
+        n[t] = first_stages(m, y, x, records, p + place[t]);
         t += 1;
     }
-    work_off(m, z.shift, z, numbers)
+    if m == 2 {
+        return Ends {
+            low: [n[0], n[1], 0],
+            high: [n[2], n[3], 0],
+        };
+    }
+    Ends {
+        low: [n[0], n[1], n[2]],
+        high: [n[3], n[4], n[5]],
+    }
+}
+
+// The number after the third stage.
+fn third(m: usize, z: Axis, y: Axis, x: Axis, records: &[i32], p: usize) -> i64
+    requires { ⌜ AllPrepared m (z ∷ y ∷ x ∷ []) × (z .shift ≤ 44) ⌝ }
+    requires { ⌜ Safe roundHalfUp m (length (now records)) (z ∷ y ∷ x ∷ []) (at (now records)) p ⌝ }
+    ensures { λ r. ⌜ r ≡ worked roundHalfUp (z .shift) z (after roundHalfUp m (y ∷ x ∷ []) (at (now (records .entry)))) p ⌝ }
+{
+    let ends = second_ends(m, y, x, records, p, z.order, z.node);
+    let basis = z.basis;
+    hermite::stage(m, basis, z.shift, ends)
 }
 
 // The stage of one axis, to units.
-fn one_axis(m: usize, slope: bool, a: Strides, records: &[i32], p: usize) -> i64
-    requires { ⌜ Workable m slope a [] (length (now records)) (at (now records)) p ⌝ }
-    ensures { λ r. ⌜ WorkedOff m slope a [] (at (now (records .entry))) p r ⌝ }
+fn one_axis(m: usize, order: u32, a: Strides, records: &[i32], p: usize) -> i64
+    requires { ⌜ Workable roundHalfUp m order a [] (length (now records)) (at (now records)) p ⌝ }
+    ensures { λ r. ⌜ WorkedOff roundHalfUp m order a [] (at (now (records .entry))) p r ⌝ }
 {
-    let x = axis_of(m, slope, false, false, a.step, a.far, a.near);
+    let x = axis_of(m, order, false, false, a.step, a.node, a.order);
     first(m, x.shift, x, records, p)
 }
 
-// The same, with m and the kind constants of the call.
-fn one_axis_by_kind(m: usize, slope: bool, a: Strides, records: &[i32], p: usize) -> i64
-    requires { ⌜ Workable m slope a [] (length (now records)) (at (now records)) p ⌝ }
-    ensures { λ r. ⌜ WorkedOff m slope a [] (at (now (records .entry))) p r ⌝ }
+// The same, with m and the order constants of the call.
+fn one_axis_by_kind(m: usize, order: u32, a: Strides, records: &[i32], p: usize) -> i64
+    requires { ⌜ Workable roundHalfUp m (orderOf order) a [] (length (now records)) (at (now records)) p ⌝ }
+    ensures { λ r. ⌜ WorkedOff roundHalfUp m (orderOf order) a [] (at (now (records .entry))) p r ⌝ }
 {
     if m == 2 {
-        if slope {
-            return one_axis(2, true, a, records, p);
+        if order == 0 {
+            return one_axis(2, 0, a, records, p);
         }
-        return one_axis(2, false, a, records, p);
+        return one_axis(2, 1, a, records, p);
     }
-    if slope {
-        return one_axis(3, true, a, records, p);
+    if order == 0 {
+        return one_axis(3, 0, a, records, p);
     }
-    one_axis(3, false, a, records, p)
+    one_axis(3, 1, a, records, p)
 }
 
-// The last stage of more than one, the kind a constant of the call.
-fn last_stage(m: usize, slope: bool, c: Strides) -> Axis
+// The last stage of more than one, the order a constant of the call.
+fn last_stage(m: usize, order: u32, c: Strides) -> Axis
     requires { ⌜ (2 ≤ m) × (m ≤ 3) × (c .step ≤ steps) ⌝ }
-    ensures { λ r. ⌜ Made m slope true false c r ⌝ }
+    ensures { λ r. ⌜ Made m (orderOf order) true false c r ⌝ }
 {
-    if slope {
-        return axis_of(m, true, true, false, c.step, c.far, c.near);
+    if order == 0 {
+        return axis_of(m, 0, true, false, c.step, c.node, c.order);
     }
-    axis_of(m, false, true, false, c.step, c.far, c.near)
+    axis_of(m, 1, true, false, c.step, c.node, c.order)
 }
 
 // The stages of two or three axes: a, b where there are three, and c.
 fn more_axes(
     m: usize,
     three: bool,
-    slope: bool,
+    order: u32,
     a: Strides,
     b: Strides,
     c: Strides,
     records: &[i32],
     p: usize,
 ) -> i64
-    requires { ⌜ Workable m slope c (also three b (a ∷ [])) (length (now records)) (at (now records)) p ⌝ }
-    ensures { λ r. ⌜ WorkedOff m slope c (also three b (a ∷ [])) (at (now (records .entry))) p r ⌝ }
+    requires { ⌜ Workable roundHalfUp m (orderOf order) c (also three b (a ∷ [])) (length (now records)) (at (now records)) p ⌝ }
+    ensures { λ r. ⌜ WorkedOff roundHalfUp m (orderOf order) c (also three b (a ∷ [])) (at (now (records .entry))) p r ⌝ }
 {
-    let x = axis_of(m, false, false, true, a.step, a.far, a.near);
-    let z = last_stage(m, slope, c);
+    let z = last_stage(m, order, c);
+    let x = axis_of(m, 0, false, true, a.step, a.node, a.order);
     if !three {
         return both_stages(m, z, x, records, p);
     }
-    let y = axis_of(m, false, true, true, b.step, b.far, b.near);
+    let y = axis_of(m, 0, true, true, b.step, b.node, b.order);
     third(m, z, y, x, records, p)
 }
 
 // The axis that is worked off last.
-fn last_axis(n: u32, slope: bool, axis: u32) -> u32
+fn last_axis(n: u32, order: u32, axis: u32) -> u32
     requires { ⌜ 1 ≤ n ⌝ }
-    ensures { λ r. ⌜ r ≡ lastAxis n (wantOf slope axis) ⌝ }
+    ensures { λ r. ⌜ r ≡ lastAxis n (wantOf order axis) ⌝ }
 {
-    if slope { axis } else { n - 1 }
+    if order == 0 { n - 1 } else { axis }
 }
 
-// Three axes in working order: x, y, z, but for the last.
-fn in_order(last: u32, x: Strides, y: Strides, z: Strides) -> Order
+// Three axes in the sequence of work: x, y, z, but for the last.
+fn in_sequence(last: u32, x: Strides, y: Strides, z: Strides) -> Sequence
     requires { ⌜ last < 3 ⌝ }
     ensures { λ r. ⌜ (r .first ≡ ofAxis x y z (beside 0 last)) × (r .middle ≡ ofAxis x y z (beside 2 last)) × (r .last ≡ ofAxis x y z last) ⌝ }
 {
     if last == 0 {
-        return Order {
+        return Sequence {
             first: y,
             middle: z,
             last: x,
         };
     }
     if last == 1 {
-        return Order {
+        return Sequence {
             first: x,
             middle: z,
             last: y,
         };
     }
-    Order {
+    Sequence {
         first: x,
         middle: y,
         last: z,
@@ -291,26 +349,26 @@ fn in_order(last: u32, x: Strides, y: Strides, z: Strides) -> Order
 // The step and the strides of an axis.
 fn strides_of(m: usize, step: [u32; 3], l: Layout, axis: u32) -> Strides
     requires { ⌜ (m ≤ 3) × (axis < 3) ⌝ }
-    ensures { λ r. ⌜ r ≡ stridesOf (getD step axis 0) (getD (l .far) axis 0) (m ^ axis) ⌝ }
+    ensures { λ r. ⌜ r ≡ stridesOf (getD step axis 0) (getD (l .strides) axis 0) (m ^ axis) ⌝ }
 {
     if axis == 0 {
         return Strides {
             step: step[0],
-            far: l.far[0],
-            near: 1,
+            node: l.strides[0],
+            order: 1,
         };
     }
     if axis == 1 {
         return Strides {
             step: step[1],
-            far: l.far[1],
-            near: m,
+            node: l.strides[1],
+            order: m,
         };
     }
     Strides {
         step: step[2],
-        far: l.far[2],
-        near: m * m,
+        node: l.strides[2],
+        order: m * m,
     }
 }
 
@@ -320,17 +378,17 @@ pub fn on_line(
     records: &[i32],
     cell: [u32; 3],
     step: [u32; 3],
-    slope: bool,
+    order: u32,
     axis: u32,
     l: Layout,
 ) -> i32
-    requires { ⌜ Ready s (now records) (placeAt cell) (placeAt step) (wantOf slope axis) l ⌝ }
+    requires { ⌜ Ready s (now records) (placeAt cell) (placeAt step) (wantOf order axis) l ⌝ }
     requires { ⌜ s .axes ≡ 1 ⌝ }
-    ensures { λ r. ⌜ r ≡ answer (askAt s (wantOf slope axis) (placeAt cell) (placeAt step)) (recordsField s (now (records .entry))) ⌝ }
+    ensures { λ r. ⌜ r ≡ answer (askAt s (wantOf order axis) (placeAt cell) (placeAt step)) (recordsField s (now (records .entry))) ⌝ }
 {
     let m = l.orders;
     let x = strides_of(m, step, l, 0);
-    one_axis_by_kind(m, slope, x, records, l.base) as i32
+    one_axis_by_kind(m, order, x, records, l.base) as i32
 }
 
 // The dose or slope at a step of a cell of two or three axes: the stages x, y, z, a slope's axis last.
@@ -339,23 +397,23 @@ pub fn on_lattice(
     records: &[i32],
     cell: [u32; 3],
     step: [u32; 3],
-    slope: bool,
+    order: u32,
     axis: u32,
     l: Layout,
 ) -> i32
-    requires { ⌜ Ready s (now records) (placeAt cell) (placeAt step) (wantOf slope axis) l ⌝ }
+    requires { ⌜ Ready s (now records) (placeAt cell) (placeAt step) (wantOf order axis) l ⌝ }
     requires { ⌜ 2 ≤ s .axes ⌝ }
-    ensures { λ r. ⌜ r ≡ answer (askAt s (wantOf slope axis) (placeAt cell) (placeAt step)) (recordsField s (now (records .entry))) ⌝ }
+    ensures { λ r. ⌜ r ≡ answer (askAt s (wantOf order axis) (placeAt cell) (placeAt step)) (recordsField s (now (records .entry))) ⌝ }
 {
     let m = l.orders;
     let n = s.axes;
-    let last = last_axis(n, slope, axis);
+    let last = last_axis(n, order, axis);
     let x = strides_of(m, step, l, 0);
     let y = strides_of(m, step, l, 1);
     let z = strides_of(m, step, l, 2);
-    let order = in_order(last, x, y, z);
-    let a = order.first;
-    let b = order.middle;
-    let c = order.last;
-    more_axes(m, n == 3, slope, a, b, c, records, l.base) as i32
+    let sequence = in_sequence(last, x, y, z);
+    let a = sequence.first;
+    let b = sequence.middle;
+    let c = sequence.last;
+    more_axes(m, n == 3, order, a, b, c, records, l.base) as i32
 }

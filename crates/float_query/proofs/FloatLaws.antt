@@ -25,7 +25,7 @@ use Rattle.lattice.specs.Axes.{Place}
 use Rattle.lattice.specs.Records.{recordsField, entryIndex, entryLimit}
 use Rattle.lattice.proofs.ShapeLaws.{shaped}
 use Rattle.lattice.proofs.OutcomeLaws.{first-done, first-passed, first-after, refused-first, refuse-done, passes, firstOf-each}
-use Rattle.hermite.specs.Stage.{steps}
+use Rattle.hermite.specs.Hermite.{steps}
 use Rattle.cell.specs.Cell.{cornerEntries, cornerPlace, entryOutcome, cornersOutcome}
 use Rattle.floats.specs.declared.FloatStep.{FloatStep}
 use Rattle.floats.specs.Step.{step, clamped}
@@ -90,7 +90,7 @@ module _ (fin : ℕ → Bool) where
   pub ten-done : {A : Type 0} (o : Outcome A) (v : A) → withTen fin o ≡ done v → o ≡ done v
   unfolding withTen
   ten-done (done w) v e = e
-  ten-done (refused n p) v e = let z : _≡_ {A = ℕ} 0 1 = cc in absurd (omega arith)
+  ten-done (refused n p) v e = cc
 
 -- ---- the tests of 10 and 11
 
@@ -99,12 +99,12 @@ unfolding stepsOf
 steps-at x a l = pick-true (ltb a 3) (step steps (x a)) (pos 0) (lt-ltb a 3 l)
 
 -- three floats as the code holds them: which are finite, and a position in 32 bits
-pub record Held (x : ℕ → Float) (fin : ℕ → Bool) (p : Position) : Type 0 where
+pub record HeldSteps (x : ℕ → Float) (fin : ℕ → Bool) (p : Position) : Type 0 where
   pub finite-is : (a : ℕ) → a < 3 → fin a ≡ finite (x a)
   pub step-is : (a : ℕ) → a < 3 → p a ≡ pick (finite (x a)) (clamped (step steps (x a))) (negsuc 0)
   pub none : (a : ℕ) → 3 ≤ a → p a ≡ pos 0
 
-module _ (s : Shape) (ok : Shaped s) (x : ℕ → Float) (fin : ℕ → Bool) (p : Position) (h : Held x fin p) where
+module _ (s : Shape) (ok : Shaped s) (x : ℕ → Float) (fin : ℕ → Bool) (p : Position) (h : HeldSteps x fin p) where
   abbrev last : ℕ → ℕ
   last a = steps * (count s a - 1)
 
@@ -149,7 +149,7 @@ module _ (s : Shape) (ok : Shaped s) (x : ℕ → Float) (fin : ℕ → Bool) (p
 
 -- ---- a whole query
 
-pub by-float : (s : Shape) (rs : List ℤ) (want : Want) (x : ℕ → Float) (fin : ℕ → Bool) (p : Position) → Held x fin p → withTen fin (byPosition s rs want p) ≡ byFloat s rs want x
+pub by-float : (s : Shape) (rs : List ℤ) (want : Want) (x : ℕ → Float) (fin : ℕ → Bool) (p : Position) → HeldSteps x fin p → withTen fin (byPosition s rs want p) ≡ byFloat s rs want x
 unfolding byFloat byPosition
 by-float s rs want x fin p h =
     ten-first fin (askedOutcome s rs want) (first tested (read p))
@@ -189,7 +189,7 @@ abbrev pub held : ℤ → ℤ → ℤ → List ℤ
 held p q r = toZ w32 (ofZ w32 p) ∷ toZ w32 (ofZ w32 q) ∷ toZ w32 (ofZ w32 r) ∷ []
 
 pub three-held : (x : ℕ → Float) (f g h : FloatStep) → Holds f (x 0) → Holds g (x 1) → Holds h (x 2) → (p q r : ℤ) → p ≡ heldStep f → q ≡ heldStep g → r ≡ heldStep h
-    → Held x (finiteOn f g h) (positionAt (held p q r))
+    → HeldSteps x (finiteOn f g h) (positionAt (held p q r))
 unfolding positionAt finiteOn pick
 three-held x f g h i j k p q r u v w =
     record {

@@ -4,17 +4,17 @@ use mathlib.Core.Bool.{true}
 use mathlib.Core.List.{List}
 use mathlib.Core.Option.{Option, none, some}
 use Prim.Native.Nat.{ℕ, _<_}
-use native.Mathlib.Omega.{arith}
 use lib.Dec.{T}
 use lib.Ieee.{Float}
 use lib.Ieee.Positive.{den}
 use lib.Ieee.Scale.{finite}
 use lib.IntN.{ℤ, pos, _*ℤ_}
+use Rattle.arith.proofs.Choices.{clash}
 use Rattle.arith.proofs.Round.{Nearest}
 use Rattle.lattice.specs.declared.Shape.{Shape}
 use Rattle.lattice.specs.Outcome.{Outcome, Check, done, refused, refuseUnless, first}
 use Rattle.lattice.proofs.OutcomeLaws.{first-passed, passes, firstOf-same}
-use Rattle.hermite.specs.Stage.{steps}
+use Rattle.hermite.specs.Hermite.{steps}
 use Rattle.floats.specs.Step.{numerator}
 use Rattle.floats.proofs.StepLaws.{step-nearest}
 use Rattle.floats.proofs.WholeLaws.{whole-exact}
@@ -23,7 +23,7 @@ use Rattle.query.specs.Queries.{askedOutcome, reading, positionOutcome, positio
 use Rattle.float_query.specs.declared.FloatReading.{FloatReading}
 use Rattle.float_query.specs.declared.FloatReading.the-variants.{Dose, Slope, Refused}
 use Rattle.float_query.specs.Floats.{stepsOf, floatOutcome, byFloat}
-use Rattle.float_query.specs.Answers.{Held, asDose, asSlope, toldFloat, held, inFloat}
+use Rattle.float_query.specs.Answers.{FloatValue, asDose, asSlope, outcomeOfFloat, floatValue, inFloat}
 use Rattle.float_query.proofs.FloatLaws.{steps-at}
 
 -- −1/2 < step − 256 x ≤ 1/2, all times 2 · den x
@@ -44,19 +44,19 @@ Exactly (Dose y) v = T (finite y) × (numerator y ≡ v *ℤ pos (den y))
 Exactly (Slope y) v = T (finite y) × (numerator y ≡ v *ℤ pos (den y))
 Exactly (Refused r) v = ⊥
 
--- the whole number that is told
-number : Outcome Held → Option ℤ
+-- the whole number of an outcome
+number : Outcome FloatValue → Option ℤ
 number (done (asDose v)) = v
 number (done (asSlope v)) = v
 number (refused n p) = none
 
-number-is : (want : Want) (v : ℤ) → number (done (held want v)) ≡ some v
+number-is : (want : Want) (v : ℤ) → number (done (floatValue want v)) ≡ some v
 unfolding number
 number-is dose v = refl
 number-is (slopeAlong l) v = refl
 
-pub float-exact : (want : Want) (r : FloatReading) (v : ℤ) → toldFloat r ≡ inFloat want (done v) → Exactly r v
+pub float-exact : (want : Want) (r : FloatReading) (v : ℤ) → outcomeOfFloat r ≡ inFloat want (done v) → Exactly r v
 unfolding number
 float-exact want (Dose y) v e = whole-exact y v (ap number e ∙ number-is want v)
 float-exact want (Slope y) v e = whole-exact y v (ap number e ∙ number-is want v)
-float-exact want (Refused r) v e = let z : _≡_ {A = ℕ} 0 1 = cc in absurd (omega arith)
+float-exact want (Refused r) v e = clash (cc)

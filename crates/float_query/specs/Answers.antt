@@ -8,20 +8,20 @@ use Rattle.float_query.specs.declared.FloatReading.{FloatReading}
 use Rattle.float_query.specs.declared.FloatReading.the-variants.{Dose, Slope, Refused}
 
 -- which of the two, and the whole number that the float equals exactly; none for a float that is not whole, and for minus zero
-pub data Held : Type 0 where
-  asDose : Option ℤ → Held
-  asSlope : Option ℤ → Held
+pub data FloatValue : Type 0 where
+  asDose : Option ℤ → FloatValue
+  asSlope : Option ℤ → FloatValue
 
-abbrev pub toldFloat : FloatReading → Outcome Held
-toldFloat (Dose x) = done (asDose (wholeOf x))
-toldFloat (Slope x) = done (asSlope (wholeOf x))
-toldFloat (Refused r) = refused (r .number) (r .place)
+abbrev pub outcomeOfFloat : FloatReading → Outcome FloatValue
+outcomeOfFloat (Dose x) = done (asDose (wholeOf x))
+outcomeOfFloat (Slope x) = done (asSlope (wholeOf x))
+outcomeOfFloat (Refused r) = refused (r .number) (r .place)
 
 -- a whole-number answer, to be held in a float
-abbrev pub held : Want → ℤ → Held
-held dose v = asDose (some v)
-held (slopeAlong l) v = asSlope (some v)
+abbrev pub floatValue : Want → ℤ → FloatValue
+floatValue dose v = asDose (some v)
+floatValue (slopeAlong l) v = asSlope (some v)
 
-abbrev pub inFloat : Want → Outcome ℤ → Outcome Held
-inFloat want (done v) = done (held want v)
+abbrev pub inFloat : Want → Outcome ℤ → Outcome FloatValue
+inFloat want (done v) = done (floatValue want v)
 inFloat want (refused number place) = refused number place

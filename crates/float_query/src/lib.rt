@@ -4,10 +4,10 @@ ghost use Prim.Native.Nat.{ℕ, _<_, _^_};
 ghost use lib.IntN.{ℤ, natAbs};
 ghost use Rattle.lattice.specs.Outcome.{done};
 ghost use Rattle.evaluate.specs.Wants.{wanted, wantOf};
-ghost use Rattle.query.specs.Answers.{told};
+ghost use Rattle.query.specs.Answers.{outcomeOfReading};
 ghost use Rattle.float_query.specs.Floats.{floatsAt, byFloat, heldStep, finiteOn, withTen};
-ghost use Rattle.float_query.specs.Answers.{toldFloat, inFloat};
-use evaluate::SlopeAxis;
+ghost use Rattle.float_query.specs.Answers.{outcomeOfFloat, inFloat};
+use evaluate::Derivative;
 use floats::FloatStep;
 use lattice::Refusal;
 use lattice::Shape;
@@ -29,18 +29,18 @@ pub enum FloatReading {
 }
 
 // A whole-number answer as a float.
-fn in_float(a: Reading, slope: bool) -> FloatReading
-    requires { ⌜ ((v : ℤ) → told a ≡ done v → natAbs v < 2 ^ 24) ⌝ }
-    ensures { λ r. ⌜ ((axis : ℕ) → toldFloat r ≡ inFloat (wantOf slope axis) (told a)) ⌝ }
+fn in_float(a: Reading, order: u32) -> FloatReading
+    requires { ⌜ ((v : ℤ) → outcomeOfReading a ≡ done v → natAbs v < 2 ^ 24) ⌝ }
+    ensures { λ r. ⌜ ((axis : ℕ) → outcomeOfFloat r ≡ inFloat (wantOf order axis) (outcomeOfReading a)) ⌝ }
 {
     match a {
         Reading::Refused(r) => FloatReading::Refused(r),
         Reading::Value(v) => {
             let x = floats::whole(v);
-            if slope {
-                FloatReading::Slope(x)
-            } else {
+            if order == 0 {
                 FloatReading::Dose(x)
+            } else {
+                FloatReading::Slope(x)
             }
         }
     }
@@ -68,7 +68,7 @@ fn finite_on(x: FloatStep, y: FloatStep, z: FloatStep, axis: usize) -> bool
 
 // The answer at the steps of three floats: 10 for 11 where the float is not finite.
 fn with_ten(a: Reading, x: FloatStep, y: FloatStep, z: FloatStep) -> Reading
-    ensures { λ r. ⌜ told r ≡ withTen (finiteOn x y z) (told a) ⌝ }
+    ensures { λ r. ⌜ outcomeOfReading r ≡ withTen (finiteOn x y z) (outcomeOfReading a) ⌝ }
 {
     match a {
         Reading::Value(_) => a,
@@ -85,16 +85,16 @@ fn with_ten(a: Reading, x: FloatStep, y: FloatStep, z: FloatStep) -> Reading
 }
 
 // The dose or slope at three floats.
-pub fn at_float(s: Shape, records: &[i32], p: FloatPosition, slope_axis: SlopeAxis) -> FloatReading
-    ensures { λ r. ⌜ toldFloat r ≡ inFloat (wanted «slope_axis») (byFloat s (now (records .entry)) (wanted «slope_axis») (floatsAt p)) ⌝ }
+pub fn at_float(s: Shape, records: &[i32], p: FloatPosition, derivative: Derivative) -> FloatReading
+    ensures { λ r. ⌜ outcomeOfFloat r ≡ inFloat (wanted derivative) (byFloat s (now (records .entry)) (wanted derivative) (floatsAt p)) ⌝ }
 {
     let x = floats::step_of(p.x);
     let y = floats::step_of(p.y);
     let z = floats::step_of(p.z);
     let q = Query {
         position: [held_step(x), held_step(y), held_step(z)],
-        slope_axis: slope_axis,
+        derivative: derivative,
     };
     let a = query::at_position(s, records, q);
-    in_float(with_ten(a, x, y, z), slope_axis.given)
+    in_float(with_ten(a, x, y, z), derivative.order)
 }

@@ -12,9 +12,9 @@ use lib.Ieee.{Float, nan, inf, binary32, isNan, odd, ofFields, ofBits}
 use lib.Ieee.Bits.{cond-no}
 use lib.Ieee.Exact.{HasValue, odd-sign}
 use Rattle.arith.specs.Int.{roundHalfUp}
-use Rattle.arith.proofs.Round.{nearly-size, half-up-nearly, round-same, round-small}
+use Rattle.arith.proofs.Round.{sound-size, half-up-sound, round-same, round-small}
 use Rattle.floats.specs.Step.{signed, clamped}
-use Rattle.floats.specs.Bits.{exponent, digits, nearestHeld}
+use Rattle.floats.specs.Bits.{exponent, significandOf, nearestHeld}
 use Rattle.floats.proofs.StepLaws.{clamped-fits, abs-signed, signed-mul, clamped-far, held-value}
 
 -- a field above 0 and below 255 is that of (8388608 + t) · 2^(x − 150)
@@ -88,17 +88,17 @@ module _ (b : ℕ) where
   unfolding ofBits
   bits-low h = fields-low (leb 2147483648 b) (b % 2147483648 / 8388608) (b % 8388608) (mod-lt b (lit< tt)) (omega arith)
 
-  pub bits-mid : 126 ≤ exponent b → exponent b < 158 → nearestHeld (ofBits binary32 b) ≡ clamped (roundHalfUp (digits b) (2 ^ (158 - exponent b + 1)))
+  pub bits-mid : 126 ≤ exponent b → exponent b < 158 → nearestHeld (ofBits binary32 b) ≡ clamped (roundHalfUp (significandOf b) (2 ^ (158 - exponent b + 1)))
   unfolding ofBits
   bits-mid l h =
       fields-mid (leb 2147483648 b) (b % 2147483648 / 8388608) (b % 8388608) (omega arith) (omega arith)
-      ∙ ap (λ (x : ℕ). clamped (roundHalfUp (digits b) (2 ^ (158 - x + 1)))) field-is
+      ∙ ap (λ (x : ℕ). clamped (roundHalfUp (significandOf b) (2 ^ (158 - x + 1)))) field-is
 
   pub bits-high : 158 ≤ exponent b → T (not (isNan (ofBits binary32 b))) → nearestHeld (ofBits binary32 b) ≡ nearestHeld (inf (leb 2147483648 b))
   unfolding ofBits
   bits-high l n = fields-high (leb 2147483648 b) (b % 2147483648 / 8388608) (b % 8388608) (omega arith) (omega arith) n
 
-  pub digits-size : natAbs (digits b) ≤ 16777215 * 512
+  pub digits-size : natAbs (significandOf b) ≤ 16777215 * 512
   digits-size = rw (abs-signed (leb 2147483648 b) ((b % 8388608 + 8388608) * 512)) (omega arith)
 
 -- ---- what is rounded between them fits 32 signed bits
@@ -107,4 +107,4 @@ size r n y l h e = lt-of-not-le (λ (g : 2147483648 ≤ r). omega (arith, mul-le
 
 pub rounded-size : (x : ℤ) (k : ℕ) → natAbs x ≤ 16777215 * 512 → 1 ≤ k → natAbs (roundHalfUp x (2 ^ (k + 1))) < 2 ^ 31
 rounded-size x k h l =
-    size (natAbs (roundHalfUp x (2 ^ (k + 1)))) (natAbs x) (2 ^ (k + 1)) (pow-mono {i = 2} (omega arith)) h (nearly-size roundHalfUp half-up-nearly x (2 ^ (k + 1)) (pow-pos (k + 1)))
+    size (natAbs (roundHalfUp x (2 ^ (k + 1)))) (natAbs x) (2 ^ (k + 1)) (pow-mono {i = 2} (omega arith)) h (sound-size half-up-sound x (2 ^ (k + 1)) (pow-pos (k + 1)))

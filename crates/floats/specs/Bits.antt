@@ -10,8 +10,8 @@ use Rattle.floats.specs.Step.{signed, step, clamped}
 abbrev pub exponent : ℕ → ℕ
 exponent b = b / 8388608 % 256
 
-abbrev pub digits : ℕ → ℤ
-digits b = signed (leb 2147483648 b) ((b % 8388608 + 8388608) * 512)
+abbrev pub significandOf : ℕ → ℤ
+significandOf b = signed (leb 2147483648 b) ((b % 8388608 + 8388608) * 512)
 
 -- the whole number nearest to a float, halves up, in 32 signed bits; an infinity lies beyond them
 unfoldable pub nearestHeld : Float → ℤ

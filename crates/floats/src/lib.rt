@@ -9,7 +9,7 @@ ghost use lib.Ieee.{isNan};
 ghost use lib.Ieee.Scale.{finite};
 ghost use Rattle.floats.specs.Step.{step, clamped};
 ghost use Rattle.floats.specs.Whole.{wholeOf};
-ghost use Rattle.floats.specs.Bits.{digits, nearestHeld};
+ghost use Rattle.floats.specs.Bits.{significandOf, nearestHeld};
 
 // A float position: whether it is finite, and its step, 0 where it is not.
 pub struct FloatStep {
@@ -19,7 +19,7 @@ pub struct FloatStep {
 
 // The 24 digits of a normal float, times 512, with its sign.
 fn significand(b: u32) -> i64
-    ensures { λ r. ⌜ r ≡ digits b ⌝ }
+    ensures { λ r. ⌜ r ≡ significandOf b ⌝ }
 {
     let m = ((b % 8388608 + 8388608) as u64 * 512) as i64;
     if b < 0x8000_0000 { m } else { -m }

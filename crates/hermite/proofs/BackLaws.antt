@@ -7,15 +7,15 @@ use native.Mathlib.Nat.{le-trans, le-of-eq, mul-le-mul-right, mod-eq-of-lt, add-
 use native.Mathlib.Omega.{arith}
 use borrow.Author.Tests.{lt-ltb, le-ltb}
 use lib.Dec.{ltb, eqb, lit≤}
-use lib.IntN.{ℤ, pos, _*ℤ_, natAbs, zero-*ℤ}
+use lib.IntN.{ℤ, pos, _*ℤ_, natAbs, zero-*ℤ, negℤ-negℤ}
 use Rattle.arith.proofs.Choices.{pick-true, pick-false, by-m, by-2, by-order, by-place, by-count}
 use Rattle.arith.proofs.Quote.{quotes, ring! }
 use Rattle.arith.proofs.Sums.{sum-ext, sum-three, graded-sum}
 use Rattle.arith.specs.Choice.{pick}
 use Rattle.arith.specs.Sum.{sum, total}
 use Rattle.lattice.proofs.Along.{Linear}
-use Rattle.hermite.specs.Hermite.{multiplier, turned, forward, solved, backward}
-use Rattle.hermite.proofs.HermiteLaws.{turned-mul, mul-turned, sum-turned, turned-size, forward-low, forward-high}
+use Rattle.hermite.specs.Hermite.{multiplier, mirrored, forward, solved, backward}
+use Rattle.hermite.proofs.HermiteLaws.{mirrored-mul, mul-mirrored, sum-mirrored, mirrored-size, forward-low, forward-high}
 
 -- ---- back is linear
 
@@ -31,21 +31,21 @@ solved-linear m y (suc (suc o)) =
     ring! (y 0 ∷ y 1 ∷ y 2 ∷ multiplier m 1 0 ∷ multiplier m 2 0 ∷ multiplier m 2 1 ∷ []) (search quotes depth 40) (search quotes depth 40 fits 4000) tt
 
 pub backward-parts : (m : ℕ) (c : ℕ → ℤ) (t : ℕ) (low : Bool)
-    → pick low (solved m c t) (turned (t - m) (solved m (λ k. c (2 * m - 1 - k)) (t - m)))
-    ≡ sum 3 (λ k. pick low (solved m (unit k) t) (turned (t - m) (solved m (unit k) (t - m))) *ℤ c (pick low k (2 * m - 1 - k)))
+    → pick low (solved m c t) (mirrored (t - m) (solved m (λ k. c (2 * m - 1 - k)) (t - m)))
+    ≡ sum 3 (λ k. pick low (solved m (unit k) t) (mirrored (t - m) (solved m (unit k) (t - m))) *ℤ c (pick low k (2 * m - 1 - k)))
 unfolding pick
 backward-parts m c t true = solved-linear m c t
 backward-parts m c t false =
     let y : ℕ → ℤ = λ k. c (2 * m - 1 - k) in
-    ap (turned (t - m)) (solved-linear m y (t - m))
-    ∙ sym (sum-turned 3 (t - m) (λ k. solved m (unit k) (t - m) *ℤ y k))
-    ∙ sum-ext 3 (λ k. turned (t - m) (solved m (unit k) (t - m) *ℤ y k)) (λ k. turned (t - m) (solved m (unit k) (t - m)) *ℤ y k) (λ k l. sym (turned-mul (t - m) (solved m (unit k) (t - m)) (y k)))
+    ap (mirrored (t - m)) (solved-linear m y (t - m))
+    ∙ sym (sum-mirrored 3 (t - m) (λ k. solved m (unit k) (t - m) *ℤ y k))
+    ∙ sum-ext 3 (λ k. mirrored (t - m) (solved m (unit k) (t - m) *ℤ y k)) (λ k. mirrored (t - m) (solved m (unit k) (t - m)) *ℤ y k) (λ k l. sym (mirrored-mul (t - m) (solved m (unit k) (t - m)) (y k)))
 
 unfoldable pub backward-linear : (m : ℕ) → Linear (backward m)
 unfolding backward
 backward-linear m = record {
   width = 3;
-  factor = λ t k. pick (ltb t m) (solved m (unit k) t) (turned (t - m) (solved m (unit k) (t - m)));
+  factor = λ t k. pick (ltb t m) (solved m (unit k) t) (mirrored (t - m) (solved m (unit k) (t - m)));
   place = λ t k. pick (ltb t m) k (2 * m - 1 - k);
   is = λ c t. backward-parts m c t (ltb t m);
 }
@@ -88,22 +88,22 @@ table-solved = by-order (λ m k. (y : ℕ → ℤ) → sum m (λ o. multiplier m
 
 -- ---- both ends
 
-turned-twice : (o : ℕ) (z : ℤ) → turned o (turned o z) ≡ z
-unfolding turned
-turned-twice zero z = refl
-turned-twice (suc zero) z = ring! (z ∷ []) (search quotes depth 40) (search quotes depth 40) tt
-turned-twice (suc (suc o)) z = refl
+mirrored-back : (o : ℕ) (z : ℤ) → mirrored o (mirrored o z) ≡ z
+unfolding mirrored
+mirrored-back zero z = refl
+mirrored-back (suc zero) z = negℤ-negℤ z
+mirrored-back (suc (suc o)) z = mirrored-back o z
 
 module _ (m : ℕ) (m2 : 2 ≤ m) (m3 : m ≤ 3) where
   pub backward-low : (c : ℕ → ℤ) (o : ℕ) → o < m → backward m c o ≡ solved m c o
   unfolding backward
-  backward-low c o l = pick-true (ltb o m) (solved m c o) (turned (o - m) (solved m (λ k. c (2 * m - 1 - k)) (o - m))) (lt-ltb o m l)
+  backward-low c o l = pick-true (ltb o m) (solved m c o) (mirrored (o - m) (solved m (λ k. c (2 * m - 1 - k)) (o - m))) (lt-ltb o m l)
 
-  pub backward-high : (c : ℕ → ℤ) (o : ℕ) → backward m c (m + o) ≡ turned o (solved m (λ k. c (2 * m - 1 - k)) o)
+  pub backward-high : (c : ℕ → ℤ) (o : ℕ) → backward m c (m + o) ≡ mirrored o (solved m (λ k. c (2 * m - 1 - k)) o)
   unfolding backward
   backward-high c o =
-      pick-false (ltb (m + o) m) (solved m c (m + o)) (turned (m + o - m) (solved m (λ k. c (2 * m - 1 - k)) (m + o - m))) (le-ltb (m + o) m (omega arith))
-      ∙ ap (λ (p : ℕ). turned p (solved m (λ k. c (2 * m - 1 - k)) p)) (omega arith)
+      pick-false (ltb (m + o) m) (solved m c (m + o)) (mirrored (m + o - m) (solved m (λ k. c (2 * m - 1 - k)) (m + o - m))) (le-ltb (m + o) m (omega arith))
+      ∙ ap (λ (p : ℕ). mirrored p (solved m (λ k. c (2 * m - 1 - k)) p)) (omega arith)
 
   -- back of the coefficients is twice the numbers
   pub back-forth : (x : ℕ → ℤ) (t : ℕ) → t < 2 * m → backward m (forward m 0 x) t ≡ pos 2 *ℤ x t
@@ -112,9 +112,9 @@ module _ (m : ℕ) (m2 : 2 ≤ m) (m3 : m ≤ 3) where
       ∙ solved-ext m m2 m3 (forward m 0 x) (λ k. sum m (λ p. multiplier m k p *ℤ x (m * 0 + p))) o l (λ k p. forward-low m 0 m2 m3 x k p)
       ∙ solved-table m m2 m3 o l (λ p. x (m * 0 + p)) ∙ ap (λ (i : ℕ). pos 2 *ℤ x i) (omega arith))
       (λ o l. backward-high (forward m 0 x) o
-      ∙ ap (turned o) (solved-ext m m2 m3 (λ k. forward m 0 x (2 * m - 1 - k)) (λ k. sum m (λ p. multiplier m k p *ℤ turned p (x (m * 0 + (m + p))))) o l (λ k p. forward-high m 0 m2 m3 x k p)
-      ∙ solved-table m m2 m3 o l (λ p. turned p (x (m * 0 + (m + p)))) ∙ mul-turned o (pos 2) (x (m * 0 + (m + o))))
-      ∙ turned-twice o (pos 2 *ℤ x (m * 0 + (m + o))) ∙ ap (λ (i : ℕ). pos 2 *ℤ x i) (omega arith))
+      ∙ ap (mirrored o) (solved-ext m m2 m3 (λ k. forward m 0 x (2 * m - 1 - k)) (λ k. sum m (λ p. multiplier m k p *ℤ mirrored p (x (m * 0 + (m + p))))) o l (λ k p. forward-high m 0 m2 m3 x k p)
+      ∙ solved-table m m2 m3 o l (λ p. mirrored p (x (m * 0 + (m + p)))) ∙ mul-mirrored o (pos 2) (x (m * 0 + (m + o))))
+      ∙ mirrored-back o (pos 2 *ℤ x (m * 0 + (m + o))) ∙ ap (λ (i : ℕ). pos 2 *ℤ x i) (omega arith))
 
   -- the coefficients of what back gives are twice the coefficients
   pub forth-back : (c : ℕ → ℤ) (i : ℕ) → i < 2 * m → forward m 0 (backward m c) i ≡ pos 2 *ℤ c i
@@ -123,8 +123,8 @@ module _ (m : ℕ) (m2 : 2 ≤ m) (m3 : m ≤ 3) where
       ∙ sum-ext m (λ o. multiplier m k o *ℤ backward m c (m * 0 + o)) (λ o. multiplier m k o *ℤ solved m c o)
       (λ o p. ap (λ z. multiplier m k o *ℤ z) (ap (backward m c) (omega arith) ∙ backward-low c o p)) ∙ table-solved m m2 m3 k l c)
       (λ k l. forward-high m 0 m2 m3 (backward m c) k l
-      ∙ sum-ext m (λ o. multiplier m k o *ℤ turned o (backward m c (m * 0 + (m + o)))) (λ o. multiplier m k o *ℤ solved m (λ j. c (2 * m - 1 - j)) o)
-      (λ o p. ap (λ z. multiplier m k o *ℤ z) (ap (turned o) (ap (backward m c) (omega arith) ∙ backward-high c o) ∙ turned-twice o (solved m (λ j. c (2 * m - 1 - j)) o)))
+      ∙ sum-ext m (λ o. multiplier m k o *ℤ mirrored o (backward m c (m * 0 + (m + o)))) (λ o. multiplier m k o *ℤ solved m (λ j. c (2 * m - 1 - j)) o)
+      (λ o p. ap (λ z. multiplier m k o *ℤ z) (ap (mirrored o) (ap (backward m c) (omega arith) ∙ backward-high c o) ∙ mirrored-back o (solved m (λ j. c (2 * m - 1 - j)) o)))
       ∙ table-solved m m2 m3 k l (λ j. c (2 * m - 1 - j)))
 
 -- ---- sizes
@@ -140,7 +140,7 @@ module _ (m : ℕ) (m2 : 2 ≤ m) (m3 : m ≤ 3) (B : ℕ) where
       by-count m (λ i. natAbs (forward m c x i) ≤ 32 * B)
       (λ k l. le-trans (le-of-eq (ap natAbs (forward-low m c m2 m3 x k l))) (end (λ o. x (m * c + o)) (λ o p. subst (λ (i : ℕ). natAbs (x (m * c + o)) ≤ B * 2 ^ i) (mod-eq-of-lt p) (h o (omega arith))) k l))
       (λ k l. le-trans (le-of-eq (ap natAbs (forward-high m c m2 m3 x k l)))
-      (end (λ o. turned o (x (m * c + (m + o)))) (λ o p. le-trans (le-of-eq (turned-size o (x (m * c + (m + o))))) (subst (λ (i : ℕ). natAbs (x (m * c + (m + o))) ≤ B * 2 ^ i) (high o p) (h (m + o) (omega arith)))) k l))
+      (end (λ o. mirrored o (x (m * c + (m + o)))) (λ o p. le-trans (le-of-eq (mirrored-size o (x (m * c + (m + o))))) (subst (λ (i : ℕ). natAbs (x (m * c + (m + o))) ≤ B * 2 ^ i) (high o p) (h (m + o) (omega arith)))) k l))
     where
       end : (y : ℕ → ℤ) → ((o : ℕ) → o < m → natAbs (y o) ≤ B * 2 ^ o) → (k : ℕ) → k < m → natAbs (sum m (λ o. multiplier m k o *ℤ y o)) ≤ 32 * B
       end y h k l = le-trans (graded-sum m (multiplier m k) y (λ o. 2 ^ o) B h) (mul-le-mul-right B (row-total m m2 m3 k l))

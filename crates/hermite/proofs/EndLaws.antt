@@ -14,9 +14,9 @@ use Rattle.lattice.proofs.Local.{Depends}
 use mir.Syntax.{w64}
 use mir.Val.{SFits}
 use Rattle.arith.proofs.Machine.{sized, sizes, fits?, value?}
-use Rattle.hermite.specs.Hermite.{multiplier, turned, solved, seen, endRule}
+use Rattle.hermite.specs.Hermite.{multiplier, mirrored, solved, fromEnd, endRule}
 use Rattle.hermite.proofs.DotLaws.{held}
-use Rattle.hermite.proofs.HermiteLaws.{turned-size}
+use Rattle.hermite.proofs.HermiteLaws.{mirrored-size}
 use Rattle.hermite.proofs.BackLaws.{unit, solved-linear, solved-sum, solved-ext}
 
 -- ---- three rows
@@ -59,9 +59,9 @@ module _ (p q r x y z : ℤ) (hp : natAbs p ≤ 20) (hq : natAbs q ≤ 20) (hr :
 
 -- ---- the rule of an end
 
-pub seen-size : (high : Bool) (o : ℕ) (z : ℤ) → natAbs (seen high o z) ≡ natAbs z
-unfolding seen
-seen-size high o z = on-pick (λ y. natAbs y ≡ natAbs z) high (turned o z) z (λ e. turned-size o z) (λ e. refl)
+pub from-end-size : (high : Bool) (o : ℕ) (z : ℤ) → natAbs (fromEnd high o z) ≡ natAbs z
+unfolding fromEnd
+from-end-size high o z = on-pick (λ y. natAbs y ≡ natAbs z) high (mirrored o z) z (λ e. mirrored-size o z) (λ e. refl)
 
 -- the sums of the sizes of the factors
 solved-total : (m : ℕ) → 2 ≤ m → m ≤ 3 → (o : ℕ) → o < 3 → total 3 (λ k. natAbs (solved m (unit k) o)) ≤ 32
@@ -83,13 +83,13 @@ module _ (back : Bool) (m : ℕ) (m2 : 2 ≤ m) (m3 : m ≤ 3) (high : Bool) whe
   pub end-depends : Depends (endRule back m high) (λ k. k < m) (λ t. t < m)
   unfolding endRule
   end-depends x y k l h =
-      ap₂ (pick back) (ap (seen high k) (solved-ext m m2 m3 x y k l h))
-      (sum-ext m (λ o. multiplier m k o *ℤ seen high o (x o)) (λ o. multiplier m k o *ℤ seen high o (y o)) (λ o p. ap (λ z. multiplier m k o *ℤ seen high o z) (h o p)))
+      ap₂ (pick back) (ap (fromEnd high k) (solved-ext m m2 m3 x y k l h))
+      (sum-ext m (λ o. multiplier m k o *ℤ fromEnd high o (x o)) (λ o. multiplier m k o *ℤ fromEnd high o (y o)) (λ o p. ap (λ z. multiplier m k o *ℤ fromEnd high o z) (h o p)))
 
   pub end-size : (x : ℕ → ℤ) (B k : ℕ) → k < m → ((t : ℕ) → t < m → natAbs (x t) ≤ B) → natAbs (endRule back m high x k) ≤ 32 * B
   unfolding endRule
   end-size x B k l h =
-      on-pick (λ z. natAbs z ≤ 32 * B) back (seen high k (solved m x k)) (sum m (λ o. multiplier m k o *ℤ seen high o (x o)))
-      (λ e. le-trans (le-of-eq (seen-size high k (solved m x k) ∙ ap natAbs (solved-sum m m2 m3 x k l))) (le-trans (abs-weighted m (λ t. solved m (unit t) k) x B h)
+      on-pick (λ z. natAbs z ≤ 32 * B) back (fromEnd high k (solved m x k)) (sum m (λ o. multiplier m k o *ℤ fromEnd high o (x o)))
+      (λ e. le-trans (le-of-eq (from-end-size high k (solved m x k) ∙ ap natAbs (solved-sum m m2 m3 x k l))) (le-trans (abs-weighted m (λ t. solved m (unit t) k) x B h)
       (mul-le-mul-right B (le-trans (total-part m 3 (λ t. natAbs (solved m (unit t) k)) m3) (solved-total m m2 m3 k (omega arith))))))
-      (λ e. le-trans (abs-weighted m (multiplier m k) (λ o. seen high o (x o)) B (λ o p. rw (seen-size high o (x o)) (h o p))) (mul-le-mul-right B (multiplier-total m m2 m3 k l)))
+      (λ e. le-trans (abs-weighted m (multiplier m k) (λ o. fromEnd high o (x o)) B (λ o p. rw (from-end-size high o (x o)) (h o p))) (mul-le-mul-right B (multiplier-total m m2 m3 k l)))

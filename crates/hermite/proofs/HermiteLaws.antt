@@ -1,10 +1,11 @@
--- One axis: coefficients and stages are linear; each coefficient and each basis number belongs to one end, and the high end is the low one turned.
+-- One axis: coefficients and stages are linear; each coefficient and each basis number belongs to one end, and the high end is the low one mirrored.
 use mathlib.Core.Path.{_≡_, refl, sym, ap, ap₂, _∙_}
 use mathlib.Core.List.{[], _∷_}
 use Prim.Native.Nat.{ℕ, zero, suc, _+_, _*_, _-_, _≤_, _<_}
+use native.Mathlib.Nat.{zero-add, suc-add}
 use native.Mathlib.Omega.{arith}
 use borrow.Author.Tests.{lt-ltb, le-ltb}
-use lib.IntN.{ℤ, pos, negsuc, negℤ, _+ℤ_, _-ℤ_, _*ℤ_, *ℤ-comm, zero-*ℤ, +ℤ-idl, +ℤ-idr, natAbs}
+use lib.IntN.{ℤ, pos, negℤ, _+ℤ_, _-ℤ_, _*ℤ_, *ℤ-comm, zero-*ℤ, +ℤ-idl, +ℤ-idr, natAbs, negℤ-negℤ}
 use Rattle.arith.proofs.Abs.{abs-neg}
 use Rattle.arith.proofs.Choices.{pick-true, pick-false}
 use Rattle.arith.proofs.Laws.{negℤ-*ℤ, *ℤ-negℤ, *ℤ-left-comm}
@@ -14,7 +15,7 @@ use Rattle.arith.specs.Int.{_^ℤ_}
 use Rattle.arith.specs.Sum.{sum}
 use Rattle.lattice.specs.Axes.{Rule}
 use Rattle.lattice.proofs.Along.{Linear}
-use Rattle.hermite.specs.Hermite.{multiplier, turned, share, forward, Kind, value, slope, weight, weightAt, stageSum, basis}
+use Rattle.hermite.specs.Hermite.{multiplier, mirrored, share, forward, weight, weightAt, stageSum, basis}
 
 -- ---- linear
 
@@ -30,7 +31,7 @@ unfoldable pub weigh-linear : (n : ℕ) (w : ℕ → ℤ) → Linear (weigh n w)
 weigh-linear n w =
     record { width = n; factor = λ j i. w i; place = λ j i. i; is = λ x j. sum-ext n (λ i. x i *ℤ w i) (λ i. w i *ℤ x i) (λ i l. *ℤ-comm (x i) (w i)) }
 
-unfoldable pub stage-linear : (k : Kind) (m N c u : ℕ) → Linear (stageSum k m N c u)
+unfoldable pub stage-linear : (k m N c u : ℕ) → Linear (stageSum k m N c u)
 unfolding stageSum forward basis
 stage-linear k m N c u = record { width = 2 * m; factor = λ j t. basis k m N u t; place = λ j t. m * c + t; is = λ x j. by-number (λ t. x (m * c + t)) }
   where
@@ -49,7 +50,7 @@ stage-linear k m N c u = record { width = 2 * m; factor = λ j t. basis k m N u 
         ∙ sum-ext (2 * m) (λ t. sum (2 * m) (λ i. share m i t *ℤ W i *ℤ y t)) (λ t. basis k m N u t *ℤ y t) (λ t l. sum-right (2 * m) (λ i. share m i t *ℤ W i) (y t))
 
 -- a multiple of all numbers is a multiple of the stage
-pub stage-multiple : (k : Kind) (m N c u : ℕ) (z : ℤ) (x : ℕ → ℤ) (j : ℕ) → stageSum k m N c u (λ t. z *ℤ x t) j ≡ z *ℤ stageSum k m N c u x j
+pub stage-multiple : (k m N c u : ℕ) (z : ℤ) (x : ℕ → ℤ) (j : ℕ) → stageSum k m N c u (λ t. z *ℤ x t) j ≡ z *ℤ stageSum k m N c u x j
 unfolding stage-linear
 stage-multiple k m N c u z x j =
     stage-linear k m N c u .is (λ t. z *ℤ x t) j
@@ -57,35 +58,48 @@ stage-multiple k m N c u z x j =
     ∙ sum-left (2 * m) z (λ t. basis k m N u t *ℤ x (m * c + t))
     ∙ ap (λ y. z *ℤ y) (sym (stage-linear k m N c u .is x j))
 
--- ---- a number seen from the high end
+-- ---- a number of the high end
 
-pub turned-mul : (o : ℕ) (x z : ℤ) → turned o x *ℤ z ≡ turned o (x *ℤ z)
-unfolding turned
-turned-mul zero x z = refl
-turned-mul (suc zero) x z = ring! (x ∷ z ∷ []) (search quotes depth 40) (search quotes depth 40) tt
-turned-mul (suc (suc o)) x z = refl
+pub mirrored-suc : (o : ℕ) (z : ℤ) → mirrored (suc o) z ≡ negℤ (mirrored o z)
+unfolding mirrored
+mirrored-suc zero z = refl
+mirrored-suc (suc zero) z = sym (negℤ-negℤ z)
+mirrored-suc (suc (suc o)) z = mirrored-suc o z
 
-pub mul-turned : (o : ℕ) (x z : ℤ) → x *ℤ turned o z ≡ turned o (x *ℤ z)
-unfolding turned
-mul-turned zero x z = refl
-mul-turned (suc zero) x z = ring! (x ∷ z ∷ []) (search quotes depth 40) (search quotes depth 40) tt
-mul-turned (suc (suc o)) x z = refl
+pub mirrored-twice : (o k : ℕ) (z : ℤ) → mirrored o (mirrored k z) ≡ mirrored (o + k) z
+unfolding mirrored
+mirrored-twice zero k z = ap (λ (i : ℕ). mirrored i z) (sym (zero-add k))
+mirrored-twice (suc o) k z = mirrored-suc o (mirrored k z) ∙ ap negℤ (mirrored-twice o k z) ∙ sym (ap (λ (i : ℕ). mirrored i z) (suc-add o k) ∙ mirrored-suc (o + k) z)
 
-pub sum-turned : (n o : ℕ) (f : ℕ → ℤ) → sum n (λ i. turned o (f i)) ≡ turned o (sum n f)
-unfolding sum turned
-sum-turned n zero f = refl
-sum-turned zero (suc zero) f = refl
-sum-turned (suc n) (suc zero) f =
-    ap (λ z. z +ℤ turned 1 (f n)) (sum-turned n 1 f) ∙ ring! (sum n f ∷ f n ∷ []) (search quotes depth 40) (search quotes depth 40) tt
-sum-turned n (suc (suc o)) f = refl
+pub mirrored-mul : (o : ℕ) (x z : ℤ) → mirrored o x *ℤ z ≡ mirrored o (x *ℤ z)
+unfolding mirrored
+mirrored-mul zero x z = refl
+mirrored-mul (suc zero) x z = negℤ-*ℤ x z
+mirrored-mul (suc (suc o)) x z = mirrored-mul o x z
 
-pub turned-size : (o : ℕ) (z : ℤ) → natAbs (turned o z) ≡ natAbs z
-unfolding turned
-turned-size zero z = refl
-turned-size (suc zero) (pos zero) = refl
-turned-size (suc zero) (pos (suc n)) = refl
-turned-size (suc zero) (negsuc n) = refl
-turned-size (suc (suc o)) z = refl
+pub mul-mirrored : (o : ℕ) (x z : ℤ) → x *ℤ mirrored o z ≡ mirrored o (x *ℤ z)
+unfolding mirrored
+mul-mirrored zero x z = refl
+mul-mirrored (suc zero) x z = *ℤ-negℤ x z
+mul-mirrored (suc (suc o)) x z = mul-mirrored o x z
+
+pub sum-mirrored : (n o : ℕ) (f : ℕ → ℤ) → sum n (λ i. mirrored o (f i)) ≡ mirrored o (sum n f)
+unfolding mirrored
+sum-mirrored n zero f = refl
+sum-mirrored n (suc zero) f = sum-neg n f
+sum-mirrored n (suc (suc o)) f = sum-mirrored n o f
+
+pub mirrored-size : (o : ℕ) (z : ℤ) → natAbs (mirrored o z) ≡ natAbs z
+unfolding mirrored
+mirrored-size zero z = refl
+mirrored-size (suc zero) z = abs-neg z
+mirrored-size (suc (suc o)) z = mirrored-size o z
+
+pub mirrored-none : (o : ℕ) → mirrored o (pos 0) ≡ pos 0
+unfolding mirrored
+mirrored-none zero = refl
+mirrored-none (suc zero) = refl
+mirrored-none (suc (suc o)) = mirrored-none o
 
 -- ---- what a coefficient takes
 
@@ -103,14 +117,14 @@ module _ (m : ℕ) where
   share-across i t p q = simp (pick-true {A = ℤ}, pick-false {A = ℤ}, le-ltb i m p, lt-ltb t m q)
 
   -- the coefficient counted from the high end, the number from the first of that end
-  share-high : (k o : ℕ) → k < m → share m (2 * m - 1 - k) (m + o) ≡ turned o (multiplier m k o)
+  share-high : (k o : ℕ) → k < m → share m (2 * m - 1 - k) (m + o) ≡ mirrored o (multiplier m k o)
   unfolding share
   share-high k o p =
       let again : 2 * m - 1 - (2 * m - 1 - k) ≡ k = omega arith in
       let first : m + o - m ≡ o = omega arith in
       simp (pick-false {A = ℤ}, le-ltb (2 * m - 1 - k) m (omega arith), le-ltb (m + o) m (omega arith), again, first)
 
--- coefficients by ends: the low ones of the low end, the high ones, counted from there, of the high end with its numbers turned
+-- coefficients by ends: the low ones of the low end, the high ones, counted from there, of the high end with its numbers mirrored
 module _ (m c : ℕ) (m2 : 2 ≤ m) (m3 : m ≤ 3) (x : ℕ → ℤ) where
   pub forward-low : (i : ℕ) → i < m → forward m c x i ≡ sum m (λ o. multiplier m i o *ℤ x (m * c + o))
   unfolding forward
@@ -121,82 +135,75 @@ module _ (m c : ℕ) (m2 : 2 ≤ m) (m3 : m ≤ 3) (x : ℕ → ℤ) where
       (sum-zero m (λ o. share m i (m + o) *ℤ x (m * c + (m + o))) (λ o p. ap (λ z. z *ℤ x (m * c + (m + o))) (share-cross m i (m + o) l (omega arith)) ∙ zero-*ℤ (x (m * c + (m + o)))))
       ∙ +ℤ-idr (sum m (λ o. multiplier m i o *ℤ x (m * c + o)))
 
-  pub forward-high : (k : ℕ) → k < m → forward m c x (2 * m - 1 - k) ≡ sum m (λ o. multiplier m k o *ℤ turned o (x (m * c + (m + o))))
+  pub forward-high : (k : ℕ) → k < m → forward m c x (2 * m - 1 - k) ≡ sum m (λ o. multiplier m k o *ℤ mirrored o (x (m * c + (m + o))))
   unfolding forward
   forward-high k l =
       sum-ends m m2 m3 (λ t. share m (2 * m - 1 - k) t *ℤ x (m * c + t))
       ∙ ap₂ _+ℤ_
       (sum-zero m (λ o. share m (2 * m - 1 - k) o *ℤ x (m * c + o)) (λ o p. ap (λ z. z *ℤ x (m * c + o)) (share-across m (2 * m - 1 - k) o (omega arith) p) ∙ zero-*ℤ (x (m * c + o))))
-      (sum-ext m (λ o. share m (2 * m - 1 - k) (m + o) *ℤ x (m * c + (m + o))) (λ o. multiplier m k o *ℤ turned o (x (m * c + (m + o))))
-      (λ o p. ap (λ z. z *ℤ x (m * c + (m + o))) (share-high m k o l) ∙ turned-mul o (multiplier m k o) (x (m * c + (m + o))) ∙ sym (mul-turned o (multiplier m k o) (x (m * c + (m + o))))))
-      ∙ +ℤ-idl (sum m (λ o. multiplier m k o *ℤ turned o (x (m * c + (m + o)))))
+      (sum-ext m (λ o. share m (2 * m - 1 - k) (m + o) *ℤ x (m * c + (m + o))) (λ o. multiplier m k o *ℤ mirrored o (x (m * c + (m + o))))
+      (λ o p. ap (λ z. z *ℤ x (m * c + (m + o))) (share-high m k o l) ∙ mirrored-mul o (multiplier m k o) (x (m * c + (m + o))) ∙ sym (mul-mirrored o (multiplier m k o) (x (m * c + (m + o))))))
+      ∙ +ℤ-idl (sum m (λ o. multiplier m k o *ℤ mirrored o (x (m * c + (m + o)))))
 
 -- ---- what a stage takes
 
 -- of a number of order o at the end at a distance b, the other end being at the distance a
-unfoldable pub endBasis : Kind → ℕ → ℤ → ℤ → ℕ → ℤ
+unfoldable pub endBasis : ℕ → ℕ → ℤ → ℤ → ℕ → ℤ
 endBasis k m a b o = sum m (λ i. multiplier m i o *ℤ weight k a b (2 * m - 1) i)
 
--- seen from the high end a derivative changes its sign
-unfoldable pub facing : Kind → ℤ → ℤ
-facing value z = z
-facing slope z = negℤ z
+-- numbers that are equal unless their factor is 0
+by-factor : (n : ℕ) (x y : ℤ) → (0 < n → x ≡ y) → pos n *ℤ x ≡ pos n *ℤ y
+by-factor zero x y h = zero-*ℤ x ∙ sym (zero-*ℤ y)
+by-factor (suc n) x y h = ap (λ z. pos (suc n) *ℤ z) (h (omega arith))
 
-pub facing-mul : (k : Kind) (x z : ℤ) → facing k x *ℤ z ≡ facing k (x *ℤ z)
-unfolding facing
-facing-mul value x z = refl
-facing-mul slope x z = negℤ-*ℤ x z
-
-mul-facing : (k : Kind) (x z : ℤ) → x *ℤ facing k z ≡ facing k (x *ℤ z)
-unfolding facing
-mul-facing value x z = refl
-mul-facing slope x z = *ℤ-negℤ x z
-
-sum-facing : (n : ℕ) (k : Kind) (f : ℕ → ℤ) → sum n (λ i. facing k (f i)) ≡ facing k (sum n f)
-unfolding facing
-sum-facing n value f = refl
-sum-facing n slope f = sum-neg n f
-
-pub facing-size : (k : Kind) (z : ℤ) → natAbs (facing k z) ≡ natAbs z
-unfolding facing
-facing-size value z = refl
-facing-size slope z = abs-neg z
-
-weight-facing : (k : Kind) (a b : ℤ) (d i : ℕ) → i ≤ d → weight k a b d (d - i) ≡ facing k (weight k b a d i)
-unfolding weight facing
-weight-facing value a b d i h =
+-- counted from the high end, a derivative of odd order changes its sign
+weight-mirrored : (k : ℕ) (a b : ℤ) (d i : ℕ) → i ≤ d → weight k a b d (d - i) ≡ mirrored k (weight k b a d i)
+unfolding weight mirrored
+weight-mirrored zero a b d i h =
     let again : d - (d - i) ≡ i = omega arith in
     ap (λ (j : ℕ). a ^ℤ j *ℤ b ^ℤ (d - i)) again ∙ *ℤ-comm (a ^ℤ i) (b ^ℤ (d - i))
-weight-facing slope a b d i h =
+weight-mirrored (suc k) a b d i h =
     let again : d - (d - i) ≡ i = omega arith in
-    ap (λ (j : ℕ). pos (d - i) *ℤ (a ^ℤ j *ℤ b ^ℤ (d - i - 1)) -ℤ pos j *ℤ (a ^ℤ (j - 1) *ℤ b ^ℤ (d - i))) again
-    ∙ swap (pos (d - i)) (pos i) (a ^ℤ i) (b ^ℤ (d - i - 1)) (a ^ℤ (i - 1)) (b ^ℤ (d - i))
+    ap₂ _-ℤ_
+    (by-factor (d - i) _ _ (λ l. (let e : d - i - 1 ≡ d - 1 - i = omega arith in ap (weight k a b (d - 1)) e) ∙ weight-mirrored k a b (d - 1) i (omega arith)))
+    (ap (λ (j : ℕ). pos j *ℤ weight k a b (d - 1) (d - i)) again
+    ∙ by-factor i _ _ (λ l. (let e : d - i ≡ d - 1 - (i - 1) = omega arith in ap (weight k a b (d - 1)) e) ∙ weight-mirrored k a b (d - 1) (i - 1) (omega arith)))
+    ∙ ap₂ _-ℤ_ (mul-mirrored k (pos (d - i)) (weight k b a (d - 1) i)) (mul-mirrored k (pos i) (weight k b a (d - 1) (i - 1)))
+    ∙ turn (pos i *ℤ weight k b a (d - 1) (i - 1)) (pos (d - i) *ℤ weight k b a (d - 1) i)
   where
-    swap : (e i p q r s : ℤ) → e *ℤ (p *ℤ q) -ℤ i *ℤ (r *ℤ s) ≡ negℤ (i *ℤ (s *ℤ r) -ℤ e *ℤ (q *ℤ p))
-    swap e i p q r s = ring! (e ∷ i ∷ p ∷ q ∷ r ∷ s ∷ []) (search quotes depth 40) (search quotes depth 40) tt
+    less : (k : ℕ) (x y : ℤ) → mirrored k y -ℤ mirrored k x ≡ negℤ (mirrored k (x -ℤ y))
+    less zero x y = ring! (x ∷ y ∷ []) (search quotes depth 40) (search quotes depth 40) tt
+    less (suc zero) x y = ring! (x ∷ y ∷ []) (search quotes depth 40) (search quotes depth 40) tt
+    less (suc (suc k)) x y = less k x y
 
-module _ (k : Kind) (m N u : ℕ) (m2 : 2 ≤ m) (m3 : m ≤ 3) where
+    turn : (x y : ℤ) → mirrored k y -ℤ mirrored k x ≡ mirrored (suc k) (x -ℤ y)
+    turn x y = less k x y ∙ sym (mirrored-suc k (x -ℤ y))
+
+module _ (k m N u : ℕ) (m2 : 2 ≤ m) (m3 : m ≤ 3) where
   pub basis-low : (o : ℕ) → o < m → basis k m N u o ≡ endBasis k m (pos (N - u)) (pos u) o
   unfolding basis endBasis weightAt
   basis-low o l =
       sum-halves m m2 m3 (λ i. share m i o *ℤ w i)
       ∙ ap₂ _+ℤ_ (sum-ext m (λ i. share m i o *ℤ w i) (λ i. multiplier m i o *ℤ w i) (λ i p. ap (λ z. z *ℤ w i) (share-low m i o p l)))
-      (sum-zero m (λ i. share m (2 * m - 1 - i) o *ℤ w (2 * m - 1 - i)) (λ i p. ap (λ z. z *ℤ w (2 * m - 1 - i)) (share-across m (2 * m - 1 - i) o (omega arith) l) ∙ zero-*ℤ (w (2 * m - 1 - i))))
+      (sum-zero m (λ i. share m (2 * m - 1 - i) o *ℤ w (2 * m - 1 - i))
+      (λ i p. ap (λ z. z *ℤ w (2 * m - 1 - i)) (share-across m (2 * m - 1 - i) o (omega arith) l) ∙ zero-*ℤ (w (2 * m - 1 - i))))
       ∙ +ℤ-idr (sum m (λ i. multiplier m i o *ℤ w i))
     where
       w : ℕ → ℤ
       w i = weight k (pos (N - u)) (pos u) (2 * m - 1) i
 
-  pub basis-high : (o : ℕ) → o < m → basis k m N u (m + o) ≡ turned o (facing k (endBasis k m (pos u) (pos (N - u)) o))
+  pub basis-high : (o : ℕ) → o < m → basis k m N u (m + o) ≡ mirrored (o + k) (endBasis k m (pos u) (pos (N - u)) o)
   unfolding basis endBasis weightAt
   basis-high o l =
       sum-halves m m2 m3 (λ i. share m i (m + o) *ℤ w i)
       ∙ ap₂ _+ℤ_
       (sum-zero m (λ i. share m i (m + o) *ℤ w i) (λ i p. ap (λ z. z *ℤ w i) (share-cross m i (m + o) p (omega arith)) ∙ zero-*ℤ (w i)))
-      (sum-ext m (λ i. share m (2 * m - 1 - i) (m + o) *ℤ w (2 * m - 1 - i)) (λ i. turned o (facing k (multiplier m i o *ℤ v i)))
-      (λ i p. ap₂ _*ℤ_ (share-high m i o p) (weight-facing k (pos (N - u)) (pos u) (2 * m - 1) i (omega arith)) ∙ turned-mul o (multiplier m i o) (facing k (v i)) ∙ ap (turned o) (mul-facing k (multiplier m i o) (v i))))
-      ∙ +ℤ-idl (sum m (λ i. turned o (facing k (multiplier m i o *ℤ v i))))
-      ∙ sum-turned m o (λ i. facing k (multiplier m i o *ℤ v i)) ∙ ap (turned o) (sum-facing m k (λ i. multiplier m i o *ℤ v i))
+      (sum-ext m (λ i. share m (2 * m - 1 - i) (m + o) *ℤ w (2 * m - 1 - i)) (λ i. mirrored (o + k) (multiplier m i o *ℤ v i))
+      (λ i p.
+      ap₂ _*ℤ_ (share-high m i o p) (weight-mirrored k (pos (N - u)) (pos u) (2 * m - 1) i (omega arith))
+      ∙ mirrored-mul o (multiplier m i o) (mirrored k (v i)) ∙ ap (mirrored o) (mul-mirrored k (multiplier m i o) (v i)) ∙ mirrored-twice o k (multiplier m i o *ℤ v i)))
+      ∙ +ℤ-idl (sum m (λ i. mirrored (o + k) (multiplier m i o *ℤ v i)))
+      ∙ sum-mirrored m (o + k) (λ i. multiplier m i o *ℤ v i)
     where
       w : ℕ → ℤ
       w i = weight k (pos (N - u)) (pos u) (2 * m - 1) i

@@ -1,6 +1,6 @@
 -- Laws of the definitions, for the crates above.
 pub mod HermiteLaws
-pub mod Ends
+pub mod StagePoint
 pub mod BackLaws
 pub mod Reach
 pub mod Sizes

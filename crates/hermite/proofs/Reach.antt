@@ -2,7 +2,7 @@
 -- moves by at most 2^o: 8/5 and 16.
 use mathlib.Core.Path.{_≡_, sym, ap, ap₂, subst, _∙_}
 use mathlib.Core.List.{[], _∷_}
-use Prim.Native.Nat.{ℕ, _+_, _*_, _-_, _%_, _^_, _≤_, _<_}
+use Prim.Native.Nat.{ℕ, zero, suc, _+_, _*_, _-_, _%_, _^_, _≤_, _<_}
 use native.Mathlib.Nat.{le-trans, le-of-eq, pow-suc, pow-zero, one-mul, mul-one, mul-le-mul-left, mul-le-mul-right, add-le-add, mod-eq-of-lt, add-mod-left}
 use native.Mathlib.Omega.{arith}
 use lib.Dec.{lit≤}
@@ -14,21 +14,23 @@ use Rattle.arith.proofs.Quote.{quotes, ring! }
 use Rattle.arith.proofs.Sums.{abs-sum, total-ext, total-mono, total-ends}
 use Rattle.arith.specs.Int.{_^ℤ_}
 use Rattle.arith.specs.Sum.{sum, total}
-use Rattle.hermite.specs.Hermite.{multiplier, Kind, value, slope, weight, divisor, basis}
-use Rattle.hermite.proofs.HermiteLaws.{endBasis, facing, basis-low, basis-high, turned-size, facing-size}
-use Rattle.hermite.proofs.Ends.{row, top, end-form}
+use Rattle.arith.specs.Choice.{pick}
+use Rattle.hermite.specs.Hermite.{multiplier, weight, divisor, basis}
+use Rattle.hermite.specs.Stage.{Smooth}
+use Rattle.hermite.proofs.HermiteLaws.{endBasis, basis-low, basis-high, mirrored-size}
+use Rattle.hermite.proofs.StagePoint.{row, top, end-form}
 
 -- the sizes of what a stage takes of the numbers of both ends, those of order o times g o
-spread : (ℕ → ℕ) → Kind → ℕ → ℕ → ℕ → ℕ
+spread : (ℕ → ℕ) → ℕ → ℕ → ℕ → ℕ → ℕ
 spread g k m N u = total (2 * m) (λ t. natAbs (basis k m N u t) * g (t % m))
 
 -- ---- by the two ends, as polynomials in the distances a = N − u and b = u
 
 -- of one end
-endSpread : (ℕ → ℕ) → Kind → ℕ → ℕ → ℕ → ℕ
+endSpread : (ℕ → ℕ) → ℕ → ℕ → ℕ → ℕ → ℕ
 endSpread g k m a b = total m (λ o. natAbs (endBasis k m (pos a) (pos b) o) * g o)
 
-spread-ends : (g : ℕ → ℕ) (k : Kind) (m N u : ℕ) → 2 ≤ m → m ≤ 3 → spread g k m N u ≡ endSpread g k m (N - u) u + endSpread g k m u (N - u)
+spread-ends : (g : ℕ → ℕ) (k m N u : ℕ) → 2 ≤ m → m ≤ 3 → spread g k m N u ≡ endSpread g k m (N - u) u + endSpread g k m u (N - u)
 unfolding spread endSpread
 spread-ends g k m N u m2 m3 =
     total-ends m m2 m3 (λ t. natAbs (basis k m N u t) * g (t % m))
@@ -37,27 +39,27 @@ spread-ends g k m N u m2 m3 =
     (λ o l. ap₂ (λ (x y : ℕ). x * g y) (ap natAbs (basis-low k m N u m2 m3 o l)) (mod-eq-of-lt l)))
     (total-ext m (λ o. natAbs (basis k m N u (m + o)) * g ((m + o) % m)) (λ o. natAbs (endBasis k m (pos u) (pos (N - u)) o) * g o)
     (λ o l. ap₂ (λ (x y : ℕ). x * g y)
-    (ap natAbs (basis-high k m N u m2 m3 o l) ∙ turned-size o (facing k (endBasis k m (pos u) (pos (N - u)) o)) ∙ facing-size k (endBasis k m (pos u) (pos (N - u)) o))
+    (ap natAbs (basis-high k m N u m2 m3 o l) ∙ mirrored-size (o + k) (endBasis k m (pos u) (pos (N - u)) o))
     (add-mod-left m o ∙ mod-eq-of-lt l)))
 
 -- each power apart
-numberApart : Kind → ℕ → ℕ → ℕ → ℕ → ℕ
+numberApart : ℕ → ℕ → ℕ → ℕ → ℕ → ℕ
 numberApart k m a b o = total m (λ j. natAbs (row k m j o) * natAbs (pos a ^ℤ (top k m - j) *ℤ pos b ^ℤ j))
 
-number-apart : (k : Kind) (m a b : ℕ) → 2 ≤ m → m ≤ 3 → (o : ℕ) → o < m → natAbs (endBasis k m (pos a) (pos b) o) ≤ numberApart k m a b o
+number-apart : (k m a b : ℕ) → 2 ≤ m → m ≤ 3 → (o : ℕ) → o < m → natAbs (endBasis k m (pos a) (pos b) o) ≤ numberApart k m a b o
 unfolding numberApart
 number-apart k m a b m2 m3 o l =
-    le-trans (le-of-eq (ap natAbs (end-form k m m2 m3 (pos a) (pos b) o l)))
+    le-trans (le-of-eq (ap natAbs (end-form k m (pos a) (pos b) o)))
     (le-trans (abs-sum m (λ j. row k m j o *ℤ power j))
     (le-of-eq (total-ext m (λ j. natAbs (row k m j o *ℤ power j)) (λ j. natAbs (row k m j o) * natAbs (power j)) (λ j p. abs-mul (row k m j o) (power j)))))
   where
     power : ℕ → ℤ
     power j = pos a ^ℤ (top k m - j) *ℤ pos b ^ℤ j
 
-apart : (ℕ → ℕ) → Kind → ℕ → ℕ → ℕ → ℕ
+apart : (ℕ → ℕ) → ℕ → ℕ → ℕ → ℕ → ℕ
 apart g k m a b = total m (λ o. numberApart k m a b o * g o)
 
-end-apart : (g : ℕ → ℕ) (k : Kind) (m a b : ℕ) → 2 ≤ m → m ≤ 3 → endSpread g k m a b ≤ apart g k m a b
+end-apart : (g : ℕ → ℕ) (k m a b : ℕ) → 2 ≤ m → m ≤ 3 → endSpread g k m a b ≤ apart g k m a b
 unfolding endSpread apart
 end-apart g k m a b m2 m3 =
     total-mono m (λ o. natAbs (endBasis k m (pos a) (pos b) o) * g o) (λ o. numberApart k m a b o * g o) (λ o l. mul-le-mul-right (g o) (number-apart k m a b m2 m3 o l))
@@ -79,25 +81,26 @@ module _ (N : ℕ) where
 
 -- ---- a dose, and a slope roughly
 
-dose-reach : (m : ℕ) → 2 ≤ m → m ≤ 3 → (a b : ℕ) → 4 * (apart (λ o. 1) value m a b + apart (λ o. 1) value m b a) ≤ 5 * divisor value m (a + b)
-unfolding divisor apart numberApart total row top multiplier
-dose-reach = by-m (λ m. (a b : ℕ) → 4 * (apart (λ o. 1) value m a b + apart (λ o. 1) value m b a) ≤ 5 * divisor value m (a + b))
+dose-reach : (m : ℕ) → 2 ≤ m → m ≤ 3 → (a b : ℕ) → 4 * (apart (λ o. 1) 0 m a b + apart (λ o. 1) 0 m b a) ≤ 5 * divisor 0 m (a + b)
+unfolding divisor apart numberApart total row top multiplier pick
+dose-reach = by-m (λ m. (a b : ℕ) → 4 * (apart (λ o. 1) 0 m a b + apart (λ o. 1) 0 m b a) ≤ 5 * divisor 0 m (a + b))
     (λ a b. rw (third (a + b)) (omega arith))
     (λ a b. rw (fifth (a + b)) (omega arith))
 
 -- in fifths of the divisor
-unfoldable pub growth : Kind → ℕ
-growth value = 8
-growth slope = 80
+unfoldable pub growth : ℕ → ℕ
+growth zero = 8
+growth (suc k) = 80
 
-apart-growth : (k : Kind) (m : ℕ) → 2 ≤ m → m ≤ 3 → (a b : ℕ) → 5 * (apart (λ o. 2 ^ o) k m a b + apart (λ o. 2 ^ o) k m b a) ≤ growth k * divisor k m (a + b)
-unfolding divisor apart numberApart total row top multiplier growth
-apart-growth value = by-m (λ m. (a b : ℕ) → 5 * (apart (λ o. 2 ^ o) value m a b + apart (λ o. 2 ^ o) value m b a) ≤ 8 * divisor value m (a + b))
+apart-growth : (k m : ℕ) → Smooth k m → 2 ≤ m → m ≤ 3 → (a b : ℕ) → 5 * (apart (λ o. 2 ^ o) k m a b + apart (λ o. 2 ^ o) k m b a) ≤ growth k * divisor k m (a + b)
+unfolding divisor apart numberApart total row top multiplier growth pick
+apart-growth zero m h = by-m (λ m. (a b : ℕ) → 5 * (apart (λ o. 2 ^ o) 0 m a b + apart (λ o. 2 ^ o) 0 m b a) ≤ 8 * divisor 0 m (a + b))
     (λ a b. rw (third (a + b)) (omega arith))
-    (λ a b. rw (fifth (a + b)) (omega arith))
-apart-growth slope = by-m (λ m. (a b : ℕ) → 5 * (apart (λ o. 2 ^ o) slope m a b + apart (λ o. 2 ^ o) slope m b a) ≤ 80 * divisor slope m (a + b))
+    (λ a b. rw (fifth (a + b)) (omega arith)) m
+apart-growth (suc zero) m h = by-m (λ m. (a b : ℕ) → 5 * (apart (λ o. 2 ^ o) 1 m a b + apart (λ o. 2 ^ o) 1 m b a) ≤ 80 * divisor 1 m (a + b))
     (λ a b. rw (second (a + b)) (omega arith))
-    (λ a b. rw (fourth (a + b)) (omega arith))
+    (λ a b. rw (fourth (a + b)) (omega arith)) m
+apart-growth (suc (suc k)) m h = absurd (omega arith)
 
 -- ---- a slope
 
@@ -125,11 +128,11 @@ shortfall x y h =
     less x k = ring! (x ∷ k ∷ []) (search quotes depth 40) (search quotes depth 40) tt
 
 -- the quintic D of an end: where a is at most three times b, 12a²b² is the larger part
-quintic-D : (a b : ℤ) → endBasis slope 3 a b 1 ≡ a *ℤ a *ℤ a *ℤ a +ℤ (pos 4 *ℤ (a *ℤ a *ℤ a *ℤ b) -ℤ pos 12 *ℤ (a *ℤ a *ℤ b *ℤ b))
+quintic-D : (a b : ℤ) → endBasis 1 3 a b 1 ≡ a *ℤ a *ℤ a *ℤ a +ℤ (pos 4 *ℤ (a *ℤ a *ℤ a *ℤ b) -ℤ pos 12 *ℤ (a *ℤ a *ℤ b *ℤ b))
 unfolding endBasis sum multiplier weight
 quintic-D a b = ring! (a ∷ b ∷ []) (search quotes depth 40) (search quotes depth 40) tt
 
-near-D : (a b : ℕ) → a ≤ 3 * b → natAbs (endBasis slope 3 (pos a) (pos b) 1) + 4 * (a * a * a * b) ≤ a * a * a * a + 12 * (a * a * b * b)
+near-D : (a b : ℕ) → a ≤ 3 * b → natAbs (endBasis 1 3 (pos a) (pos b) 1) + 4 * (a * a * a * b) ≤ a * a * a * a + 12 * (a * a * b * b)
 near-D a b h =
     let q = a * a * a * b in
     let r = a * a * b * b in
@@ -141,34 +144,34 @@ near-D a b h =
 abbrev one : ℕ → ℕ
 one o = 1
 
-cubic-end : (a b : ℕ) → endSpread one slope 2 a b ≤ a * a + 14 * (a * b)
-unfolding apart numberApart total row top multiplier
-cubic-end a b = le-trans (end-apart one slope 2 a b (lit≤ tt) (lit≤ tt)) (omega arith)
+cubic-end : (a b : ℕ) → endSpread one 1 2 a b ≤ a * a + 14 * (a * b)
+unfolding apart numberApart total row top multiplier pick
+cubic-end a b = le-trans (end-apart one 1 2 a b (lit≤ tt) (lit≤ tt)) (omega arith)
 
-quintic-end : (a b : ℕ) → endSpread one slope 3 a b ≤ a * a * a * a + 6 * (a * a * a * b) + 75 * (a * a * b * b)
-unfolding apart numberApart total row top multiplier
-quintic-end a b = le-trans (end-apart one slope 3 a b (lit≤ tt) (lit≤ tt)) (omega arith)
+quintic-end : (a b : ℕ) → endSpread one 1 3 a b ≤ a * a * a * a + 6 * (a * a * a * b) + 75 * (a * a * b * b)
+unfolding apart numberApart total row top multiplier pick
+quintic-end a b = le-trans (end-apart one 1 3 a b (lit≤ tt) (lit≤ tt)) (omega arith)
 
-quintic-near : (a b : ℕ) → a ≤ 3 * b → endSpread one slope 3 a b + 2 * (a * a * a * b) ≤ a * a * a * a + 75 * (a * a * b * b)
-unfolding endSpread numberApart total row top multiplier
+quintic-near : (a b : ℕ) → a ≤ 3 * b → endSpread one 1 3 a b + 2 * (a * a * a * b) ≤ a * a * a * a + 75 * (a * a * b * b)
+unfolding endSpread numberApart total row top multiplier pick
 quintic-near a b h =
-    let f = number-apart slope 3 a b (lit≤ tt) (lit≤ tt) 0 (lit≤ tt) in
+    let f = number-apart 1 3 a b (lit≤ tt) (lit≤ tt) 0 (lit≤ tt) in
     let d = near-D a b h in
-    let s = number-apart slope 3 a b (lit≤ tt) (lit≤ tt) 2 (lit≤ tt) in
+    let s = number-apart 1 3 a b (lit≤ tt) (lit≤ tt) 2 (lit≤ tt) in
     omega arith
 
 -- both ends: where neither a nor b is more than three times the other both are near; else a²b² is small
-quintic-slope : (a b : ℕ) → endSpread one slope 3 a b + endSpread one slope 3 b a ≤ 10 * ((a + b) * (a + b) * (a + b) * (a + b))
+quintic-slope : (a b : ℕ) → endSpread one 1 3 a b + endSpread one 1 3 b a ≤ 10 * ((a + b) * (a + b) * (a + b) * (a + b))
 quintic-slope a b = go (decLe a (3 * b)) (decLe b (3 * a))
   where
-    far : (a b : ℕ) → 3 * b ≤ a → endSpread one slope 3 a b + endSpread one slope 3 b a ≤ 10 * ((a + b) * (a + b) * (a + b) * (a + b))
+    far : (a b : ℕ) → 3 * b ≤ a → endSpread one 1 3 a b + endSpread one 1 3 b a ≤ 10 * ((a + b) * (a + b) * (a + b) * (a + b))
     far a b h =
         let p = quintic-end a b in
         let q = quintic-end b a in
         let z = mul-le-mul-left (a * a * b) h in
         omega arith
 
-    go : Dec (a ≤ 3 * b) → Dec (b ≤ 3 * a) → endSpread one slope 3 a b + endSpread one slope 3 b a ≤ 10 * ((a + b) * (a + b) * (a + b) * (a + b))
+    go : Dec (a ≤ 3 * b) → Dec (b ≤ 3 * a) → endSpread one 1 3 a b + endSpread one 1 3 b a ≤ 10 * ((a + b) * (a + b) * (a + b) * (a + b))
     go (yes h) (yes k) =
         let p = quintic-near a b h in
         let q = quintic-near b a k in
@@ -181,32 +184,33 @@ quintic-slope a b = go (decLe a (3 * b)) (decLe b (3 * a))
 -- ---- both kinds
 
 -- in quarters of the divisor
-unfoldable pub gain : Kind → ℕ
-gain value = 5
-gain slope = 20
+unfoldable pub gain : ℕ → ℕ
+gain zero = 5
+gain (suc k) = 20
 
-ends-gain : (k : Kind) (m : ℕ) → 2 ≤ m → m ≤ 3 → (a b : ℕ) → 4 * (endSpread one k m a b + endSpread one k m b a) ≤ gain k * divisor k m (a + b)
+ends-gain : (k m : ℕ) → Smooth k m → 2 ≤ m → m ≤ 3 → (a b : ℕ) → 4 * (endSpread one k m a b + endSpread one k m b a) ≤ gain k * divisor k m (a + b)
 unfolding gain divisor
-ends-gain value m m2 m3 a b =
-    le-trans (mul-le-mul-left 4 (add-le-add (end-apart one value m a b m2 m3) (end-apart one value m b a m2 m3))) (dose-reach m m2 m3 a b)
-ends-gain slope m m2 m3 a b =
-    by-m (λ m. 4 * (endSpread one slope m a b + endSpread one slope m b a) ≤ 20 * divisor slope m (a + b))
+ends-gain zero m h m2 m3 a b =
+    le-trans (mul-le-mul-left 4 (add-le-add (end-apart one 0 m a b m2 m3) (end-apart one 0 m b a m2 m3))) (dose-reach m m2 m3 a b)
+ends-gain (suc zero) m h m2 m3 a b =
+    by-m (λ m. 4 * (endSpread one 1 m a b + endSpread one 1 m b a) ≤ 20 * divisor 1 m (a + b))
     (rw (second (a + b)) (omega (arith, cubic-end a b, cubic-end b a, means a b)))
     (rw (fourth (a + b)) (omega (arith, quintic-slope a b))) m m2 m3
+ends-gain (suc (suc k)) m h m2 m3 a b = absurd (omega arith)
 
-ends-growth : (k : Kind) (m : ℕ) → 2 ≤ m → m ≤ 3 → (a b : ℕ) → 5 * (endSpread (λ o. 2 ^ o) k m a b + endSpread (λ o. 2 ^ o) k m b a) ≤ growth k * divisor k m (a + b)
-ends-growth k m m2 m3 a b =
-    le-trans (mul-le-mul-left 5 (add-le-add (end-apart (λ o. 2 ^ o) k m a b m2 m3) (end-apart (λ o. 2 ^ o) k m b a m2 m3))) (apart-growth k m m2 m3 a b)
+ends-growth : (k m : ℕ) → Smooth k m → 2 ≤ m → m ≤ 3 → (a b : ℕ) → 5 * (endSpread (λ o. 2 ^ o) k m a b + endSpread (λ o. 2 ^ o) k m b a) ≤ growth k * divisor k m (a + b)
+ends-growth k m h m2 m3 a b =
+    le-trans (mul-le-mul-left 5 (add-le-add (end-apart (λ o. 2 ^ o) k m a b m2 m3) (end-apart (λ o. 2 ^ o) k m b a m2 m3))) (apart-growth k m h m2 m3 a b)
 
 -- where each number moves by at most one
-unfoldable pub reach : Kind → ℕ → ℕ → ℕ → ℕ
+unfoldable pub reach : ℕ → ℕ → ℕ → ℕ → ℕ
 reach k m N u = total (2 * m) (λ t. natAbs (basis k m N u t))
 
 -- where a number of order o moves by at most 2^o
-unfoldable pub coarse : Kind → ℕ → ℕ → ℕ → ℕ
+unfoldable pub coarse : ℕ → ℕ → ℕ → ℕ → ℕ
 coarse k m N u = total (2 * m) (λ t. natAbs (basis k m N u t) * 2 ^ (t % m))
 
-module _ (k : Kind) (m N u : ℕ) (m2 : 2 ≤ m) (m3 : m ≤ 3) (h : u ≤ N) where
+module _ (k m N u : ℕ) (smooth : Smooth k m) (m2 : 2 ≤ m) (m3 : m ≤ 3) (h : u ≤ N) where
   rejoined : N - u + u ≡ N
   rejoined = omega arith
 
@@ -215,10 +219,10 @@ module _ (k : Kind) (m N u : ℕ) (m2 : 2 ≤ m) (m3 : m ≤ 3) (h : u ≤ N) wh
   reach-gain =
       subst (λ (M : ℕ). 4 * reach k m N u ≤ gain k * divisor k m M) rejoined
       (le-trans (mul-le-mul-left 4 (le-of-eq (total-ext (2 * m) (λ t. natAbs (basis k m N u t)) (λ t. natAbs (basis k m N u t) * 1) (λ t l. sym (mul-one (natAbs (basis k m N u t)))) ∙ spread-ends one k m N u m2 m3)))
-      (ends-gain k m m2 m3 (N - u) u))
+      (ends-gain k m smooth m2 m3 (N - u) u))
 
   pub coarse-growth : 5 * coarse k m N u ≤ growth k * divisor k m N
   unfolding coarse spread
   coarse-growth =
       subst (λ (M : ℕ). 5 * coarse k m N u ≤ growth k * divisor k m M) rejoined
-      (le-trans (mul-le-mul-left 5 (le-of-eq (spread-ends (λ o. 2 ^ o) k m N u m2 m3))) (ends-growth k m m2 m3 (N - u) u))
+      (le-trans (mul-le-mul-left 5 (le-of-eq (spread-ends (λ o. 2 ^ o) k m N u m2 m3))) (ends-growth k m smooth m2 m3 (N - u) u))

@@ -1,135 +1,154 @@
 -- The code's stage: the sum by the folded basis is the document's, and no sum on the way leaves 64 bits where the numbers are within 2^21, doubled with each order.
 use mathlib.Core.Bool.{Bool, true, false}
 use mathlib.Core.Path.{_≡_, refl, sym, ap, ap₂, _∙_}
-use Prim.Native.Nat.{ℕ, _+_, _*_, _-_, _%_, _^_, _≤_, _<_}
-use native.Mathlib.Nat.{le-refl, le-trans, le-of-eq, lt-of-le-of-lt, add-le-add, mul-le-mul, mod-eq-of-lt, add-mod-left, zero-mul}
+use Prim.Native.Nat.{ℕ, zero, suc, _+_, _*_, _-_, _%_, _^_, _≤_, _<_}
+use native.Mathlib.Nat.{le-refl, le-trans, le-of-eq, lt-of-le-of-lt, add-le-add, mul-le-mul, zero-mul, mul-comm, pow-suc}
 use native.Mathlib.Omega.{arith}
 use borrow.Author.Tests.{lt-ltb, le-ltb}
 use lib.Dec.{ltb, lit≤, lit<}
-use lib.Pow.{pow-mono}
+use lib.Pow.{pow-pos, pow-mono, pow-add}
 use lib.IntN.{ℤ, pos, _+ℤ_, _*ℤ_, natAbs, zero-*ℤ}
 use lib.Signed.{mag}
 use mir.Syntax.{w64}
 use mir.Val.{SFits}
 use mir.Facts.{toZ-ofZ}
 use Rattle.arith.proofs.Abs.{abs-add, sfits-abs}
-use Rattle.arith.proofs.Choices.{pick-true, pick-false, by-m, by-place}
+use Rattle.arith.proofs.Choices.{pick-true, pick-false, on-pick, by-m}
 use Rattle.arith.proofs.Sums.{sum-ext, total-ext, dot-sum, sum-three, total-three, total-ends}
 use Rattle.arith.specs.Choice.{pick}
 use Rattle.arith.specs.Int.{roundHalfUp}
 use Rattle.arith.specs.Sum.{sum, total}
 use Rattle.lattice.specs.Buffer.{at}
 use Rattle.hermite.specs.declared.Basis.{Basis}
-use Rattle.hermite.specs.Hermite.{Kind, value, slope, kindOf, divisor, basis, stageSum}
-use Rattle.hermite.specs.Stage.{steps, Folds, bothEnds, load, worth, shiftOf}
+use Rattle.hermite.specs.Hermite.{steps, divisor, basis, stageSum}
+use Rattle.hermite.specs.Stage.{Smooth, Folds, weighted, load, eighthsIn, shiftOf}
 use Rattle.hermite.proofs.DotLaws.{held}
 use Rattle.arith.proofs.Machine.{read}
-use Rattle.hermite.proofs.Ends.{by-ends}
+use Rattle.hermite.proofs.StagePoint.{by-ends}
 use Rattle.hermite.proofs.Reach.{coarse, growth, coarse-growth}
 use Rattle.hermite.proofs.Sizes.{stage-total}
 
--- ---- the numbers of two ends
+-- ---- one end
 
-pub ends-low : (m : ℕ) (low high : ℕ → ℤ) (o : ℕ) → o < m → bothEnds m low high o ≡ low o
-unfolding bothEnds
-ends-low m low high o l = pick-true (ltb o m) (low o) (high (o - m)) (lt-ltb o m l)
+-- three numbers x by a row that has nothing from order m on
+module _ (m : ℕ) (m2 : 2 ≤ m) (m3 : m ≤ 3) (r x : ℕ → ℤ) (none : (o : ℕ) → m ≤ o → o < 3 → r o ≡ pos 0) where
+  -- they count as far as order m only
+  pub end-sum : (B y : ℕ → ℤ) → ((o : ℕ) → o < m → r o ≡ B o) → ((o : ℕ) → o < m → x o ≡ y o) → sum 3 (λ o. r o *ℤ x o) ≡ sum m (λ o. B o *ℤ y o)
+  end-sum B y is same =
+      sum-three m m2 m3 (λ o. r o *ℤ x o) (λ o h l. ap (λ z. z *ℤ x o) (none o h l) ∙ zero-*ℤ (x o))
+      ∙ sum-ext m (λ o. r o *ℤ x o) (λ o. B o *ℤ y o) (λ o l. ap₂ _*ℤ_ (is o l) (same o l))
 
-pub ends-high : (m : ℕ) (low high : ℕ → ℤ) (o : ℕ) → bothEnds m low high (m + o) ≡ high o
-unfolding bothEnds
-ends-high m low high o = pick-false (ltb (m + o) m) (low (m + o)) (high (m + o - m)) (le-ltb (m + o) m (omega arith)) ∙ ap high (omega arith)
+  end-total : (B y : ℕ → ℤ) → ((o : ℕ) → o < m → r o ≡ B o) → ((o : ℕ) → o < m → x o ≡ y o)
+      → total 3 (λ o. natAbs (r o) * natAbs (x o)) ≡ total m (λ o. natAbs (B o) * natAbs (y o))
+  end-total B y is same =
+      total-three m m2 m3 (λ o. natAbs (r o) * natAbs (x o)) (λ o h l. ap (λ z. natAbs z * natAbs (x o)) (none o h l) ∙ zero-mul (natAbs (x o)))
+      ∙ total-ext m (λ o. natAbs (r o) * natAbs (x o)) (λ o. natAbs (B o) * natAbs (y o)) (λ o l. ap₂ (λ z w. natAbs z * natAbs w) (is o l) (same o l))
 
--- one end's three numbers x by a row that has nothing from order m on
-module _ (m : ℕ) (m2 : 2 ≤ m) (m3 : m ≤ 3) (r B x : ℕ → ℤ) (is : (o : ℕ) → o < 3 → r o ≡ pick (ltb o m) (B o) (pos 0)) where
-  inside : (o : ℕ) → o < m → r o ≡ B o
-  inside o l = is o (omega arith) ∙ pick-true (ltb o m) (B o) (pos 0) (lt-ltb o m l)
-
-  beyond : (o : ℕ) → m ≤ o → o < 3 → r o ≡ pos 0
-  beyond o h l = is o l ∙ pick-false (ltb o m) (B o) (pos 0) (le-ltb o m h)
-
-  end-sum : sum 3 (λ o. r o *ℤ x o) ≡ sum m (λ o. B o *ℤ x o)
-  end-sum =
-      sum-three m m2 m3 (λ o. r o *ℤ x o) (λ o h l. ap (λ z. z *ℤ x o) (beyond o h l) ∙ zero-*ℤ (x o))
-      ∙ sum-ext m (λ o. r o *ℤ x o) (λ o. B o *ℤ x o) (λ o l. ap (λ z. z *ℤ x o) (inside o l))
-
-  end-total : total 3 (λ o. natAbs (r o) * natAbs (x o)) ≡ total m (λ o. natAbs (B o) * natAbs (x o))
-  end-total =
-      total-three m m2 m3 (λ o. natAbs (r o) * natAbs (x o)) (λ o h l. ap (λ z. natAbs z * natAbs (x o)) (beyond o h l) ∙ zero-mul (natAbs (x o)))
-      ∙ total-ext m (λ o. natAbs (r o) * natAbs (x o)) (λ o. natAbs (B o) * natAbs (x o)) (λ o l. ap (λ z. natAbs z * natAbs (x o)) (inside o l))
+-- a basis has nothing from order m on
+pub folds-none : {k m u : ℕ} {b : Basis} → Folds k m u b → (o : ℕ) → m ≤ o → o < 3 → (at (b .low) o ≡ pos 0) × (at (b .high) o ≡ pos 0)
+folds-none {k} {m} {u} f o h l = (
+  f .low o l ∙ pick-false (ltb o m) (basis k m steps u o) (pos 0) (le-ltb o m h),
+  f .high o l ∙ pick-false (ltb o m) (basis k m steps u (m + o)) (pos 0) (le-ltb o m h),
+)
 
 -- ---- a stage by its basis
 
-growth-small : (k : Kind) (m : ℕ) → 2 ≤ m → m ≤ 3 → growth k * divisor k m steps ≤ 2 ^ 44
+growth-small : (k m : ℕ) → Smooth k m → 2 ≤ m → m ≤ 3 → growth k * divisor k m steps ≤ 2 ^ 44
 unfolding growth divisor
-growth-small value = by-m (λ m. growth value * divisor value m steps ≤ 2 ^ 44) (lit≤ tt) (lit≤ tt)
-growth-small slope = by-m (λ m. growth slope * divisor slope m steps ≤ 2 ^ 44) (lit≤ tt) (lit≤ tt)
+growth-small zero m h = by-m (λ m. growth 0 * divisor 0 m steps ≤ 2 ^ 44) (lit≤ tt) (lit≤ tt) m
+growth-small (suc zero) m h = by-m (λ m. growth 1 * divisor 1 m steps ≤ 2 ^ 44) (lit≤ tt) (lit≤ tt) m
+growth-small (suc (suc k)) m h = absurd (omega arith)
 
-module _ (k : Kind) (m u : ℕ) (b : Basis) (f : Folds k m u b) (low high : ℕ → ℤ) where
-  x : ℕ → ℤ
-  x = bothEnds m low high
+-- numbers of two ends, which are the numbers y of a cell
+module _ {k m u : ℕ} {b : Basis} (f : Folds k m u b) (low high y : ℕ → ℤ)
+    (lows : (o : ℕ) → o < m → low o ≡ y o) (highs : (o : ℕ) → o < m → high o ≡ y (m + o)) where
+  low-is : (o : ℕ) → o < m → at (b .low) o ≡ basis k m steps u o
+  low-is o l = f .low o (let h = f .m-high in omega arith) ∙ pick-true (ltb o m) (basis k m steps u o) (pos 0) (lt-ltb o m l)
 
-  lows : (o : ℕ) → o < m → x (m * 0 + o) ≡ low o
-  unfolding x
-  lows o l = ap (bothEnds m low high) (omega arith) ∙ ends-low m low high o l
+  high-is : (o : ℕ) → o < m → at (b .high) o ≡ basis k m steps u (m + o)
+  high-is o l = f .high o (let h = f .m-high in omega arith) ∙ pick-true (ltb o m) (basis k m steps u (m + o)) (pos 0) (lt-ltb o m l)
 
-  highs : (o : ℕ) → x (m * 0 + (m + o)) ≡ high o
-  unfolding x
-  highs o = ap (bothEnds m low high) (omega arith) ∙ ends-high m low high o
+  none : (o : ℕ) → m ≤ o → o < 3 → (at (b .low) o ≡ pos 0) × (at (b .high) o ≡ pos 0)
+  none = folds-none f
 
-  pub stage-folded : sum 3 (λ o. at (b .low) o *ℤ low o) +ℤ sum 3 (λ o. at (b .high) o *ℤ high o) ≡ stageSum k m steps 0 u (bothEnds m low high) 0
-  unfolding x
+  from-first : (t : ℕ) → y t ≡ y (m * 0 + t)
+  from-first t = ap y (omega arith)
+
+  pub stage-folded : weighted b low high ≡ stageSum k m steps 0 u y 0
+  unfolding weighted
   stage-folded =
-      ap₂ _+ℤ_ (end-sum m (f .m-low) (f .m-high) (at (b .low)) (basis k m steps u) low (f .low)) (end-sum m (f .m-low) (f .m-high) (at (b .high)) (λ o. basis k m steps u (m + o)) high (f .high))
-      ∙ sym (by-ends k m steps 0 u (f .m-low) (f .m-high) x 0
-      ∙ ap₂ _+ℤ_ (sum-ext m (λ o. basis k m steps u o *ℤ x (m * 0 + o)) (λ o. basis k m steps u o *ℤ low o) (λ o l. ap (λ z. basis k m steps u o *ℤ z) (lows o l)))
-      (sum-ext m (λ o. basis k m steps u (m + o) *ℤ x (m * 0 + (m + o))) (λ o. basis k m steps u (m + o) *ℤ high o) (λ o l. ap (λ z. basis k m steps u (m + o) *ℤ z) (highs o))))
+      ap₂ _+ℤ_
+      (end-sum m (f .m-low) (f .m-high) (at (b .low)) low (λ o h l. none o h l .0) (basis k m steps u) (λ o. y (m * 0 + o)) low-is
+      (λ o l. lows o l ∙ from-first o))
+      (end-sum m (f .m-low) (f .m-high) (at (b .high)) high (λ o h l. none o h l .1) (λ o. basis k m steps u (m + o)) (λ o. y (m * 0 + (m + o))) high-is
+      (λ o l. highs o l ∙ from-first (m + o)))
+      ∙ sym (by-ends k m steps 0 u (f .m-low) (f .m-high) y 0)
 
-  module _ (B : ℕ) (low-in : (o : ℕ) → o < m → natAbs (low o) ≤ B * 2 ^ o) (high-in : (o : ℕ) → o < m → natAbs (high o) ≤ B * 2 ^ o) where
-    small : (t : ℕ) → t < 2 * m → natAbs (x (m * 0 + t)) ≤ B * 2 ^ (t % m)
-    small =
-        by-place m (λ t. natAbs (x (m * 0 + t)) ≤ B * 2 ^ (t % m))
-        (λ o l. le-trans (le-of-eq (ap natAbs (lows o l))) (le-trans (low-in o l) (le-of-eq (ap (λ (i : ℕ). B * 2 ^ i) (sym (mod-eq-of-lt l))))))
-        (λ o l. le-trans (le-of-eq (ap natAbs (highs o))) (le-trans (high-in o l) (le-of-eq (ap (λ (i : ℕ). B * 2 ^ i) (sym (add-mod-left m o ∙ mod-eq-of-lt l))))))
-
+  module _ (B : ℕ) (small : (t : ℕ) → t < 2 * m → natAbs (y t) ≤ B * 2 ^ (t % m)) where
     load-size : load b low high ≤ coarse k m steps u * B
     unfolding load
     load-size =
         le-trans
         (le-of-eq
-        (ap₂ _+_ (end-total m (f .m-low) (f .m-high) (at (b .low)) (basis k m steps u) low (f .low)) (end-total m (f .m-low) (f .m-high) (at (b .high)) (λ o. basis k m steps u (m + o)) high (f .high))
-        ∙ sym (total-ends m (f .m-low) (f .m-high) (λ t. natAbs (basis k m steps u t) * natAbs (x (m * 0 + t)))
-        ∙ ap₂ _+_ (total-ext m (λ o. natAbs (basis k m steps u o) * natAbs (x (m * 0 + o))) (λ o. natAbs (basis k m steps u o) * natAbs (low o)) (λ o l. ap (λ z. natAbs (basis k m steps u o) * natAbs z) (lows o l)))
-        (total-ext m (λ o. natAbs (basis k m steps u (m + o)) * natAbs (x (m * 0 + (m + o)))) (λ o. natAbs (basis k m steps u (m + o)) * natAbs (high o)) (λ o l. ap (λ z. natAbs (basis k m steps u (m + o)) * natAbs z) (highs o))))))
-        (stage-total k m steps 0 u x B small)
+        (ap₂ _+_ (end-total m (f .m-low) (f .m-high) (at (b .low)) low (λ o h l. none o h l .0) (basis k m steps u) y low-is lows)
+        (end-total m (f .m-low) (f .m-high) (at (b .high)) high (λ o h l. none o h l .1) (λ o. basis k m steps u (m + o)) (λ o. y (m + o)) high-is highs)
+        ∙ sym (total-ends m (f .m-low) (f .m-high) (λ t. natAbs (basis k m steps u t) * natAbs (y t)))
+        ∙ total-ext (2 * m) (λ t. natAbs (basis k m steps u t) * natAbs (y t)) (λ t. natAbs (basis k m steps u t) * natAbs (y (m * 0 + t)))
+        (λ t l. ap (λ z. natAbs (basis k m steps u t) * natAbs z) (from-first t))))
+        (stage-total k m steps 0 u y B (λ t l. le-trans (le-of-eq (ap natAbs (sym (from-first t)))) (small t l)))
 
     -- what a stage asks for
     pub stage-fits : B ≤ 2 ^ 21 → load b low high ≤ 2 ^ 63 - 2 ^ 45
     stage-fits h =
-        let c = mul-le-mul (le-trans (coarse-growth k m steps u (f .m-low) (f .m-high) (f .step)) (growth-small k m (f .m-low) (f .m-high))) h in
+        let c = mul-le-mul (le-trans (coarse-growth k m steps u (f .smooth) (f .m-low) (f .m-high) (f .step)) (growth-small k m (f .smooth) (f .m-low) (f .m-high))) h in
         let l = load-size in
         omega arith
 
 -- ---- in units or in eighths
 
-pub worth-some : (b : Bool) → 0 < worth b
-unfolding worth
-worth-some true = lit< tt
-worth-some false = lit< tt
+-- a number in units counts 2^3 eighths
+eighths : Bool → ℕ
+eighths b = pick b 3 0
+
+few-eighths : (b : Bool) → eighths b ≤ 3
+unfolding eighths
+few-eighths b = on-pick (λ (i : ℕ). i ≤ 3) b 3 0 (λ e. lit≤ tt) (λ e. lit≤ tt)
+
+worth-power : (b : Bool) → eighthsIn b ≡ 2 ^ (3 - eighths b)
+unfolding eighthsIn eighths pick
+worth-power true = refl
+worth-power false = refl
+
+pub worth-some : (b : Bool) → 0 < eighthsIn b
+worth-some b = rw (worth-power b) (pow-pos (3 - eighths b))
+
+byte-power : (n : ℕ) → 256 ^ n ≡ 2 ^ (8 * n)
+byte-power zero = refl
+byte-power (suc n) = pow-suc 256 n ∙ ap (λ (i : ℕ). i * 256) (byte-power n) ∙ sym (ap (λ (i : ℕ). 2 ^ i) (more n) ∙ pow-add 2 (8 * n) 8)
+  where
+    more : (n : ℕ) → 8 * suc n ≡ 8 * n + 8
+    more n = omega arith
 
 -- the shift of a stage stands for its divisor
-pub record Shifted (slope : Bool) (m : ℕ) (from to : Bool) : Type 0 where
-  pub low : shiftOf slope m from to ≤ 44
-  pub is : 2 ^ (shiftOf slope m from to + 1) * worth from ≡ divisor (kindOf slope) m steps * worth to
+pub record Shifted (k m : ℕ) (from to : Bool) : Type 0 where
+  pub low : shiftOf k m from to ≤ 44
+  pub is : 2 ^ (shiftOf k m from to + 1) * eighthsIn from ≡ divisor k m steps * eighthsIn to
 
-pub shifted : (slope from to : Bool) (m : ℕ) → 2 ≤ m → m ≤ 3 → Shifted slope m from to
-unfolding shiftOf worth divisor kindOf pick
-shifted true true true = by-m (λ m. Shifted true m true true) (record { low = lit≤ tt; is = refl }) (record { low = lit≤ tt; is = refl })
-shifted true true false = by-m (λ m. Shifted true m true false) (record { low = lit≤ tt; is = refl }) (record { low = lit≤ tt; is = refl })
-shifted true false true = by-m (λ m. Shifted true m false true) (record { low = lit≤ tt; is = refl }) (record { low = lit≤ tt; is = refl })
-shifted true false false = by-m (λ m. Shifted true m false false) (record { low = lit≤ tt; is = refl }) (record { low = lit≤ tt; is = refl })
-shifted false true true = by-m (λ m. Shifted false m true true) (record { low = lit≤ tt; is = refl }) (record { low = lit≤ tt; is = refl })
-shifted false true false = by-m (λ m. Shifted false m true false) (record { low = lit≤ tt; is = refl }) (record { low = lit≤ tt; is = refl })
-shifted false false true = by-m (λ m. Shifted false m false true) (record { low = lit≤ tt; is = refl }) (record { low = lit≤ tt; is = refl })
-shifted false false false = by-m (λ m. Shifted false m false false) (record { low = lit≤ tt; is = refl }) (record { low = lit≤ tt; is = refl })
+pub shifted : (k m : ℕ) (from to : Bool) → Smooth k m → 2 ≤ m → m ≤ 3 → Shifted k m from to
+unfolding shiftOf divisor eighths
+shifted k m from to smooth m2 m3 =
+    let f = few-eighths from in
+    let t = few-eighths to in
+    let n = 2 * m - 1 - k in
+    let less : 3 ≤ 8 * (2 * m - 1 - k) = omega arith in
+    record {
+      low = omega arith;
+      is =
+          ap (λ (i : ℕ). 2 ^ (8 * n + eighths from - eighths to + 1) * i) (worth-power from)
+          ∙ sym (pow-add 2 (8 * n + eighths from - eighths to + 1) (3 - eighths from)) ∙ ap (λ (i : ℕ). 2 ^ i) (omega arith)
+          ∙ pow-add 2 (8 * n + 1) (3 - eighths to)
+          ∙ ap₂ _*_ (pow-add 2 (8 * n) 1 ∙ ap (λ (i : ℕ). i * 2) (sym (byte-power n)) ∙ mul-comm (256 ^ n) 2) (sym (worth-power to));
+    }
 
 -- ---- as the machine works it out
 
@@ -144,12 +163,16 @@ module _ (b : Basis) (low high : ℕ → ℤ) (small : load b low high ≤ 2 ^ 6
 
   -- the two sums, added
   module _ (p q : ℤ) (hp : mag p < 2 ^ 63) (hq : mag q < 2 ^ 63) (ep : p ≡ sum 3 (λ o. at (b .low) o *ℤ low o)) (eq : q ≡ sum 3 (λ o. at (b .high) o *ℤ high o)) where
-    added : held p +ℤ held q ≡ sum 3 (λ o. at (b .low) o *ℤ low o) +ℤ sum 3 (λ o. at (b .high) o *ℤ high o)
+    added : held p +ℤ held q ≡ weighted b low high
+    unfolding weighted
     added = ap₂ _+ℤ_ (read p hp ∙ ep) (read q hq ∙ eq)
 
     added-size : natAbs (held p +ℤ held q) ≤ 2 ^ 63 - 2 ^ 45
-    unfolding load
-    added-size = le-trans (le-of-eq (ap natAbs added)) (le-trans (abs-add (sum 3 (λ o. at (b .low) o *ℤ low o)) (sum 3 (λ o. at (b .high) o *ℤ high o))) (le-trans (add-le-add (part (at (b .low)) low) (part (at (b .high)) high)) small))
+    unfolding load weighted
+    added-size =
+        le-trans (le-of-eq (ap natAbs added))
+        (le-trans (abs-add (sum 3 (λ o. at (b .low) o *ℤ low o)) (sum 3 (λ o. at (b .high) o *ℤ high o)))
+        (le-trans (add-le-add (part (at (b .low)) low) (part (at (b .high)) high)) small))
       where
         part : (f g : ℕ → ℤ) → natAbs (sum 3 (λ o. f o *ℤ g o)) ≤ total 3 (λ o. natAbs (f o) * natAbs (g o))
         part f g = dot-sum 3 f g (total 3 (λ o. natAbs (f o) * natAbs (g o))) (le-refl (total 3 (λ o. natAbs (f o) * natAbs (g o)))) 3 (lit≤ tt)
@@ -165,5 +188,5 @@ module _ (b : Basis) (low high : ℕ → ℤ) (small : load b low high ≤ 2 ^ 6
         let g : 2 ^ k ≤ 2 ^ 44 = pow-mono h in
         (omega arith, omega arith)
 
-    pub stage-done : (k : ℕ) (kind : Kind) (m u : ℕ) → Folds kind m u b → roundHalfUp (held (held p +ℤ held q)) (2 ^ (k + 1)) ≡ roundHalfUp (stageSum kind m steps 0 u (bothEnds m low high) 0) (2 ^ (k + 1))
-    stage-done k kind m u f = ap (λ z. roundHalfUp z (2 ^ (k + 1))) (toZ-ofZ added-fits ∙ added ∙ stage-folded kind m u b f low high)
+    pub rounds : (y : ℕ) → roundHalfUp (held (held p +ℤ held q)) y ≡ roundHalfUp (weighted b low high) y
+    rounds y = ap (λ z. roundHalfUp z y) (toZ-ofZ added-fits ∙ added)

@@ -1,23 +1,24 @@
 -- The code's weights are the definition's, case by case, and how large they are.
 use mathlib.Core.Path.{_≡_, sym, ap, ap₂, _∙_}
-use mathlib.Core.Bool.{Bool}
 use mathlib.Core.List.{[], _∷_}
 use Prim.Native.Nat.{ℕ, zero, suc, _+_, _*_, _-_, _^_, _≤_, _<_}
-use native.Mathlib.Nat.{le-trans, le-of-eq, mul-comm, pow-suc, pow-le-pow-right}
+use native.Mathlib.Nat.{le-trans, le-of-eq, mul-comm, pow-suc, pow-le-pow-right, sub-zero}
 use native.Mathlib.Omega.{arith}
 use lib.Dec.{lit≤, lit<}
 use lib.Pow.{pow-add}
-use lib.IntN.{ℤ, pos, _-ℤ_, _*ℤ_, natAbs}
+use lib.IntN.{ℤ, pos, _-ℤ_, _*ℤ_, natAbs, zero-*ℤ}
 use mir.Syntax.{w64}
 use mir.Val.{SFits}
 use mir.Facts.{toZ-ofZ}
 use Rattle.arith.specs.Int.{_^ℤ_}
 use Rattle.arith.proofs.Abs.{abs-mul-le, abs-minus}
 use Rattle.arith.proofs.Machine.{sized, sizes, fits?, value?}
+use Rattle.arith.proofs.Laws.{*ℤ-assoc, pos-one-*ℤ}
+use Rattle.arith.proofs.Order.{subℕ-pos}
 use Rattle.arith.proofs.Quote.{quotes, ring! }
 use Rattle.lattice.specs.Buffer.{at}
-use Rattle.hermite.specs.Hermite.{Kind, value, slope, kindOf, weight}
-use Rattle.arith.proofs.Choices.{by-m, by-3}
+use Rattle.hermite.specs.Hermite.{weight}
+use Rattle.arith.proofs.Choices.{by-3}
 use Rattle.hermite.proofs.DotLaws.{held}
 
 -- ---- as the code writes them
@@ -44,34 +45,38 @@ module _ (a b : ℤ) where
   pub products-row : (m n : ℕ) → m ≡ n → (x y z : ℤ) → x ≡ product n 0 → y ≡ product n 1 → z ≡ product n 2 → (k : ℕ) → k < 3 → at (x ∷ y ∷ z ∷ []) k ≡ product m k
   products-row m n e x y z p q r k l = by-3 (λ k. at (x ∷ y ∷ z ∷ []) k ≡ product n k) p q r k l ∙ ap (λ (i : ℕ). product i k) (sym e)
 
-  pub value-weight : (m : ℕ) → 2 ≤ m → m ≤ 3 → (k : ℕ) → k < 3 → a *ℤ product m k ≡ weight value a b (2 * m - 1) k
+  -- of a dose: one factor more, for every degree and number
+  pub value-weight : (m k : ℕ) → k + 2 ≤ 2 * m → a *ℤ product m k ≡ weight 0 a b (2 * m - 1) k
   unfolding weight
-  value-weight =
-      by-m (λ m. (k : ℕ) → k < 3 → a *ℤ product m k ≡ weight value a b (2 * m - 1) k)
-      (by-3 (λ k. a *ℤ product 2 k ≡ weight value a b 3 k)
-      (ring! (a ∷ b ∷ []) (search quotes depth 40) (search quotes depth 40) tt)
-      (ring! (a ∷ b ∷ []) (search quotes depth 40) (search quotes depth 40) tt)
-      (ring! (a ∷ b ∷ []) (search quotes depth 40) (search quotes depth 40) tt))
-      (by-3 (λ k. a *ℤ product 3 k ≡ weight value a b 5 k)
-      (ring! (a ∷ b ∷ []) (search quotes depth 40) (search quotes depth 40) tt)
-      (ring! (a ∷ b ∷ []) (search quotes depth 40) (search quotes depth 40) tt)
-      (ring! (a ∷ b ∷ []) (search quotes depth 40) (search quotes depth 40) tt))
+  value-weight m k h =
+      let e : suc (2 * m - 2 - k) ≡ 2 * m - 1 - k = omega arith in
+      sym (*ℤ-assoc a (a ^ℤ (2 * m - 2 - k)) (b ^ℤ k)) ∙ ap (λ (i : ℕ). a ^ℤ i *ℤ b ^ℤ k) e
 
-  abbrev slopes : ℕ → Type 0
-  slopes m = (pos 0 -ℤ pos (2 * m - 1) *ℤ product m 0 ≡ weight slope a b (2 * m - 1) 0)
-      × (product m 0 -ℤ (pos (2 * m - 1) -ℤ pos 1) *ℤ product m 1 ≡ weight slope a b (2 * m - 1) 1)
-      × (pos 2 *ℤ product m 1 -ℤ (pos (2 * m - 1) -ℤ pos 2) *ℤ product m 2 ≡ weight slope a b (2 * m - 1) 2)
-
-  pub slope-weights : (m : ℕ) → 2 ≤ m → m ≤ 3 → slopes m
+  -- of a slope: two products, of which the first counts k times and the second d − k times, for every degree and number
+  slope-weight : (m k : ℕ) → pos k *ℤ product m (k - 1) -ℤ pos (2 * m - 1 - k) *ℤ product m k ≡ weight 1 a b (2 * m - 1) k
   unfolding weight
-  slope-weights = by-m slopes
-      (ring! (a ∷ b ∷ []) (search quotes depth 40) (search quotes depth 40) tt, ring! (a ∷ b ∷ []) (search quotes depth 40) (search quotes depth 40) tt, ring! (a ∷ b ∷ []) (search quotes depth 40) (search quotes depth 40) tt)
-      (ring! (a ∷ b ∷ []) (search quotes depth 40) (search quotes depth 40) tt, ring! (a ∷ b ∷ []) (search quotes depth 40) (search quotes depth 40) tt, ring! (a ∷ b ∷ []) (search quotes depth 40) (search quotes depth 40) tt)
+  slope-weight m k = ap (λ (d : ℕ). pos k *ℤ (a ^ℤ (d - (k - 1)) *ℤ b ^ℤ (k - 1)) -ℤ pos (2 * m - 1 - k) *ℤ (a ^ℤ (d - k) *ℤ b ^ℤ k)) (less m)
+    where
+      less : (m : ℕ) → 2 * m - 2 ≡ 2 * m - 1 - 1
+      less m = omega arith
 
--- three weights as an array, for the flag of a branch
-pub weights-row : (flag way : Bool) → flag ≡ way → (a b : ℤ) (d : ℕ) (x y z : ℤ) → x ≡ weight (kindOf way) a b d 0 → y ≡ weight (kindOf way) a b d 1 → z ≡ weight (kindOf way) a b d 2
-    → (k : ℕ) → k < 3 → at (x ∷ y ∷ z ∷ []) k ≡ weight (kindOf flag) a b d k
-weights-row flag way e a b d x y z p q r k l = by-3 (λ k. at (x ∷ y ∷ z ∷ []) k ≡ weight (kindOf way) a b d k) p q r k l ∙ ap (λ (s : Bool). weight (kindOf s) a b d k) (sym e)
+  -- the three of an end, as the code writes them
+  pub record SlopeWeights (m : ℕ) : Type 0 where
+    pub first : pos 0 -ℤ pos (2 * m - 1) *ℤ product m 0 ≡ weight 1 a b (2 * m - 1) 0
+    pub second : product m 0 -ℤ (pos (2 * m - 1) -ℤ pos 1) *ℤ product m 1 ≡ weight 1 a b (2 * m - 1) 1
+    pub third : pos 2 *ℤ product m 1 -ℤ (pos (2 * m - 1) -ℤ pos 2) *ℤ product m 2 ≡ weight 1 a b (2 * m - 1) 2
+
+  pub slope-weights : (m : ℕ) → 2 ≤ m → SlopeWeights m
+  slope-weights m h = record {
+    first = ap₂ (λ (x : ℤ) (e : ℕ). x -ℤ pos e *ℤ product m 0) (sym (zero-*ℤ (product m 0))) (sym (sub-zero (2 * m - 1))) ∙ slope-weight m 0;
+    second = ap₂ (λ x y. x -ℤ y *ℤ product m 1) (sym (pos-one-*ℤ (product m 0))) (subℕ-pos (2 * m - 1) 1 (omega arith)) ∙ slope-weight m 1;
+    third = ap (λ y. pos 2 *ℤ product m 1 -ℤ y *ℤ product m 2) (subℕ-pos (2 * m - 1) 2 (omega arith)) ∙ slope-weight m 2;
+  }
+
+-- three weights as an array, for the order of a branch
+pub weights-row : (order k : ℕ) → order ≡ k → (a b : ℤ) (d : ℕ) (x y z : ℤ) → x ≡ weight k a b d 0 → y ≡ weight k a b d 1 → z ≡ weight k a b d 2
+    → (i : ℕ) → i < 3 → at (x ∷ y ∷ z ∷ []) i ≡ weight order a b d i
+weights-row order k e a b d x y z p q r i l = by-3 (λ i. at (x ∷ y ∷ z ∷ []) i ≡ weight k a b d i) p q r i l ∙ ap (λ (s : ℕ). weight s a b d i) (sym e)
 
 -- ---- sizes
 
@@ -86,13 +91,14 @@ pair-size a b i j ha hb h =
 pub product-size : (m : ℕ) → 2 ≤ m → m ≤ 3 → (a b : ℤ) → natAbs a ≤ 256 → natAbs b ≤ 256 → (k : ℕ) → k < 3 → natAbs (product a b m k) ≤ 2 ^ 40
 product-size m m2 m3 a b ha hb k l = le-trans (pair-size a b (2 * m - 2 - k) k ha hb (omega arith)) (lit≤ tt)
 
-pub weight-size : (kind : Kind) (d : ℕ) (a b : ℤ) → 2 ≤ d → d ≤ 5 → natAbs a ≤ 256 → natAbs b ≤ 256 → (k : ℕ) → k < 3 → natAbs (weight kind a b d k) ≤ 2 ^ 43
+pub weight-size : (k : ℕ) → k ≤ 1 → (d : ℕ) (a b : ℤ) → 2 ≤ d → d ≤ 5 → natAbs a ≤ 256 → natAbs b ≤ 256 → (i : ℕ) → i < 3 → natAbs (weight k a b d i) ≤ 2 ^ 43
 unfolding weight
-weight-size value d a b g h ha hb k l = le-trans (pair-size a b (d - k) k ha hb (omega arith)) (lit≤ tt)
-weight-size slope d a b g h ha hb k l =
-    let up = abs-mul-le (pos k) (a ^ℤ (d - k) *ℤ b ^ℤ (k - 1)) {A = 2} (omega arith) (pair-size a b (d - k) (k - 1) ha hb (omega arith)) in
-    let down = abs-mul-le (pos (d - k)) (a ^ℤ (d - k - 1) *ℤ b ^ℤ k) {A = 5} (omega arith) (pair-size a b (d - k - 1) k ha hb (omega arith)) in
-    le-trans (abs-minus (pos k *ℤ (a ^ℤ (d - k) *ℤ b ^ℤ (k - 1))) (pos (d - k) *ℤ (a ^ℤ (d - k - 1) *ℤ b ^ℤ k))) (omega arith)
+weight-size zero h d a b g l ha hb i p = le-trans (pair-size a b (d - i) i ha hb (omega arith)) (lit≤ tt)
+weight-size (suc zero) h d a b g l ha hb i p =
+    let up = abs-mul-le (pos i) (a ^ℤ (d - 1 - (i - 1)) *ℤ b ^ℤ (i - 1)) {A = 2} (omega arith) (pair-size a b (d - 1 - (i - 1)) (i - 1) ha hb (omega arith)) in
+    let down = abs-mul-le (pos (d - i)) (a ^ℤ (d - 1 - i) *ℤ b ^ℤ i) {A = 5} (omega arith) (pair-size a b (d - 1 - i) i ha hb (omega arith)) in
+    le-trans (abs-minus (pos i *ℤ (a ^ℤ (d - 1 - (i - 1)) *ℤ b ^ℤ (i - 1))) (pos (d - i) *ℤ (a ^ℤ (d - 1 - i) *ℤ b ^ℤ i))) (omega arith)
+weight-size (suc (suc k)) h d a b g l ha hb i p = absurd (omega arith)
 
 -- ---- of numbers as the machine holds them
 
@@ -129,7 +135,7 @@ module _ (d x y z : ℤ) (hd : natAbs d ≤ 5) (hx : natAbs x ≤ 2 ^ 40) (hy : 
   }
 
 module _ (a b : ℤ) (fa : SFits w64 a) (fb : SFits w64 b) where
-  pub weight-held : (kind : Kind) (d k : ℕ) → weight kind (held a) (held b) d k ≡ weight kind a b d k
+  pub weight-held : (kind d k : ℕ) → weight kind (held a) (held b) d k ≡ weight kind a b d k
   weight-held kind d k = ap₂ (λ x y. weight kind x y d k) (toZ-ofZ fa) (toZ-ofZ fb)
 
 pub held-size : (a : ℤ) → SFits w64 a → {B : ℕ} → natAbs a ≤ B → natAbs (held a) ≤ B

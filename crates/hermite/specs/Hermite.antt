@@ -1,7 +1,7 @@
 -- One axis: the multiplier table, coefficients and back, weights, a stage. m is 2 for degree 3 and 3 for degree 5, so the degree is 2m − 1.
 -- Along an axis, order o at node i stands at place m·i + o; the 2m numbers of a cell are numbered t = m·end + order. N is the number of steps of a cell.
 use Prim.Native.Nat.{ℕ, zero, suc, _+_, _*_, _-_, _^_}
-use mathlib.Core.Bool.{Bool, true, false}
+use mathlib.Core.Bool.{Bool}
 use mathlib.Core.List.{List, [], _∷_}
 use lib.Dec.{ltb}
 use lib.ListN.{getD}
@@ -29,16 +29,16 @@ unfoldable pub multiplier : ℕ → ℕ → ℕ → ℤ
 multiplier m k o = getD (getD rows (3 * (m - 2) + k) []) o (pos 0)
 
 -- a number of order o at the high end: order 1 is subtracted
-unfoldable pub turned : ℕ → ℤ → ℤ
-turned zero z = z
-turned (suc zero) z = negℤ z
-turned (suc (suc o)) z = z
+unfoldable pub mirrored : ℕ → ℤ → ℤ
+mirrored zero z = z
+mirrored (suc zero) z = negℤ z
+mirrored (suc (suc o)) z = mirrored o z
 
 -- what coefficient i takes of number t: a low coefficient of the low end, a high one of the high end
 unfoldable pub share : ℕ → ℕ → ℕ → ℤ
 share m i t =
     pick (ltb i m) (pick (ltb t m) (multiplier m i t) (pos 0))
-    (pick (ltb t m) (pos 0) (turned (t - m) (multiplier m (2 * m - 1 - i) (t - m))))
+    (pick (ltb t m) (pos 0) (mirrored (t - m) (multiplier m (2 * m - 1 - i) (t - m))))
 
 -- ---- coefficients, and back
 
@@ -54,44 +54,38 @@ solved m y (suc (suc o)) = pos 2 *ℤ y 2 -ℤ multiplier m 2 0 *ℤ y 0 -ℤ mu
 
 -- twice number t of a cell, from its doubled coefficients
 unfoldable pub backward : ℕ → Rule
-backward m c t = pick (ltb t m) (solved m c t) (turned (t - m) (solved m (λ k. c (2 * m - 1 - k)) (t - m)))
+backward m c t = pick (ltb t m) (solved m c t) (mirrored (t - m) (solved m (λ k. c (2 * m - 1 - k)) (t - m)))
 
--- a number of order o as an end sees it
-unfoldable pub seen : Bool → ℕ → ℤ → ℤ
-seen high o z = pick high (turned o z) z
+-- a number of order o, counted from its end
+unfoldable pub fromEnd : Bool → ℕ → ℤ → ℤ
+fromEnd high o z = pick high (mirrored o z) z
 
 -- one end: its coefficients, counted from it, from its numbers; back, twice its numbers from these
 unfoldable pub endRule : Bool → ℕ → Bool → Rule
-endRule back m high x k = pick back (seen high k (solved m x k)) (sum m (λ o. multiplier m k o *ℤ seen high o (x o)))
+endRule back m high x k = pick back (fromEnd high k (solved m x k)) (sum m (λ o. multiplier m k o *ℤ fromEnd high o (x o)))
 
 -- ---- weights and stages
 
--- of a dose or, along its axis, of a slope
-pub data Kind : Type 0 where
-  value : Kind
-  slope : Kind
+-- a cell has 256 steps an axis
+abbrev pub steps : ℕ
+steps = 256
 
--- a slope where the flag is set
-unfoldable pub kindOf : Bool → Kind
-kindOf true = slope
-kindOf false = value
+-- weight i of degree d, where a = N − u and b = u, and its derivatives: order 0 for a dose, order 1 along the axis of a slope
+unfoldable pub weight : ℕ → ℤ → ℤ → ℕ → ℕ → ℤ
+weight zero a b d i = a ^ℤ (d - i) *ℤ b ^ℤ i
+weight (suc order) a b d i = pos i *ℤ weight order a b (d - 1) (i - 1) -ℤ pos (d - i) *ℤ weight order a b (d - 1) i
 
--- weight i, where a = N − u and b = u; for a slope its derivative
-unfoldable pub weight : Kind → ℤ → ℤ → ℕ → ℕ → ℤ
-weight value a b d i = a ^ℤ (d - i) *ℤ b ^ℤ i
-weight slope a b d i = pos i *ℤ (a ^ℤ (d - i) *ℤ b ^ℤ (i - 1)) -ℤ pos (d - i) *ℤ (a ^ℤ (d - i - 1) *ℤ b ^ℤ i)
+unfoldable pub weightAt : ℕ → ℕ → ℕ → ℕ → ℕ → ℤ
+weightAt order m N u i = weight order (pos (N - u)) (pos u) (2 * m - 1) i
 
-unfoldable pub weightAt : Kind → ℕ → ℕ → ℕ → ℕ → ℤ
-weightAt k m N u i = weight k (pos (N - u)) (pos u) (2 * m - 1) i
-
-unfoldable pub divisor : Kind → ℕ → ℕ → ℕ
-divisor value m N = 2 * N ^ (2 * m - 1)
-divisor slope m N = 2 * N ^ (2 * m - 2)
+-- 2·N^d for a dose, 2·N^(d−1) for a slope
+unfoldable pub divisor : ℕ → ℕ → ℕ → ℕ
+divisor order m N = 2 * N ^ (2 * m - 1 - order)
 
 -- the numbers of cell c by the table, summed with the weights of step u, not yet divided
-unfoldable pub stageSum : Kind → ℕ → ℕ → ℕ → ℕ → Rule
-stageSum k m N c u x j = sum (2 * m) (λ i. forward m c x i *ℤ weightAt k m N u i)
+unfoldable pub stageSum : ℕ → ℕ → ℕ → ℕ → ℕ → Rule
+stageSum order m N c u x j = sum (2 * m) (λ i. forward m c x i *ℤ weightAt order m N u i)
 
 -- what a stage takes of number t: the table folded into the weights
-unfoldable pub basis : Kind → ℕ → ℕ → ℕ → ℕ → ℤ
-basis k m N u t = sum (2 * m) (λ i. share m i t *ℤ weightAt k m N u i)
+unfoldable pub basis : ℕ → ℕ → ℕ → ℕ → ℕ → ℤ
+basis order m N u t = sum (2 * m) (λ i. share m i t *ℤ weightAt order m N u i)

@@ -6,8 +6,8 @@ ghost use Rattle.arith.specs.Choice.{pick};
 ghost use Rattle.arith.specs.Int.{roundHalfUp, _^ℤ_};
 ghost use Rattle.arith.specs.Sum.{sum, total};
 ghost use Rattle.lattice.specs.Buffer.{at};
-ghost use Rattle.hermite.specs.Hermite.{multiplier, turned, solved, seen, endRule, Kind, kindOf, weight, stageSum};
-ghost use Rattle.hermite.specs.Stage.{steps, RowsOn, Folds, bothEnds, load, shiftOf};
+ghost use Rattle.hermite.specs.Hermite.{steps, multiplier, mirrored, solved, fromEnd, endRule, weight};
+ghost use Rattle.hermite.specs.Stage.{Smooth, RowsOn, Folds, weighted, load, shiftOf};
 
 // A cell has 256 steps an axis.
 pub const STEPS: u32 = 256;
@@ -57,20 +57,20 @@ fn products(m: usize, a: i64, b: i64) -> [i64; 3]
     [c * c, c * d, d * d]
 }
 
-// The first three weights of a dose or a slope, a and b being the distances 256 - u and u.
-fn weights(slope: bool, m: usize, a: i64, b: i64) -> [i64; 3]
-    requires { ⌜ (2 ≤ m) × (m ≤ 3) × (natAbs a ≤ 256) × (natAbs b ≤ 256) ⌝ }
-    ensures { λ r. ⌜ ((k : ℕ) → k < 3 → at r k ≡ weight (kindOf slope) a b (2 * m - 1) k) ⌝ }
+// The first three weights of a dose, or of a slope for order 1, a and b being the distances 256 - u and u.
+fn weights(order: u32, m: usize, a: i64, b: i64) -> [i64; 3]
+    requires { ⌜ Smooth order m × (2 ≤ m) × (m ≤ 3) × (natAbs a ≤ 256) × (natAbs b ≤ 256) ⌝ }
+    ensures { λ r. ⌜ ((k : ℕ) → k < 3 → at r k ≡ weight order a b (2 * m - 1) k) ⌝ }
 {
     let p = products(m, a, b);
     let x = p[0];
     let y = p[1];
     let z = p[2];
-    if slope {
-        let d = (2 * m - 1) as i64;
-        return [0 - d * x, x - (d - 1) * y, 2 * y - (d - 2) * z];
+    if order == 0 {
+        return [a * x, a * y, a * z];
     }
-    [a * x, a * y, a * z]
+    let d = (2 * m - 1) as i64;
+    [0 - d * x, x - (d - 1) * y, 2 * y - (d - 2) * z]
 }
 
 // The sum of m products of three; for m = 2 the third is 0.
@@ -97,35 +97,35 @@ fn by_rows(a: [i64; 3], b: [i64; 3], c: [i64; 3], x: [i64; 3]) -> [i64; 3]
     [first, second, third]
 }
 
-// What a stage takes of the numbers of the end at distance b, the other end being at distance a; not yet turned.
-fn folded(slope: bool, m: usize, a: i64, b: i64) -> [i64; 3]
-    requires { ⌜ (2 ≤ m) × (m ≤ 3) × (natAbs a ≤ 256) × (natAbs b ≤ 256) ⌝ }
-    ensures { λ r. ⌜ ((o : ℕ) → o < 3 → at r o ≡ sum 3 (λ k. multiplier m k o *ℤ weight (kindOf slope) a b (2 * m - 1) k)) ⌝ }
+// What a stage takes of the numbers of the end at distance b, the other end being at distance a; not yet mirrored.
+fn folded(order: u32, m: usize, a: i64, b: i64) -> [i64; 3]
+    requires { ⌜ Smooth order m × (2 ≤ m) × (m ≤ 3) × (natAbs a ≤ 256) × (natAbs b ≤ 256) ⌝ }
+    ensures { λ r. ⌜ ((o : ℕ) → o < 3 → at r o ≡ sum 3 (λ k. multiplier m k o *ℤ weight order a b (2 * m - 1) k)) ⌝ }
 {
-    let w = weights(slope, m, a, b);
+    let w = weights(order, m, a, b);
     by_rows(column(m, 0), column(m, 1), column(m, 2), w)
 }
 
 // The same with the degree as a constant.
-fn end_basis(slope: bool, m: usize, a: i64, b: i64) -> [i64; 3]
-    requires { ⌜ (2 ≤ m) × (m ≤ 3) × (natAbs a ≤ 256) × (natAbs b ≤ 256) ⌝ }
-    ensures { λ r. ⌜ ((o : ℕ) → o < 3 → at r o ≡ sum 3 (λ k. multiplier m k o *ℤ weight (kindOf slope) a b (2 * m - 1) k)) ⌝ }
+fn end_basis(order: u32, m: usize, a: i64, b: i64) -> [i64; 3]
+    requires { ⌜ Smooth order m × (2 ≤ m) × (m ≤ 3) × (natAbs a ≤ 256) × (natAbs b ≤ 256) ⌝ }
+    ensures { λ r. ⌜ ((o : ℕ) → o < 3 → at r o ≡ sum 3 (λ k. multiplier m k o *ℤ weight order a b (2 * m - 1) k)) ⌝ }
 {
     if m == 2 {
-        return folded(slope, 2, a, b);
+        return folded(order, 2, a, b);
     }
-    folded(slope, 3, a, b)
+    folded(order, 3, a, b)
 }
 
-// The numbers of an end as the high one: order 1 is subtracted, and a derivative changes its sign.
-fn mirrored(slope: bool, x: [i64; 3]) -> [i64; 3]
-    requires { ⌜ ((o : ℕ) → o < 3 → natAbs (at x o) ≤ 2 ^ 62) ⌝ }
-    ensures { λ r. ⌜ ((o : ℕ) → o < 3 → at r o ≡ pick slope (negℤ (turned o (at x o))) (turned o (at x o))) ⌝ }
+// Numbers of the high end: order 1 is subtracted, and a derivative of odd order changes its sign.
+fn mirror(order: u32, x: [i64; 3]) -> [i64; 3]
+    requires { ⌜ (order ≤ 1) × ((o : ℕ) → o < 3 → natAbs (at x o) ≤ 2 ^ 62) ⌝ }
+    ensures { λ r. ⌜ ((o : ℕ) → o < 3 → at r o ≡ mirrored (o + order) (at x o)) ⌝ }
 {
-    if slope {
-        return [0 - x[0], x[1], 0 - x[2]];
+    if order == 0 {
+        return [x[0], 0 - x[1], x[2]];
     }
-    [x[0], 0 - x[1], x[2]]
+    [0 - x[0], x[1], 0 - x[2]]
 }
 
 // What a stage takes of each number of the low and of the high end.
@@ -135,27 +135,27 @@ pub struct Basis {
 }
 
 // The basis of step u: the table folded into the weights.
-pub fn basis_at(slope: bool, m: usize, u: u32) -> Basis
-    requires { ⌜ (2 ≤ m) × (m ≤ 3) × (u ≤ steps) ⌝ }
-    ensures { λ r. ⌜ Folds (kindOf slope) m u r ⌝ }
+pub fn basis_at(order: u32, m: usize, u: u32) -> Basis
+    requires { ⌜ Smooth order m × (2 ≤ m) × (m ≤ 3) × (u ≤ steps) ⌝ }
+    ensures { λ r. ⌜ Folds order m u r ⌝ }
 {
     let a = (STEPS - u) as i64;
     let b = u as i64;
-    let high = mirrored(slope, end_basis(slope, m, b, a));
-    let low = end_basis(slope, m, a, b);
+    let high = mirror(order, end_basis(order, m, b, a));
+    let low = end_basis(order, m, a, b);
     Basis {
         low: low,
         high: high,
     }
 }
 
-// The numbers of an end as it sees them: order 1 of the high end is subtracted.
-fn facing(high: bool, x: [i64; 3]) -> [i64; 3]
+// The numbers of an end, counted from it: order 1 of the high end is subtracted.
+fn from_end(high: bool, x: [i64; 3]) -> [i64; 3]
     requires { ⌜ ((o : ℕ) → o < 3 → natAbs (at x o) ≤ 2 ^ 62) ⌝ }
-    ensures { λ r. ⌜ ((o : ℕ) → o < 3 → at r o ≡ seen high o (at x o)) ⌝ }
+    ensures { λ r. ⌜ ((o : ℕ) → o < 3 → at r o ≡ fromEnd high o (at x o)) ⌝ }
 {
     if high {
-        return mirrored(false, x);
+        return mirror(0, x);
     }
     x
 }
@@ -186,9 +186,9 @@ fn converted(back: bool, m: usize, high: bool, x: [i64; 3]) -> [i64; 3]
     ensures { λ r. ⌜ ((k : ℕ) → k < 3 → at r k ≡ endRule back m high (at x) k) ⌝ }
 {
     if back {
-        return facing(high, end_numbers(m, x));
+        return from_end(high, end_numbers(m, x));
     }
-    end_coefficients(m, facing(high, x))
+    end_coefficients(m, from_end(high, x))
 }
 
 // The same with the degree as a constant.
@@ -202,40 +202,42 @@ pub fn convert_end(back: bool, m: usize, high: bool, x: [i64; 3]) -> [i64; 3]
     converted(back, 3, high, x)
 }
 
+// The numbers of the two ends of a cell along an axis.
+pub struct Ends {
+    pub low: [i64; 3],
+    pub high: [i64; 3],
+}
+
 // One stage: the numbers of the two ends, by their basis, rounded by 2^(k+1).
-pub fn stage(m: usize, b: Basis, k: u32, low: [i64; 3], high: [i64; 3]) -> i64
-    requires { ⌜ (k ≤ 44) × (load b (at low) (at high) ≤ 2 ^ 63 - 2 ^ 45) ⌝ }
-    requires { ⌜ (m ≡ 2 → (at low 2 ≡ pos 0) × (at high 2 ≡ pos 0)) ⌝ }
-    ensures { λ r. ⌜ ((kind : Kind) (n u : ℕ) → Folds kind n u b → r ≡ roundHalfUp (stageSum kind n steps 0 u (bothEnds n (at low) (at high)) 0) (2 ^ (k + 1))) ⌝ }
+pub fn stage(m: usize, b: Basis, k: u32, ends: Ends) -> i64
+    requires { ⌜ (k ≤ 44) × (load b (at (ends .low)) (at (ends .high)) ≤ 2 ^ 63 - 2 ^ 45) ⌝ }
+    requires { ⌜ (m ≡ 2 → (at (ends .low) 2 ≡ pos 0) × (at (ends .high) 2 ≡ pos 0)) ⌝ }
+    ensures { λ r. ⌜ r ≡ roundHalfUp (weighted b (at (ends .low)) (at (ends .high))) (2 ^ (k + 1)) ⌝ }
 {
     let from_low = b.low;
     let from_high = b.high;
+    let low = ends.low;
+    let high = ends.high;
     arith::rounded(dot(m, from_low, low) + dot(m, from_high, high), k)
 }
 
 // The k for which a stage's divisor, 2 times a power of 256, is 2^(k+1).
-fn exponent(slope: bool, m: usize) -> u32
-    requires { ⌜ (2 ≤ m) × (m ≤ 3) ⌝ }
-    ensures { λ r. ⌜ r ≡ 8 * (2 * m - pick slope 2 1) ⌝ }
+fn exponent(order: u32, m: usize) -> u32
+    requires { ⌜ Smooth order m × (2 ≤ m) × (m ≤ 3) ⌝ }
+    ensures { λ r. ⌜ r ≡ 8 * (2 * m - 1 - order) ⌝ }
 {
     if m == 2 {
-        if slope {
-            return 16;
-        }
-        return 24;
+        return 24 - 8 * order;
     }
-    if slope {
-        return 32;
-    }
-    40
+    40 - 8 * order
 }
 
 // The k of a stage whose numbers come and go in units, or in eighths where `from` or `to` is set.
-pub fn shift(slope: bool, m: usize, from: bool, to: bool) -> u32
-    requires { ⌜ (2 ≤ m) × (m ≤ 3) ⌝ }
-    ensures { λ r. ⌜ r ≡ shiftOf slope m from to ⌝ }
+pub fn shift(order: u32, m: usize, from: bool, to: bool) -> u32
+    requires { ⌜ Smooth order m × (2 ≤ m) × (m ≤ 3) ⌝ }
+    ensures { λ r. ⌜ r ≡ shiftOf order m from to ⌝ }
 {
-    let k = exponent(slope, m);
+    let k = exponent(order, m);
     if from {
         if to {
             return k;

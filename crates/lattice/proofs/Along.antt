@@ -3,7 +3,7 @@
 use mathlib.Core.Path.{_≡_, refl, sym, ap, subst, _∙_, fun-ext}
 use mathlib.Core.List.{List, [], _∷_}
 use Prim.Native.Nat.{ℕ, zero, suc, _*_, _≤_, _<_}
-use native.Mathlib.Nat.{le-trans, le-of-eq}
+use native.Mathlib.Nat.{le-trans, le-of-eq, not-suc-le-zero}
 use native.Mathlib.Omega.{arith}
 use native.Mathlib.Decide.{ℕ-discrete}
 use lib.Dec.{eqb}
@@ -244,10 +244,7 @@ fresh-back b l (a ∷ ls) k f = go (ℕ-discrete a l) (λ x. fresh-back b l ls k
 
 pub last-first : (n l : ℕ) → l < n → Reordered (axes n) (l ∷ without l (axes n))
 unfolding axes without
-last-first zero l h = absurd (none l h)
-  where
-    none : (l : ℕ) → l < 0 → ⊥
-    none l h = omega arith
+last-first zero l h = absurd (not-suc-le-zero h)
 last-first (suc n) l h = go (λ k. last-first n l k) (ℕ-discrete n l)
   where
     below : (n l : ℕ) → l < suc n → (n ≡ l → ⊥) → l < n

@@ -25,6 +25,13 @@ high-below {m} {n} {v} k l = div-lt-iff-lt-mul k .1 (omega (arith, mul-comm n m)
 pub group-room : (m x n : ℕ) → x < n → m * x + m ≤ m * n
 group-room m x n h = let w = mul-le-mul-left m h in omega arith
 
+-- no group, and one group more
+pub no-group : (m j : ℕ) → j < m * 0 → ⊥
+no-group m j h = omega arith
+
+pub next-group : (m x : ℕ) → m * x + m ≡ m * (x + 1)
+next-group m x = omega arith
+
 -- ---- all digits
 
 digit-none : (radix : ℕ → ℕ) (a : ℕ) → digit radix 0 a ≡ 0

@@ -7,6 +7,7 @@ use native.Mathlib.Decide.{ℕ-discrete}
 use lib.IntN.{ℤ}
 use Rattle.lattice.proofs.Along.{put-at, put-off, Linear, reads-only, Each, Fresh, Distinct}
 use Rattle.lattice.specs.Axes.{Place, Field, Rule, put, sweep, axes, OnUsed}
+use native.Mathlib.Nat.{not-suc-le-zero}
 
 -- where the inputs agree at related places, so do the results
 abbrev pub Carries : Rule → Rule → (ℕ → ℕ → Type 0) → (ℕ → ℕ → Type 0) → Type 0
@@ -71,10 +72,7 @@ module _ (S T : ℕ → ℕ → Type 0) where
 -- an axis below n stands in the list, any other does not
 pub used : (n b : ℕ) → b < n → Fresh b (axes n) → ⊥
 unfolding axes
-used zero b h f = none b h
-  where
-    none : (b : ℕ) → b < 0 → ⊥
-    none b h = omega arith
+used zero b h f = not-suc-le-zero h
 used (suc n) b h f = used n b (below n b h (f .0)) (f .1)
   where
     below : (n b : ℕ) → b < suc n → (b ≡ n → ⊥) → b < n

@@ -6,12 +6,13 @@ use Prim.Native.Nat.{ℕ, zero, suc, _+_, _*_, _<_}
 use native.Mathlib.Numerals.{add-one}
 use native.Mathlib.Nat.{add-zero, add-suc, mul-zero, mul-suc, eq-or-lt-of-le, not-suc-le-zero, le-of-suc-le-suc}
 use native.Mathlib.Omega.{arith}
-use Rattle.lattice.specs.Outcome.{Outcome, Check, done, refused, refuseUnless, first, firstOf, whenDone, passed}
+use Rattle.arith.proofs.Choices.{clash}
+use Rattle.lattice.specs.Outcome.{Outcome, Check, done, refused, refuseUnless, first, firstOf, onAxes, whenDone, passed}
 
 module _ {A : Type 0} where
   pub first-done : (a : Check) (b : Outcome A) (v : A) → first a b ≡ done v → (a ≡ done tt) × (b ≡ done v)
   first-done (done tt) b v h = (refl, h)
-  first-done (refused n p) b v h = let z : _≡_ {A = ℕ} 0 1 = cc in absurd (omega arith)
+  first-done (refused n p) b v h = clash (cc)
 
   pub first-passed : (a : Check) (b : Outcome A) → a ≡ done tt → first a b ≡ b
   first-passed a b e = ap (λ (x : Check). first x b) e
@@ -42,7 +43,7 @@ module _ {A : Type 0} where
 
 -- a check is not both passed and refused
 pub done-refused : (a : Check) (n p : ℕ) → a ≡ done tt → a ≡ refused n p → ⊥
-done-refused a n p e f = let z : _≡_ {A = ℕ} 0 1 = cc in omega arith
+done-refused a n p e f = clash (cc)
 
 last-first : (a : Check) → first a (done tt) ≡ a
 last-first (done tt) = refl
@@ -62,10 +63,7 @@ passed-done (done tt) e = refl
 passed-done (refused n p) e = cc
 
 pub passed-not : (a : Check) → passed a ≡ false → a ≡ done tt → ⊥
-passed-not a e d = true-false (sym (ap passed d) ∙ e)
-  where
-    true-false : true ≡ false → ⊥
-    true-false e = let z : _≡_ {A = ℕ} 0 1 = cc in absurd (omega arith)
+passed-not a e d = let f = ap passed d in clash (cc)
 
 pub firstOf-each : (n : ℕ) (test : ℕ → Check) → firstOf n test ≡ done tt → (a : ℕ) → a < n → test a ≡ done tt
 unfolding firstOf
@@ -89,18 +87,10 @@ firstOf-stops (suc n) i test k p l h e =
     (λ (j : i < n). refused-first (test n) (firstOf-stops n i test k p j h e)) (eq-or-lt-of-le (le-of-suc-le-suc l))
 
 -- a test of each axis, one after the other
-module _ (test : ℕ → Check) where
-  pub refused-x : {k p : ℕ} → test 0 ≡ refused k p → refused k p ≡ firstOf 3 test
-  unfolding firstOf
-  refused-x e = sym (refused-first (test 2) (refused-first (test 1) e))
-
-  pub refused-y : {k p : ℕ} → test 0 ≡ done tt → test 1 ≡ refused k p → refused k p ≡ firstOf 3 test
-  unfolding firstOf
-  refused-y x e = sym (refused-first (test 2) (first-passed (test 0) (test 1) x ∙ e))
-
-  pub then-z : test 0 ≡ done tt → test 1 ≡ done tt → test 2 ≡ firstOf 3 test
-  unfolding firstOf
-  then-z x y = sym (first-passed (first (test 0) (test 1)) (test 2) (first-passed (test 0) (test 1) x ∙ y))
+pub scanned : (number : ℕ) (test : ℕ → Bool) {tx ty tz : Bool} {x y z : Check} → tx ≡ test 0 → ty ≡ test 1 → tz ≡ test 2
+    → x ≡ refuseUnless tx number 0 → y ≡ first x (refuseUnless ty number 1) → z ≡ first y (refuseUnless tz number 2) → z ≡ onAxes number test
+unfolding firstOf
+scanned number test ex ey ez hx hy hz = rw (hz, hy, hx, ex, ey, ez) refl
 
 -- one test more
 pub firstOf-more : (i : ℕ) (test : ℕ → Check) → firstOf i test ≡ done tt → test i ≡ done tt → firstOf (i + 1) test ≡ done tt

@@ -13,7 +13,7 @@ use Rattle.lattice.specs.Flat.{indexOf, sizeOf, pass}
 use Rattle.lattice.proofs.Along.{put-same, Each, Fresh}
 use Rattle.lattice.proofs.Local.{Depends, used}
 use Rattle.lattice.proofs.PassLaws.{Holds, pass-along, fresh-snoc}
-use Rattle.lattice.proofs.DigitsLaws.{Digits, digits-in, of-digits}
+use Rattle.lattice.proofs.DigitsLaws.{Digits, digits-in, of-digits, no-group}
 
 -- ---- the order of the digits
 
@@ -160,10 +160,7 @@ module _ (m n r : ℕ) (some : 0 < m) (groups : (j : ℕ) → suc j ≡ n → r 
 -- ---- passes and their inputs
 
 pub some-groups : (k m r : ℕ) → k < m * r → 0 < r
-some-groups k m zero h = absurd (none m h)
-  where
-    none : (m : ℕ) → k < m * 0 → ⊥
-    none m h = omega arith
+some-groups k m zero h = absurd (no-group m k h)
 some-groups k m (suc r) h = zero-lt-suc r
 
 module _ (m r : ℕ) where

@@ -95,26 +95,26 @@ module _ (s : Shape) (p : Place) (here : InTable s (λ a. p a / orders s)) (none
 -- ---- limits
 
 -- every number is within the limit where the test is passed
-pub limit-each : (limit : ℕ) (xs : List ℤ) → limitOutcome limit xs ≡ done tt → (i : ℕ) → natAbs (at xs i) ≤ limit
+pub limit-each : (number limit : ℕ) (xs : List ℤ) → limitOutcome number limit xs ≡ done tt → (i : ℕ) → natAbs (at xs i) ≤ limit
 unfolding limitOutcome
-limit-each limit xs h i = go (decLt i (length xs))
+limit-each number limit xs h i = go (decLt i (length xs))
   where
     go : Dec (i < length xs) → natAbs (at xs i) ≤ limit
-    go (yes l) = leb-true (natAbs (at xs i)) limit (refuse-done (leb (natAbs (at xs i)) limit) 5 i (firstOf-each (length xs) (λ i. refuseUnless (leb (natAbs (at xs i)) limit) 5 i) h i l))
+    go (yes l) = leb-true (natAbs (at xs i)) limit (refuse-done (leb (natAbs (at xs i)) limit) number i (firstOf-each (length xs) (λ i. refuseUnless (leb (natAbs (at xs i)) limit) number i) h i l))
     go (no n) = rw (List·getD-eq-default xs (pos 0) {n = i} (omega (arith, n))) (omega arith)
 
 -- tested from the front
-abbrev pub limitTest : ℕ → List ℤ → ℕ → Check
-limitTest limit xs i = refuseUnless (leb (natAbs (at xs i)) limit) 5 i
+abbrev pub limitTest : ℕ → ℕ → List ℤ → ℕ → Check
+limitTest number limit xs i = refuseUnless (leb (natAbs (at xs i)) limit) number i
 
-module _ (limit : ℕ) (xs : List ℤ) where
-  pub limit-stops : (i : ℕ) → i < length xs → firstOf i (limitTest limit xs) ≡ done tt → limit < natAbs (at xs i) → limitOutcome limit xs ≡ refused 5 i
+module _ (number limit : ℕ) (xs : List ℤ) where
+  pub limit-stops : (i : ℕ) → i < length xs → firstOf i (limitTest number limit xs) ≡ done tt → limit < natAbs (at xs i) → limitOutcome number limit xs ≡ refused number i
   unfolding limitOutcome
-  limit-stops i l h big = firstOf-stops (length xs) i (limitTest limit xs) 5 i l h (ap (λ (t : Bool). refuseUnless t 5 i) (lt-leb (natAbs (at xs i)) limit big))
+  limit-stops i l h big = firstOf-stops (length xs) i (limitTest number limit xs) number i l h (ap (λ (t : Bool). refuseUnless t number i) (lt-leb (natAbs (at xs i)) limit big))
 
-  pub limit-more : (i : ℕ) → firstOf i (limitTest limit xs) ≡ done tt → natAbs (at xs i) ≤ limit → firstOf (i + 1) (limitTest limit xs) ≡ done tt
-  limit-more i h small = firstOf-more i (limitTest limit xs) h (ap (λ (t : Bool). refuseUnless t 5 i) (le-leb (natAbs (at xs i)) limit small))
+  pub limit-more : (i : ℕ) → firstOf i (limitTest number limit xs) ≡ done tt → natAbs (at xs i) ≤ limit → firstOf (i + 1) (limitTest number limit xs) ≡ done tt
+  limit-more i h small = firstOf-more i (limitTest number limit xs) h (ap (λ (t : Bool). refuseUnless t number i) (le-leb (natAbs (at xs i)) limit small))
 
-  pub limit-ends : (i : ℕ) → i ≡ length xs → firstOf i (limitTest limit xs) ≡ done tt → limitOutcome limit xs ≡ done tt
+  pub limit-ends : (i : ℕ) → i ≡ length xs → firstOf i (limitTest number limit xs) ≡ done tt → limitOutcome number limit xs ≡ done tt
   unfolding limitOutcome
-  limit-ends i e h = subst (λ (k : ℕ). firstOf k (limitTest limit xs) ≡ done tt) e h
+  limit-ends i e h = subst (λ (k : ℕ). firstOf k (limitTest number limit xs) ≡ done tt) e h

@@ -1,6 +1,6 @@
--- Reading order: Outcome, Answer, Buffer, Digits, Shape, Axes, Records, Flat.
+-- Reading order: Outcome, Answers, Buffer, Digits, Shape, Axes, Records, Flat.
 pub mod Outcome
-pub mod Answer
+pub mod Answers
 pub mod Buffer
 pub mod Digits
 pub mod Shape

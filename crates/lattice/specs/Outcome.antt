@@ -35,3 +35,7 @@ module _ {A : Type 0} where
 unfoldable pub firstOf : ℕ → (ℕ → Check) → Check
 firstOf zero test = done tt
 firstOf (suc n) test = first (firstOf n test) (test n)
+
+-- refusal `number` on the first axis that is not allowed; place is the axis
+abbrev pub onAxes : ℕ → (ℕ → Bool) → Check
+onAxes number allowed = firstOf 3 (λ a. refuseUnless (allowed a) number a)

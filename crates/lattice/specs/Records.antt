@@ -47,6 +47,6 @@ sampleLimit = 32768
 unfoldable pub entryLimit : ℕ → ℕ → Place → ℕ
 entryLimit m n p = sampleLimit * 2 ^ totalOrder m n p
 
--- 5: a number beyond its limit; place is its index
-unfoldable pub limitOutcome : ℕ → List ℤ → Check
-limitOutcome limit xs = firstOf (length xs) (λ i. refuseUnless (leb (natAbs (at xs i)) limit) 5 i)
+-- refusal `number` of a number beyond a limit; place is its index
+unfoldable pub limitOutcome : ℕ → ℕ → List ℤ → Check
+limitOutcome number limit xs = firstOf (length xs) (λ i. refuseUnless (leb (natAbs (at xs i)) limit) number i)

@@ -2,12 +2,17 @@
 use mathlib.Core.Path.{_≡_}
 use Prim.Native.Nat.{ℕ, _*_, _^_, _≤_, _<_}
 use mathlib.Core.Bool.{Bool, _&&_, _||_}
+use mathlib.Core.List.{List}
 use lib.Dec.{leb, ltb, eqb}
 use lib.ListN.{getD}
 use Rattle.arith.specs.Choice.{pick}
 use Rattle.lattice.specs.declared.Shape.{Shape}
-use Rattle.lattice.specs.Outcome.{Check, refuseUnless, first, firstOf}
+use Rattle.lattice.specs.Outcome.{Check, refuseUnless, first, onAxes}
 use Rattle.lattice.specs.Digits.{span}
+
+-- n axes, degree d and three node counts
+abbrev pub shapeOf : ℕ → ℕ → List ℕ → Shape
+shapeOf n degree counts = record { axes = n; degree = degree; counts = counts }
 
 -- the node count of axis a
 unfoldable pub count : Shape → ℕ → ℕ
@@ -46,7 +51,7 @@ countAllowed n c a = pick (ltb a n) (leb 2 c && leb c 64) (eqb c 1)
 
 -- 3: a node count not allowed; place is the axis
 unfoldable pub countsOutcome : ℕ → (ℕ → ℕ) → Check
-countsOutcome n counts = firstOf 3 (λ a. refuseUnless (countAllowed n (counts a) a) 3 a)
+countsOutcome n counts = onAxes 3 (λ a. countAllowed n (counts a) a)
 
 -- 1, 2, 3
 unfoldable pub shapeOutcome : Shape → Check

@@ -6,9 +6,12 @@ ghost use lib.Dec.{ltb};
 ghost use lib.ListN.{getD};
 ghost use Rattle.arith.specs.Choice.{pick};
 ghost use Rattle.lattice.specs.Outcome.{refuseUnless, first};
-ghost use Rattle.lattice.specs.Answer.{meaning};
-ghost use Rattle.lattice.specs.Shape.{count, axesOutcome, degreeOutcome, countAllowed, countsOutcome, shapeOutcome, ordersOf, entries, nodes, size, Shaped};
+ghost use Rattle.lattice.specs.Answers.{outcomeOf};
+ghost use Rattle.lattice.specs.Shape.{shapeOf, count, axesOutcome, degreeOutcome, countAllowed, countsOutcome, shapeOutcome, ordersOf, entries, nodes, size, Shaped};
 ghost use Rattle.lattice.specs.Records.{limitOutcome};
+
+// Samples lie within this limit.
+pub const SAMPLE_LIMIT: u64 = 32768;
 
 // A refusal by its number in document 01's list, with the first offending index.
 pub struct Refusal {
@@ -16,7 +19,7 @@ pub struct Refusal {
     pub place: usize,
 }
 
-pub enum Answer {
+pub enum Check {
     Done,
     Refused(Refusal),
 }
@@ -28,101 +31,110 @@ pub struct Shape {
     pub counts: [u32; 3],
 }
 
+pub fn shape_of(axes: u32, degree: u32, counts: [u32; 3]) -> Shape
+    ensures { λ r. ⌜ r ≡ shapeOf axes degree counts ⌝ }
+{
+    Shape {
+        axes: axes,
+        degree: degree,
+        counts: counts,
+    }
+}
+
 // Done where `ok` holds, else the refusal.
-pub fn refuse_unless(ok: bool, number: u32, place: usize) -> Answer
-    ensures { λ r. ⌜ meaning r ≡ refuseUnless ok number place ⌝ }
+pub fn refuse_unless(ok: bool, number: u32, place: usize) -> Check
+    ensures { λ r. ⌜ outcomeOf r ≡ refuseUnless ok number place ⌝ }
 {
     if ok {
-        Answer::Done
+        Check::Done
     } else {
-        Answer::Refused(Refusal {
+        Check::Refused(Refusal {
             number: number,
             place: place,
         })
     }
 }
 
+// The earlier refusal, else the one of a further test.
+pub fn refuse_after(before: Check, ok: bool, number: u32, place: usize) -> Check
+    ensures { λ r. ⌜ outcomeOf r ≡ first (outcomeOf before) (refuseUnless ok number place) ⌝ }
+{
+    if let Check::Refused(_) = before {
+        return before;
+    }
+    refuse_unless(ok, number, place)
+}
+
 // The earlier of two refusals.
-pub fn earlier(a: Answer, b: Answer) -> Answer
-    ensures { λ r. ⌜ meaning r ≡ first (meaning a) (meaning b) ⌝ }
+pub fn earlier(a: Check, b: Check) -> Check
+    ensures { λ r. ⌜ outcomeOf r ≡ first (outcomeOf a) (outcomeOf b) ⌝ }
 {
     match a {
-        Answer::Refused(r) => Answer::Refused(Refusal {
+        Check::Refused(r) => Check::Refused(Refusal {
             number: r.number,
             place: r.place,
         }),
-        Answer::Done => match b {
-            Answer::Refused(r) => Answer::Refused(Refusal {
+        Check::Done => match b {
+            Check::Refused(r) => Check::Refused(Refusal {
                 number: r.number,
                 place: r.place,
             }),
-            Answer::Done => Answer::Done,
+            Check::Done => Check::Done,
         },
     }
 }
 
-pub fn check_axes(n: u32) -> Answer
-    ensures { λ r. ⌜ meaning r ≡ axesOutcome n ⌝ }
+pub fn check_axes(n: u32) -> Check
+    ensures { λ r. ⌜ outcomeOf r ≡ axesOutcome n ⌝ }
 {
     refuse_unless(1 <= n && n <= 3, 1, 0)
 }
 
-pub fn check_degree(degree: u32) -> Answer
-    ensures { λ r. ⌜ meaning r ≡ degreeOutcome degree ⌝ }
+pub fn check_degree(degree: u32) -> Check
+    ensures { λ r. ⌜ outcomeOf r ≡ degreeOutcome degree ⌝ }
 {
     refuse_unless(degree == 3 || degree == 5, 2, 0)
 }
 
-// A refusal on an axis, by one test where the axis is used and by another where it is not.
-pub fn refuse_on_axis(n: u32, axis: u32, used: bool, unused: bool, number: u32) -> Answer
-    ensures { λ r. ⌜ meaning r ≡ refuseUnless (pick (ltb axis n) used unused) number axis ⌝ }
+// One test where an axis is used, another where it is not.
+pub fn by_use(n: u32, axis: u32, used: bool, unused: bool) -> bool
+    ensures { λ r. ⌜ r ≡ pick (ltb axis n) used unused ⌝ }
 {
-    let place = axis as usize;
-    if axis < n {
-        refuse_unless(used, number, place)
-    } else {
-        refuse_unless(unused, number, place)
-    }
+    if axis < n { used } else { unused }
 }
 
-pub fn check_count(n: u32, count: u32, axis: u32) -> Answer
-    ensures { λ r. ⌜ meaning r ≡ refuseUnless (countAllowed n count axis) 3 axis ⌝ }
+pub fn count_allowed(n: u32, count: u32, axis: u32) -> bool
+    ensures { λ r. ⌜ r ≡ countAllowed n count axis ⌝ }
 {
-    refuse_on_axis(n, axis, 2 <= count && count <= 64, count == 1, 3)
+    by_use(n, axis, 2 <= count && count <= 64, count == 1)
 }
 
 // Refusal 3.
-pub fn check_counts(n: u32, x: u32, y: u32, z: u32) -> Answer
-    ensures { λ r. ⌜ meaning r ≡ countsOutcome n (λ a. getD (x ∷ y ∷ z ∷ []) a 0) ⌝ }
+pub fn check_counts(n: u32, x: u32, y: u32, z: u32) -> Check
+    ensures { λ r. ⌜ outcomeOf r ≡ countsOutcome n (λ a. getD (x ∷ y ∷ z ∷ []) a 0) ⌝ }
 {
-    let on_x = check_count(n, x, 0);
-    if let Answer::Refused(_) = on_x {
-        return on_x;
-    }
-    let on_y = check_count(n, y, 1);
-    if let Answer::Refused(_) = on_y {
-        return on_y;
-    }
-    check_count(n, z, 2)
+    let on_x = refuse_unless(count_allowed(n, x, 0), 3, 0);
+    let on_y = refuse_after(on_x, count_allowed(n, y, 1), 3, 1);
+    refuse_after(on_y, count_allowed(n, z, 2), 3, 2)
 }
 
 // Refusals 2 and 3 of a shape of n axes.
-pub fn check_table(n: u32, s: Shape) -> Answer
+pub fn check_table(n: u32, s: Shape) -> Check
     requires { ⌜ n ≡ s .axes ⌝ }
-    ensures { λ r. ⌜ meaning r ≡ first (degreeOutcome (s .degree)) (countsOutcome (s .axes) (count s)) ⌝ }
+    ensures { λ r. ⌜ outcomeOf r ≡ first (degreeOutcome (s .degree)) (countsOutcome (s .axes) (count s)) ⌝ }
 {
     let degree = check_degree(s.degree);
-    if let Answer::Refused(_) = degree {
+    if let Check::Refused(_) = degree {
         return degree;
     }
     check_counts(n, s.counts[0], s.counts[1], s.counts[2])
 }
 
-pub fn check_shape(s: Shape) -> Answer
-    ensures { λ r. ⌜ meaning r ≡ shapeOutcome s ⌝ }
+pub fn check_shape(s: Shape) -> Check
+    ensures { λ r. ⌜ outcomeOf r ≡ shapeOutcome s ⌝ }
 {
     let axes = check_axes(s.axes);
-    if let Answer::Refused(_) = axes {
+    if let Check::Refused(_) = axes {
         return axes;
     }
     check_table(s.axes, s)
@@ -169,17 +181,17 @@ pub fn table_entries(s: Shape) -> usize
     node_count(s) * record_entries(s)
 }
 
-// Refusal 5 at the first number beyond `limit`.
-pub fn check_limit(xs: &[i32], limit: u64) -> Answer
-    ensures { λ r. ⌜ meaning r ≡ limitOutcome limit (now (xs .entry)) ⌝ }
+// Refusal `number` at the first number beyond `limit`.
+pub fn check_limit(xs: &[i32], limit: u64, number: u32) -> Check
+    ensures { λ r. ⌜ outcomeOf r ≡ limitOutcome number limit (now (xs .entry)) ⌝ }
 {
     let mut i = 0;
     while i < xs.len() {
         let x = xs[i] as i64;
         if limit < arith::magnitude(x) {
-            return refuse_unless(false, 5, i);
+            return refuse_unless(false, number, i);
         }
         i += 1;
     }
-    Answer::Done
+    Check::Done
 }

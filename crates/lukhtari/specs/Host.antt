@@ -5,7 +5,7 @@ use mathlib.Core.Option.{Option, some}
 use lib.IntN.{ℤ, pos}
 use Rattle.lattice.specs.Outcome.{Outcome, Check, done, refused}
 use Rattle.floats.specs.Whole.{wholeOf}
-use Rattle.float_query.specs.Answers.{Held, asDose, asSlope}
+use Rattle.float_query.specs.Answers.{FloatValue, asDose, asSlope}
 use Rattle.table_file.specs.File.{Header}
 use Rattle.lukhtari.specs.declared.Done.{Done}
 use Rattle.lukhtari.specs.declared.Whole.{Whole}
@@ -22,20 +22,20 @@ wholeFrom (done v) = record { number = 0; place = 0; value = v }
 wholeFrom (refused n p) = record { number = n; place = p; value = pos 0 }
 
 -- a float result: the whole number that the float equals exactly, which minus zero does not
-pub record Seen : Type 0 where
+pub record RealValue : Type 0 where
   pub number : ℕ
   pub place : ℕ
   pub value : Option ℤ
 
-abbrev pub seen : Real → Seen
-seen r = record { number = r .number; place = r .place; value = wholeOf (r .value) }
+abbrev pub realValue : Real → RealValue
+realValue r = record { number = r .number; place = r .place; value = wholeOf (r .value) }
 
-abbrev pub realFrom : Outcome ℤ → Seen
+abbrev pub realFrom : Outcome ℤ → RealValue
 realFrom (done v) = record { number = 0; place = 0; value = some v }
 realFrom (refused n p) = record { number = n; place = p; value = some (pos 0) }
 
 -- the same of a dose or slope that a float holds
-abbrev pub realOf : Outcome Held → Seen
+abbrev pub realOf : Outcome FloatValue → RealValue
 realOf (done (asDose w)) = record { number = 0; place = 0; value = w }
 realOf (done (asSlope w)) = record { number = 0; place = 0; value = w }
 realOf (refused n p) = record { number = n; place = p; value = some (pos 0) }

@@ -2,23 +2,23 @@
 ghost use mathlib.Core.Path.{_≡_};
 ghost use lib.ListN.{length};
 ghost use Rattle.lattice.specs.Outcome.{whenDone};
-ghost use Rattle.lattice.specs.Answer.{meaning};
+ghost use Rattle.lattice.specs.Answers.{outcomeOf};
 ghost use Rattle.lattice.specs.Buffer.{overwrite};
 ghost use Rattle.cell.specs.Cell.{placeAt};
 ghost use Rattle.estimate.specs.Estimate.{estimateOutcome, estimateWrites};
 ghost use Rattle.coefficients.specs.Corners.{coefficientsOutcome, coefficientsWrites, backOutcome, backWrites};
 ghost use Rattle.evaluate.specs.Evaluate.{dose, slopeAlong};
 ghost use Rattle.query.specs.Queries.{byCell, positionAt, byPosition};
-ghost use Rattle.query.specs.Answers.{told};
+ghost use Rattle.query.specs.Answers.{outcomeOfReading};
 ghost use Rattle.float_query.specs.Floats.{floatsAt, byFloat};
-ghost use Rattle.float_query.specs.Answers.{toldFloat};
+ghost use Rattle.float_query.specs.Answers.{outcomeOfFloat};
 ghost use Rattle.table_file.specs.File.{header, readOutcome, samplesIn, writeOutcome, fileOf};
-ghost use Rattle.table_file.specs.Answers.{tableMeaning, writeMeaning};
-ghost use Rattle.lukhtari.specs.Host.{doneOf, wholeFrom, seen, realOf, realFrom, tableFrom, writtenFrom};
-use evaluate::SlopeAxis;
+ghost use Rattle.table_file.specs.Answers.{outcomeOfTable, outcomeOfWrite};
+ghost use Rattle.lukhtari.specs.Host.{doneOf, wholeFrom, realValue, realOf, realFrom, tableFrom, writtenFrom};
+use evaluate::Derivative;
 use float_query::FloatPosition;
 use float_query::FloatReading;
-use lattice::Answer;
+use lattice::Check;
 use lattice::Shape;
 use query::CellQuery;
 use query::Query;
@@ -71,15 +71,15 @@ pub struct Written {
     pub length: usize,
 }
 
-fn done_of(a: Answer) -> Done
-    ensures { λ r. ⌜ r ≡ doneOf (meaning a) ⌝ }
+fn done_of(a: Check) -> Done
+    ensures { λ r. ⌜ r ≡ doneOf (outcomeOf a) ⌝ }
 {
     match a {
-        Answer::Done => Done {
+        Check::Done => Done {
             number: 0,
             place: 0,
         },
-        Answer::Refused(r) => Done {
+        Check::Refused(r) => Done {
             number: r.number,
             place: r.place,
         },
@@ -125,7 +125,7 @@ pub extern "C" fn lukhtari_corners(
 }
 
 fn whole_of(a: Reading) -> Whole
-    ensures { λ r. ⌜ r ≡ wholeFrom (told a) ⌝ }
+    ensures { λ r. ⌜ r ≡ wholeFrom (outcomeOfReading a) ⌝ }
 {
     match a {
         Reading::Value(v) => Whole {
@@ -149,10 +149,7 @@ pub extern "C" fn lukhtari_dose(shape: Shape, records: &[i32], position: Positio
     let at = position.at;
     let q = Query {
         position: at,
-        slope_axis: SlopeAxis {
-            given: false,
-            axis: 0,
-        },
+        derivative: Derivative { order: 0, axis: 0 },
     };
     whole_of(query::at_position(shape, records, q))
 }
@@ -170,8 +167,8 @@ pub extern "C" fn lukhtari_slope(
     let at = position.at;
     let q = Query {
         position: at,
-        slope_axis: SlopeAxis {
-            given: true,
+        derivative: Derivative {
+            order: 1,
             axis: axis,
         },
     };
@@ -193,10 +190,7 @@ pub extern "C" fn lukhtari_dose_in_cell(
     let q = CellQuery {
         cell: at,
         step: step,
-        slope_axis: SlopeAxis {
-            given: false,
-            axis: 0,
-        },
+        derivative: Derivative { order: 0, axis: 0 },
     };
     whole_of(query::in_cell(shape, records, q))
 }
@@ -217,8 +211,8 @@ pub extern "C" fn lukhtari_slope_in_cell(
     let q = CellQuery {
         cell: at,
         step: step,
-        slope_axis: SlopeAxis {
-            given: true,
+        derivative: Derivative {
+            order: 1,
             axis: axis,
         },
     };
@@ -226,7 +220,7 @@ pub extern "C" fn lukhtari_slope_in_cell(
 }
 
 fn real_of(a: FloatReading) -> Real
-    ensures { λ r. ⌜ seen r ≡ realOf (toldFloat a) ⌝ }
+    ensures { λ r. ⌜ realValue r ≡ realOf (outcomeOfFloat a) ⌝ }
 {
     match a {
         FloatReading::Dose(x) => Real {
@@ -254,12 +248,9 @@ pub extern "C" fn lukhtari_dose_float(
     records: &[i32],
     position: FloatPosition,
 ) -> Real
-    ensures { λ r. ⌜ seen r ≡ realFrom (byFloat shape (now (records .entry)) dose (floatsAt position)) ⌝ }
+    ensures { λ r. ⌜ realValue r ≡ realFrom (byFloat shape (now (records .entry)) dose (floatsAt position)) ⌝ }
 {
-    let none = SlopeAxis {
-        given: false,
-        axis: 0,
-    };
+    let none = Derivative { order: 0, axis: 0 };
     real_of(float_query::at_float(shape, records, position, none))
 }
 
@@ -271,17 +262,17 @@ pub extern "C" fn lukhtari_slope_float(
     position: FloatPosition,
     axis: u32,
 ) -> Real
-    ensures { λ r. ⌜ seen r ≡ realFrom (byFloat shape (now (records .entry)) (slopeAlong axis) (floatsAt position)) ⌝ }
+    ensures { λ r. ⌜ realValue r ≡ realFrom (byFloat shape (now (records .entry)) (slopeAlong axis) (floatsAt position)) ⌝ }
 {
-    let along = SlopeAxis {
-        given: true,
+    let along = Derivative {
+        order: 1,
         axis: axis,
     };
     real_of(float_query::at_float(shape, records, position, along))
 }
 
 fn table_of(a: TableAnswer) -> Table
-    ensures { λ r. ⌜ r ≡ tableFrom (tableMeaning a) ⌝ }
+    ensures { λ r. ⌜ r ≡ tableFrom (outcomeOfTable a) ⌝ }
 {
     match a {
         TableAnswer::Table { axes, x, y, z } => Table {
@@ -300,7 +291,7 @@ fn table_of(a: TableAnswer) -> Table
 }
 
 fn written_of(a: WriteAnswer) -> Written
-    ensures { λ r. ⌜ r ≡ writtenFrom (writeMeaning a) ⌝ }
+    ensures { λ r. ⌜ r ≡ writtenFrom (outcomeOfWrite a) ⌝ }
 {
     match a {
         WriteAnswer::Written(k) => Written {

@@ -14,7 +14,7 @@ use borrow.Author.Tests.{leb-true, eqb-true, lt-leb, le-leb, eq-eqb, ne-eqb, lt-
 use Rattle.arith.specs.Choice.{pick}
 use Rattle.arith.specs.Int.{unsignedOf}
 use Rattle.arith.proofs.Machine.{element}
-use Rattle.arith.proofs.Choices.{pick-true, pick-false, by-3, from-3}
+use Rattle.arith.proofs.Choices.{clash, pick-true, pick-false, by-3, from-3}
 use Rattle.lattice.specs.declared.Shape.{Shape}
 use Rattle.lattice.specs.Outcome.{Check, done, refuseUnless, first, firstOf}
 use Rattle.lattice.specs.Buffer.{at}
@@ -22,7 +22,7 @@ use Rattle.lattice.specs.Shape.{count, Shaped}
 use Rattle.lattice.specs.Axes.{Place}
 use Rattle.lattice.proofs.ShapeLaws.{shaped}
 use Rattle.lattice.proofs.OutcomeLaws.{first-passed, first-after, first-assoc, firstOf-same}
-use Rattle.hermite.specs.Stage.{steps}
+use Rattle.hermite.specs.Hermite.{steps}
 use Rattle.cell.specs.Cell.{placeAt, cellOutcome}
 use Rattle.cell.proofs.CellLaws.{place-beyond, cell-passes}
 use Rattle.evaluate.specs.Evaluate.{Want}
@@ -52,28 +52,28 @@ module _ (count p i : ℕ) (e : i ≡ cellOf steps count p) where
 -- ---- one axis
 
 -- b stands for the position p: p itself, or a number beyond every table where p is below 0
-pub record Stands (p : ℤ) (b : ℕ) : Type 0 where
+pub record StandsFor (p : ℤ) (b : ℕ) : Type 0 where
   pub low : nonNeg p ≡ true → b ≡ natAbs p
   pub high : nonNeg p ≡ false → 2 ^ 31 ≤ b
 
-stands : (p : ℤ) → mag p < 2 ^ 31 → Stands p (unsignedOf p)
+stands : (p : ℤ) → mag p < 2 ^ 31 → StandsFor p (unsignedOf p)
 unfolding unsignedOf
-stands (pos n) h = record { low = λ e. refl; high = λ e. let z : _≡_ {A = ℕ} 0 1 = cc in absurd (omega arith) }
-stands (negsuc n) h = record { low = λ e. let z : _≡_ {A = ℕ} 0 1 = cc in absurd (omega arith); high = λ e. omega arith }
+stands (pos n) h = record { low = λ e. refl; high = λ e. clash (cc) }
+stands (negsuc n) h = record { low = λ e. clash (cc); high = λ e. omega arith }
 
 -- a number that stands for any position
 standing : ℤ → ℕ
 standing (pos n) = n
 standing (negsuc n) = 2 ^ 31
 
-stands-there : (p : ℤ) → Stands p (standing p)
+stands-there : (p : ℤ) → StandsFor p (standing p)
 unfolding standing
-stands-there (pos n) = record { low = λ e. refl; high = λ e. let z : _≡_ {A = ℕ} 0 1 = cc in absurd (omega arith) }
-stands-there (negsuc n) = record { low = λ e. let z : _≡_ {A = ℕ} 0 1 = cc in absurd (omega arith); high = λ e. omega arith }
+stands-there (pos n) = record { low = λ e. refl; high = λ e. clash (cc) }
+stands-there (negsuc n) = record { low = λ e. clash (cc); high = λ e. omega arith }
 
 -- as the code has it
-pub stands-for : (p : ℤ) {b : ℕ} → mag p < 2 ^ 31 → b ≡ unsignedOf (toZ w32 (ofZ w32 p)) → Stands p b
-stands-for p h e = subst (Stands p) (sym (e ∙ ap unsignedOf (element p h))) (stands p h)
+pub stands-for : (p : ℤ) {b : ℕ} → mag p < 2 ^ 31 → b ≡ unsignedOf (toZ w32 (ofZ w32 p)) → StandsFor p b
+stands-for p h e = subst (StandsFor p) (sym (e ∙ ap unsignedOf (element p h))) (stands p h)
 
 same-test : (a b : Bool) → (a ≡ true → b ≡ true) → (b ≡ true → a ≡ true) → a ≡ b
 same-test true b f g = sym (f refl)
@@ -81,7 +81,7 @@ same-test false true f g = g refl
 same-test false false f g = refl
 
 -- 11 of the in-cell step is 11 of the position, on a used axis
-used-test : (c : ℕ) (p : ℤ) (b : ℕ) → 2 ≤ c → c ≤ 64 → Stands p b → leb (b - steps * cellOf steps c b) steps ≡ (nonNeg p && leb (natAbs p) (steps * (c - 1)))
+used-test : (c : ℕ) (p : ℤ) (b : ℕ) → 2 ≤ c → c ≤ 64 → StandsFor p b → leb (b - steps * cellOf steps c b) steps ≡ (nonNeg p && leb (natAbs p) (steps * (c - 1)))
 unfolding cellOf
 used-test c (pos n) b h k s =
     let e = s .low refl in
@@ -91,7 +91,7 @@ used-test c (pos n) b h k s =
 used-test c (negsuc n) b h k s = let e = s .high refl in lt-leb (b - steps * cellOf steps c b) steps (omega arith)
 
 -- and on an unused one
-unused-test : (c : ℕ) (p : ℤ) (b : ℕ) → c ≡ 1 → Stands p b → eqb (b - steps * cellOf steps c b) 0 ≡ (nonNeg p && leb (natAbs p) (steps * (c - 1)))
+unused-test : (c : ℕ) (p : ℤ) (b : ℕ) → c ≡ 1 → StandsFor p b → eqb (b - steps * cellOf steps c b) 0 ≡ (nonNeg p && leb (natAbs p) (steps * (c - 1)))
 unfolding cellOf
 unused-test c (pos n) b h s =
     let e = s .low refl in
@@ -104,7 +104,7 @@ unused-test c (negsuc n) b h s = let e = s .high refl in ne-eqb (b - steps * cel
 
 -- the cell and the in-cell step of the numbers b that stand for a position
 pub record Located (s : Shape) (p : Position) (b : ℕ → ℕ) (cell step : Place) : Type 0 where
-  pub stand : (a : ℕ) → a < 3 → Stands (p a) (b a)
+  pub stand : (a : ℕ) → a < 3 → StandsFor (p a) (b a)
   pub cell-is : (a : ℕ) → cell a ≡ cellOf steps (count s a) (b a)
   pub step-is : (a : ℕ) → step a ≡ b a - steps * cell a
   pub beyond : (a : ℕ) → 3 ≤ a → b a ≡ natAbs (p a)
@@ -167,21 +167,21 @@ unfolding positionCell positionStep
 by-position-is s rs want p h =
     sym (located s rs want p (λ a. natAbs (p a)) (positionCell s p) (positionStep s p)
     (record {
-      stand = λ a l. record { low = λ e. refl; high = λ e. let k = position-range s p h a l .0 in let z : _≡_ {A = ℕ} 0 1 = cc in absurd (omega arith) };
+      stand = λ a l. record { low = λ e. refl; high = λ e. let k = position-range s p h a l .0 in clash (cc) };
       cell-is = λ a. refl;
       step-is = λ a. refl;
       beyond = λ a l. refl;
     }))
 
 -- and by what the code has of three axes
-pub on-axes : (s : Shape) (rs : List ℤ) (want : Want) (xs : List ℤ) (x y z i j k : ℕ) → Stands (at xs 0) x → Stands (at xs 1) y → Stands (at xs 2) z
+pub on-axes : (s : Shape) (rs : List ℤ) (want : Want) (xs : List ℤ) (x y z i j k : ℕ) → StandsFor (at xs 0) x → StandsFor (at xs 1) y → StandsFor (at xs 2) z
     → i ≡ cellOf steps (count s 0) x → j ≡ cellOf steps (count s 1) y → k ≡ cellOf steps (count s 2) z
     → byCell s rs want (placeAt (i ∷ j ∷ k ∷ [])) (placeAt ((x - 256 * i) ∷ (y - 256 * j) ∷ (z - 256 * k) ∷ [])) ≡ byPosition s rs want (positionAt xs)
 unfolding placeAt positionAt pick cellOf
 on-axes s rs want xs x y z i j k p q r e f g =
     located s rs want (positionAt xs) (placeAt numbers) (placeAt cell) (placeAt step)
     (record {
-      stand = by-3 (λ (a : ℕ). Stands (positionAt xs a) (placeAt numbers a)) p q r;
+      stand = by-3 (λ (a : ℕ). StandsFor (positionAt xs a) (placeAt numbers a)) p q r;
       cell-is = from-3 (λ a. placeAt cell a ≡ cellOf steps (count s a) (placeAt numbers a)) e f g (λ a h. let l = place-beyond numbers a h in let m = place-beyond cell a h in omega arith);
       step-is = from-3 (λ a. placeAt step a ≡ placeAt numbers a - steps * placeAt cell a) refl refl refl (λ a h. let l = place-beyond numbers a h in let m = place-beyond step a h in omega arith);
       beyond = λ a h. place-beyond numbers a h ∙ sym (ap natAbs (pick-false (ltb a 3) (at xs a) (pos 0) (le-ltb a 3 h)));

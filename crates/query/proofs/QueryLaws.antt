@@ -1,6 +1,6 @@
 -- The facts behind a query that is not refused, when it is not, and a query by position as the query by its cell and in-cell step.
 use mathlib.Core.Path.{_≡_, refl, sym, ap, subst, _∙_}
-use mathlib.Core.Bool.{true, _&&_}
+use mathlib.Core.Bool.{Bool, true, false, _&&_}
 use mathlib.Core.List.{List, [], _∷_}
 use Prim.Native.Nat.{ℕ, _+_, _*_, _-_, _^_, _≤_, _<_}
 use native.Mathlib.Omega.{arith}
@@ -14,6 +14,7 @@ use mir.Val.{toZ, ofZ}
 use borrow.Author.Tests.{ltb-true, leb-true, eqb-true, le-leb, eq-eqb}
 use Rattle.arith.proofs.Machine.{element}
 use Rattle.arith.proofs.Choices.{and-true}
+use Rattle.arith.proofs.Round.{half-up-sound}
 use Rattle.lattice.specs.declared.Shape.{Shape}
 use Rattle.lattice.specs.Outcome.{Outcome, Check, done, refused, refuseUnless, first, firstOf, passed}
 use Rattle.lattice.specs.Shape.{count, orders, entries, size, shapeOutcome, Shaped}
@@ -21,9 +22,9 @@ use Rattle.lattice.specs.Axes.{Place, OnUsed}
 use Rattle.lattice.specs.Records.{recordsField}
 use Rattle.lattice.proofs.ShapeLaws.{shaped}
 use Rattle.lattice.proofs.OutcomeLaws.{first-done, first-passed, refused-first, passed-done, done-same, refuse-done, passes, firstOf-each}
-use Rattle.hermite.specs.Stage.{steps}
+use Rattle.hermite.specs.Hermite.{steps}
 use Rattle.cell.specs.declared.Layout.{Layout}
-use Rattle.cell.specs.Cell.{placeAt, cellOutcome, cornersOutcome, Accepted, Laid, base, far}
+use Rattle.cell.specs.Cell.{placeAt, cellOutcome, cornersOutcome, Accepted, Laid, base, nodeStride}
 use Rattle.cell.proofs.CellLaws.{used-passed, all-passed, all-pass, accepted}
 use Rattle.evaluate.specs.Stages.{Ready}
 use Rattle.evaluate.proofs.Answering.{answer-fits}
@@ -160,27 +161,45 @@ module _ (s : Shape) (rs : List ℤ) (want : Want) (cell : List ℕ) (step : Pla
         corners = passed-done (cornersOutcome s rs (placeAt cell)) k;
       }
 
-  -- the answer where 5 does not arise, and 5 where it does
-  pub answered : passed (cornersOutcome s rs (placeAt cell)) ≡ true → (r : ℤ) → mag r < 2 ^ 31 → r ≡ answer (askAt s want (placeAt cell) step) (recordsField s rs) → done (toZ w32 (ofZ w32 r)) ≡ reading s rs want (placeAt cell) step
-  answered k r fit is = ap done (element r fit ∙ is) ∙ sym (reading-passes s rs want (placeAt cell) step (passed-done (cornersOutcome s rs (placeAt cell)) k))
-
-  pub stopped : (o : Outcome ℤ) → ((v : ℤ) → o ≡ first (cornersOutcome s rs (placeAt cell)) (done v)) → o ≡ reading s rs want (placeAt cell) step
-  unfolding reading
-  stopped o h = h (answer (askAt s want (placeAt cell) step) (recordsField s rs))
-
   -- an answer is below 2^24
   pub by-cell-small : (v : ℤ) → byCell s rs want (placeAt cell) step ≡ done v → natAbs v < 2 ^ 24
   unfolding byCell
   by-cell-small v h =
       let f = first-done (testedOutcome s rs want (placeAt cell) step) (reading s rs want (placeAt cell) step) v h in
       let r = reading-parts s rs want (placeAt cell) step v (f .1) in
-      subst (λ z. natAbs z < 2 ^ 24) (r .1) (answer-fits s rs (placeAt cell) step want laid (ready (f .0) laid is-laid (ap passed (r .0))))
+      subst (λ z. natAbs z < 2 ^ 24) (r .1) (answer-fits half-up-sound s rs (placeAt cell) step want laid (ready (f .0) laid is-laid (ap passed (r .0))))
     where
       laid : Layout
-      laid = record { orders = orders s; entries = entries s; base = base s (placeAt cell); far = far s 0 ∷ far s 1 ∷ far s 2 ∷ [] }
+      laid = record { orders = orders s; entries = entries s; base = base s (placeAt cell); strides = nodeStride s 0 ∷ nodeStride s 1 ∷ nodeStride s 2 ∷ [] }
 
       is-laid : Laid s (placeAt cell) laid
-      is-laid = record { orders-are = refl; entries-are = refl; base-is = refl; far-x = refl; far-y = refl; far-z = refl }
+      is-laid = record { orders-are = refl; entries-are = refl; base-is = refl; stride-x = refl; stride-y = refl; stride-z = refl }
+
+-- reading a cell once the tests before 5 are passed: what its layout, the test of its corners and its stages ask for, and what is read
+pub record Reader (s : Shape) (rs : List ℤ) (want : Want) (cell : List ℕ) (step : Place) : Type 0 where
+  pub layout-asks : Shaped s × Accepted s (placeAt cell)
+  pub corners-asks : (l : Layout) → Laid s (placeAt cell) l → (n : ℕ) → n ≡ s .axes
+      → (Shaped s × (length rs ≡ size s) × (n ≡ s .axes)) × (Accepted s (placeAt cell) × Laid s (placeAt cell) l)
+  pub stages-ask : (l : Layout) → Laid s (placeAt cell) l → (w : Bool) → w ≡ passed (cornersOutcome s rs (placeAt cell)) → w ≡ true → Ready s rs (placeAt cell) step want l
+  pub answered : (w : Bool) → w ≡ passed (cornersOutcome s rs (placeAt cell)) → w ≡ true
+      → (r : ℤ) → mag r < 2 ^ 31 → r ≡ answer (askAt s want (placeAt cell) step) (recordsField s rs) → done (toZ w32 (ofZ w32 r)) ≡ reading s rs want (placeAt cell) step
+  pub beyond-asks : (l : Layout) → Laid s (placeAt cell) l → (w : Bool) → w ≡ passed (cornersOutcome s rs (placeAt cell)) → w ≡ false
+      → (Shaped s × (length rs ≡ size s)) × ((Accepted s (placeAt cell) × Laid s (placeAt cell) l) × (passed (cornersOutcome s rs (placeAt cell)) ≡ false))
+  pub stopped : (o : Outcome ℤ) → ((v : ℤ) → o ≡ first (cornersOutcome s rs (placeAt cell)) (done v)) → o ≡ reading s rs want (placeAt cell) step
+
+pub reader : (s : Shape) (rs : List ℤ) (want : Want) (cell : List ℕ) (step : Place) → testedOutcome s rs want (placeAt cell) step ≡ done tt → Reader s rs want cell step
+unfolding reading
+reader s rs want cell step t =
+    let f = near s rs want cell step t in
+    record {
+      layout-asks = (f .shape, f .here);
+      corners-asks = λ l laid n e. ((f .shape, f .long, e), (f .here, laid));
+      stages-ask = λ l laid w e h. ready s rs want cell step t l laid (sym e ∙ h);
+      answered = λ w e h r fit is.
+          ap done (element r fit ∙ is) ∙ sym (reading-passes s rs want (placeAt cell) step (passed-done (cornersOutcome s rs (placeAt cell)) (sym e ∙ h)));
+      beyond-asks = λ l laid w e h. ((f .shape, f .long), ((f .here, laid), sym e ∙ h));
+      stopped = λ o h. h (answer (askAt s want (placeAt cell) step) (recordsField s rs));
+    }
 
 -- ---- positions
 

@@ -4,6 +4,6 @@ use Rattle.lattice.specs.Outcome.{Outcome, done, refused}
 use Rattle.query.specs.declared.Reading.{Reading}
 use Rattle.query.specs.declared.Reading.the-variants.{Value, Refused}
 
-abbrev pub told : Reading → Outcome ℤ
-told (Value v) = done v
-told (Refused r) = refused (r .number) (r .place)
+abbrev pub outcomeOfReading : Reading → Outcome ℤ
+outcomeOfReading (Value v) = done v
+outcomeOfReading (Refused r) = refused (r .number) (r .place)

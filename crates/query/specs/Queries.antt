@@ -8,12 +8,12 @@ use lib.ListN.{length}
 use lib.Signed.{nonNeg}
 use Rattle.arith.specs.Choice.{pick}
 use Rattle.lattice.specs.declared.Shape.{Shape}
-use Rattle.lattice.specs.Outcome.{Outcome, Check, done, refuseUnless, first, firstOf}
+use Rattle.lattice.specs.Outcome.{Outcome, Check, done, refuseUnless, first, firstOf, onAxes}
 use Rattle.lattice.specs.Buffer.{at}
 use Rattle.lattice.specs.Shape.{count, size, shapeOutcome}
 use Rattle.lattice.specs.Axes.{Place}
 use Rattle.lattice.specs.Records.{recordsField}
-use Rattle.hermite.specs.Stage.{steps}
+use Rattle.hermite.specs.Hermite.{steps}
 use Rattle.cell.specs.Cell.{cellOutcome, cornersOutcome}
 use Rattle.evaluate.specs.Evaluate.{Want, dose, slopeAlong, askAt, answer}
 
@@ -35,7 +35,7 @@ reading s rs want cell step = first (cornersOutcome s rs cell) (done (answer (as
 
 -- 11: u above 256, or not 0 on an unused axis; place is the axis
 unfoldable pub stepsOutcome : Shape → Place → Check
-stepsOutcome s step = firstOf 3 (λ a. refuseUnless (pick (ltb a (s .axes)) (leb (step a) steps) (eqb (step a) 0)) 11 a)
+stepsOutcome s step = onAxes 11 (λ a. pick (ltb a (s .axes)) (leb (step a) steps) (eqb (step a) 0))
 
 -- then 14, 11
 unfoldable pub testedOutcome : Shape → List ℤ → Want → Place → Place → Check

@@ -8,28 +8,28 @@ ghost use lib.IntN.{ℤ};
 ghost use lib.ListN.{length};
 ghost use Rattle.arith.specs.Choice.{pick};
 ghost use Rattle.lattice.specs.Outcome.{done, refuseUnless, first, passed};
-ghost use Rattle.lattice.specs.Answer.{meaning};
+ghost use Rattle.lattice.specs.Answers.{outcomeOf};
 ghost use Rattle.lattice.specs.Shape.{size, Shaped};
-ghost use Rattle.hermite.specs.Stage.{steps};
+ghost use Rattle.hermite.specs.Hermite.{steps};
 ghost use Rattle.cell.specs.Cell.{placeAt, cornersOutcome, Accepted, Laid};
 ghost use Rattle.evaluate.specs.Wants.{wanted, wantOf};
-ghost use Rattle.query.specs.Answers.{told};
+ghost use Rattle.query.specs.Answers.{outcomeOfReading};
 ghost use Rattle.query.specs.Queries.{askedOutcome, testedOutcome, reading, stepsOutcome, byCell, positionAt, cellOf, byPosition};
 use cell::Layout;
-use evaluate::SlopeAxis;
-use lattice::Answer;
+use evaluate::Derivative;
+use lattice::Check;
 use lattice::Refusal;
 use lattice::Shape;
 
 pub struct Query {
     pub position: [i32; 3],
-    pub slope_axis: SlopeAxis,
+    pub derivative: Derivative,
 }
 
 pub struct CellQuery {
     pub cell: [u32; 3],
     pub step: [u32; 3],
-    pub slope_axis: SlopeAxis,
+    pub derivative: Derivative,
 }
 
 pub enum Reading {
@@ -38,41 +38,38 @@ pub enum Reading {
 }
 
 // Refusals 2, 3, 4 and 12 on n axes, of `given` records' entries.
-fn check_asked(n: u32, s: Shape, given: usize, slope: bool, axis: u32) -> Answer
+fn check_asked(n: u32, s: Shape, given: usize, order: u32, axis: u32) -> Check
     requires { ⌜ (1 ≤ n) × (n ≤ 3) × (n ≡ s .axes) ⌝ }
-    ensures { λ r. ⌜ ((rs : List ℤ) → length rs ≡ given → meaning r ≡ askedOutcome s rs (wantOf slope axis)) ⌝ }
+    ensures { λ r. ⌜ ((rs : List ℤ) → length rs ≡ given → outcomeOf r ≡ askedOutcome s rs (wantOf order axis)) ⌝ }
 {
     let table = lattice::check_table(n, s);
-    if let Answer::Refused(_) = table {
+    if let Check::Refused(_) = table {
         return table;
     }
     let long = lattice::refuse_unless(given == lattice::table_entries(s), 4, 0);
-    if let Answer::Refused(_) = long {
+    if let Check::Refused(_) = long {
         return long;
     }
-    lattice::refuse_unless(!slope || axis < n, 12, 0)
+    if order == 0 {
+        return Check::Done;
+    }
+    lattice::refuse_unless(axis < n, 12, 0)
 }
 
-fn check_step(n: u32, step: u32, axis: u32) -> Answer
-    ensures { λ r. ⌜ meaning r ≡ refuseUnless (pick (ltb axis n) (leb step steps) (eqb step 0)) 11 axis ⌝ }
+fn step_allowed(n: u32, step: u32, axis: u32) -> bool
+    ensures { λ r. ⌜ r ≡ pick (ltb axis n) (leb step steps) (eqb step 0) ⌝ }
 {
-    lattice::refuse_on_axis(n, axis, step <= 256, step == 0, 11)
+    lattice::by_use(n, axis, step <= 256, step == 0)
 }
 
 // Refusal 11 of an in-cell step.
-fn check_steps(n: u32, s: Shape, u: u32, v: u32, w: u32) -> Answer
+fn check_steps(n: u32, s: Shape, u: u32, v: u32, w: u32) -> Check
     requires { ⌜ n ≡ s .axes ⌝ }
-    ensures { λ r. ⌜ meaning r ≡ stepsOutcome s (placeAt (u ∷ v ∷ w ∷ [])) ⌝ }
+    ensures { λ r. ⌜ outcomeOf r ≡ stepsOutcome s (placeAt (u ∷ v ∷ w ∷ [])) ⌝ }
 {
-    let on_x = check_step(n, u, 0);
-    if let Answer::Refused(_) = on_x {
-        return on_x;
-    }
-    let on_y = check_step(n, v, 1);
-    if let Answer::Refused(_) = on_y {
-        return on_y;
-    }
-    check_step(n, w, 2)
+    let on_x = lattice::refuse_unless(step_allowed(n, u, 0), 11, 0);
+    let on_y = lattice::refuse_after(on_x, step_allowed(n, v, 1), 11, 1);
+    lattice::refuse_after(on_y, step_allowed(n, w, 2), 11, 2)
 }
 
 // Refusals 2, 3, 4, 12, 14 and 11 on n axes.
@@ -86,18 +83,18 @@ fn check_query(
     u: u32,
     v: u32,
     w: u32,
-    slope: bool,
+    order: u32,
     axis: u32,
-) -> Answer
+) -> Check
     requires { ⌜ (1 ≤ n) × (n ≤ 3) × (n ≡ s .axes) ⌝ }
-    ensures { λ r. ⌜ ((rs : List ℤ) → length rs ≡ given → meaning r ≡ testedOutcome s rs (wantOf slope axis) (placeAt (i ∷ j ∷ k ∷ [])) (placeAt (u ∷ v ∷ w ∷ []))) ⌝ }
+    ensures { λ r. ⌜ ((rs : List ℤ) → length rs ≡ given → outcomeOf r ≡ testedOutcome s rs (wantOf order axis) (placeAt (i ∷ j ∷ k ∷ [])) (placeAt (u ∷ v ∷ w ∷ []))) ⌝ }
 {
-    let asked = check_asked(n, s, given, slope, axis);
-    if let Answer::Refused(_) = asked {
+    let asked = check_asked(n, s, given, order, axis);
+    if let Check::Refused(_) = asked {
         return asked;
     }
     let here = cell::check_cell(n, s, i, j, k);
-    if let Answer::Refused(_) = here {
+    if let Check::Refused(_) = here {
         return here;
     }
     check_steps(n, s, u, v, w)
@@ -113,20 +110,20 @@ fn check_by_axes(
     u: u32,
     v: u32,
     w: u32,
-    slope: bool,
+    order: u32,
     axis: u32,
-) -> Answer
-    ensures { λ r. ⌜ ((rs : List ℤ) → length rs ≡ given → meaning r ≡ testedOutcome s rs (wantOf slope axis) (placeAt (i ∷ j ∷ k ∷ [])) (placeAt (u ∷ v ∷ w ∷ []))) ⌝ }
+) -> Check
+    ensures { λ r. ⌜ ((rs : List ℤ) → length rs ≡ given → outcomeOf r ≡ testedOutcome s rs (wantOf order axis) (placeAt (i ∷ j ∷ k ∷ [])) (placeAt (u ∷ v ∷ w ∷ []))) ⌝ }
 {
     let n = s.axes;
     if n == 1 {
-        return check_query(1, s, given, i, j, k, u, v, w, slope, axis);
+        return check_query(1, s, given, i, j, k, u, v, w, order, axis);
     }
     if n == 2 {
-        return check_query(2, s, given, i, j, k, u, v, w, slope, axis);
+        return check_query(2, s, given, i, j, k, u, v, w, order, axis);
     }
     if n == 3 {
-        return check_query(3, s, given, i, j, k, u, v, w, slope, axis);
+        return check_query(3, s, given, i, j, k, u, v, w, order, axis);
     }
     lattice::refuse_unless(false, 1, 0)
 }
@@ -136,12 +133,12 @@ fn beyond(s: Shape, records: &[i32], cell: [u32; 3], l: Layout) -> Reading
     requires { ⌜ Shaped s × (length (now records) ≡ size s) ⌝ }
     requires { ⌜ Accepted s (placeAt cell) × Laid s (placeAt cell) l ⌝ }
     requires { ⌜ passed (cornersOutcome s (now records) (placeAt cell)) ≡ false ⌝ }
-    ensures { λ r. ⌜ ((v : ℤ) → told r ≡ first (cornersOutcome s (now (records .entry)) (placeAt cell)) (done v)) ⌝ }
+    ensures { λ r. ⌜ ((v : ℤ) → outcomeOfReading r ≡ first (cornersOutcome s (now (records .entry)) (placeAt cell)) (done v)) ⌝ }
 {
     let tested = cell::check_corners(s, records, cell, l);
     match tested {
-        Answer::Refused(r) => Reading::Refused(r),
-        Answer::Done => Reading::Value(0),
+        Check::Refused(r) => Reading::Refused(r),
+        Check::Done => Reading::Value(0),
     }
 }
 
@@ -151,16 +148,16 @@ fn read_line(
     records: &[i32],
     cell: [u32; 3],
     step: [u32; 3],
-    slope: bool,
+    order: u32,
     axis: u32,
 ) -> Reading
-    requires { ⌜ testedOutcome s (now records) (wantOf slope axis) (placeAt cell) (placeAt step) ≡ done tt ⌝ }
+    requires { ⌜ testedOutcome s (now records) (wantOf order axis) (placeAt cell) (placeAt step) ≡ done tt ⌝ }
     requires { ⌜ s .axes ≡ 1 ⌝ }
-    ensures { λ r. ⌜ told r ≡ reading s (now (records .entry)) (wantOf slope axis) (placeAt cell) (placeAt step) ⌝ }
+    ensures { λ r. ⌜ outcomeOfReading r ≡ reading s (now (records .entry)) (wantOf order axis) (placeAt cell) (placeAt step) ⌝ }
 {
-    let l = cell::lay_out(s, cell);
+    let l = cell::layout_of(s, cell);
     if cell::corners_within(1, s, records, cell, l) {
-        return Reading::Value(evaluate::on_line(s, records, cell, step, slope, axis, l));
+        return Reading::Value(evaluate::on_line(s, records, cell, step, order, axis, l));
     }
     beyond(s, records, cell, l)
 }
@@ -171,17 +168,17 @@ fn read_lattice(
     records: &[i32],
     cell: [u32; 3],
     step: [u32; 3],
-    slope: bool,
+    order: u32,
     axis: u32,
 ) -> Reading
-    requires { ⌜ testedOutcome s (now records) (wantOf slope axis) (placeAt cell) (placeAt step) ≡ done tt ⌝ }
+    requires { ⌜ testedOutcome s (now records) (wantOf order axis) (placeAt cell) (placeAt step) ≡ done tt ⌝ }
     requires { ⌜ 2 ≤ s .axes ⌝ }
-    ensures { λ r. ⌜ told r ≡ reading s (now (records .entry)) (wantOf slope axis) (placeAt cell) (placeAt step) ⌝ }
+    ensures { λ r. ⌜ outcomeOfReading r ≡ reading s (now (records .entry)) (wantOf order axis) (placeAt cell) (placeAt step) ⌝ }
 {
     let n = s.axes;
-    let l = cell::lay_out(s, cell);
+    let l = cell::layout_of(s, cell);
     if cell::corners_within(n, s, records, cell, l) {
-        return Reading::Value(evaluate::on_lattice(s, records, cell, step, slope, axis, l));
+        return Reading::Value(evaluate::on_lattice(s, records, cell, step, order, axis, l));
     }
     beyond(s, records, cell, l)
 }
@@ -191,48 +188,48 @@ fn read(
     s: Shape,
     records: &[i32],
     i: u32,
-    j: u32,
-    k: u32,
     u: u32,
+    j: u32,
     v: u32,
+    k: u32,
     w: u32,
-    slope: bool,
+    order: u32,
     axis: u32,
 ) -> Reading
-    ensures { λ r. ⌜ told r ≡ byCell s (now (records .entry)) (wantOf slope axis) (placeAt (i ∷ j ∷ k ∷ [])) (placeAt (u ∷ v ∷ w ∷ [])) ⌝ }
+    ensures { λ r. ⌜ outcomeOfReading r ≡ byCell s (now (records .entry)) (wantOf order axis) (placeAt (i ∷ j ∷ k ∷ [])) (placeAt (u ∷ v ∷ w ∷ [])) ⌝ }
 {
     let long = records.len();
-    let tested = check_by_axes(s, long, i, j, k, u, v, w, slope, axis);
+    let tested = check_by_axes(s, long, i, j, k, u, v, w, order, axis);
     match tested {
-        Answer::Refused(r) => Reading::Refused(r),
-        Answer::Done => {
+        Check::Refused(r) => Reading::Refused(r),
+        Check::Done => {
             // Slices made anew stay in registers.
             if s.axes == 1 {
-                return read_line(s, &records[..long], [i, j, k], [u, v, w], slope, axis);
+                return read_line(s, &records[..long], [i, j, k], [u, v, w], order, axis);
             }
-            read_lattice(s, &records[..long], [i, j, k], [u, v, w], slope, axis)
+            read_lattice(s, &records[..long], [i, j, k], [u, v, w], order, axis)
         }
     }
 }
 
 // The dose or slope at a step of a cell.
 pub fn in_cell(s: Shape, records: &[i32], q: CellQuery) -> Reading
-    ensures { λ r. ⌜ told r ≡ byCell s (now (records .entry)) (wanted (q .«slope_axis»)) (placeAt (q .cell)) (placeAt (q .step)) ⌝ }
+    ensures { λ r. ⌜ outcomeOfReading r ≡ byCell s (now (records .entry)) (wanted (q .derivative)) (placeAt (q .cell)) (placeAt (q .step)) ⌝ }
 {
-    let slope = q.slope_axis.given;
-    let axis = q.slope_axis.axis;
+    let order = q.derivative.order;
+    let axis = q.derivative.axis;
     let cell = q.cell;
     let step = q.step;
     read(
         s,
         records,
         cell[0],
-        cell[1],
-        cell[2],
         step[0],
+        cell[1],
         step[1],
+        cell[2],
         step[2],
-        slope,
+        order,
         axis,
     )
 }
@@ -248,10 +245,10 @@ fn cell_of(count: u32, p: u32) -> u32
 
 // The dose or slope at a position; one below 0 stands in two's complement beyond every table.
 pub fn at_position(s: Shape, records: &[i32], q: Query) -> Reading
-    ensures { λ r. ⌜ told r ≡ byPosition s (now (records .entry)) (wanted (q .«slope_axis»)) (positionAt (q .position)) ⌝ }
+    ensures { λ r. ⌜ outcomeOfReading r ≡ byPosition s (now (records .entry)) (wanted (q .derivative)) (positionAt (q .position)) ⌝ }
 {
-    let slope = q.slope_axis.given;
-    let axis = q.slope_axis.axis;
+    let order = q.derivative.order;
+    let axis = q.derivative.axis;
     let x = arith::unsigned(q.position[0]);
     let y = arith::unsigned(q.position[1]);
     let z = arith::unsigned(q.position[2]);
@@ -262,12 +259,12 @@ pub fn at_position(s: Shape, records: &[i32], q: Query) -> Reading
         s,
         records,
         i,
-        j,
-        k,
         x - 256 * i,
+        j,
         y - 256 * j,
+        k,
         z - 256 * k,
-        slope,
+        order,
         axis,
     )
 }

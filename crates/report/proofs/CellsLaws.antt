@@ -16,19 +16,19 @@ use Rattle.lattice.proofs.BufferLaws.{getD-tabulate}
 use Rattle.lattice.proofs.DigitsLaws.{digit-below}
 use Rattle.cell.specs.Cell.{placeAt, Accepted}
 use Rattle.table_file.specs.File.{Header, countOf}
-use Rattle.report.specs.Report.{cellsAlong, cellCount, cellAt, shapeOf}
+use Rattle.report.specs.Report.{cellsAlong, cellCount, cellAt, withDegree}
 use Rattle.report.specs.Parts.{Between}
 
 -- the cells of a table do not depend on the degree
-pub any-degree : (h : Header) (d e : ℕ) (cell : List ℕ) → Accepted (shapeOf h d) (placeAt cell) → Accepted (shapeOf h e) (placeAt cell)
+pub any-degree : (h : Header) (d e : ℕ) (cell : List ℕ) → Accepted (withDegree h d) (placeAt cell) → Accepted (withDegree h e) (placeAt cell)
 unfolding count
 any-degree h d e cell k = record { used = k .used; unused = k .unused }
 
-pub counts-between : (h : Header) (d : ℕ) → Shaped (shapeOf h d) → Between 1 64 (h .counts)
+pub counts-between : (h : Header) (d : ℕ) → Shaped (withDegree h d) → Between 1 64 (h .counts)
 unfolding count
 counts-between h d ok = record { least = ok .low; most = ok .high }
 
-module _ (h : Header) (d : ℕ) (ok : Shaped (shapeOf h d)) where
+module _ (h : Header) (d : ℕ) (ok : Shaped (withDegree h d)) where
   -- one along an unused axis, one less than the nodes along a used one
   along-range : (a : ℕ) → a < 3 → (1 ≤ cellsAlong h a) × (cellsAlong h a ≤ countOf h a) × (cellsAlong h a ≤ 64)
   unfolding cellsAlong countOf count
@@ -44,7 +44,7 @@ module _ (h : Header) (d : ℕ) (ok : Shaped (shapeOf h d)) where
   }
 
   -- no more cells than nodes
-  pub cells-few : cellCount h ≤ nodes (shapeOf h d)
+  pub cells-few : cellCount h ≤ nodes (withDegree h d)
   unfolding cellCount span nodes count countOf
   cells-few = mul-le-mul (along-range 0 (lit< tt) .1) (mul-le-mul (along-range 1 (lit< tt) .1) (mul-le-mul (along-range 2 (lit< tt) .1) (omega arith)))
 
@@ -63,7 +63,7 @@ module _ (h : Header) (d : ℕ) (ok : Shaped (shapeOf h d)) where
   unfolding cellsAlong
   unused-along a l = pick-false (ltb a (h .axes)) _ _ (le-ltb a (h .axes) l)
 
-  pub cell-accepted : (i : ℕ) → Accepted (shapeOf h d) (placeAt (cellAt h i))
+  pub cell-accepted : (i : ℕ) → Accepted (withDegree h d) (placeAt (cellAt h i))
   unfolding count countOf placeAt
   cell-accepted i = record {
     used = λ a l.

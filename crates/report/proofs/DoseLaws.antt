@@ -15,7 +15,7 @@ use Rattle.lattice.specs.Outcome.{done}
 use Rattle.lattice.specs.Axes.{Place}
 use Rattle.lattice.specs.Records.{recordsField}
 use Rattle.lattice.proofs.OutcomeLaws.{passes, firstOf-passes}
-use Rattle.hermite.specs.Stage.{steps}
+use Rattle.hermite.specs.Hermite.{steps}
 use Rattle.cell.specs.Cell.{placeAt, Accepted}
 use Rattle.estimate.specs.Estimate.{Estimable, tableRecords, recordsOf, estimateOutcome}
 use Rattle.estimate.proofs.CallLaws.{estimated, records-length}
@@ -59,7 +59,7 @@ module _ (s : Shape) (xs : List ℤ) (room : ℕ) (e : Estimable s xs room) (cel
   last = let h = e .shape .axes-low in omega arith
 
   answer-same : (step : Place) → answer (askAt s dose cell step) (recordsField s (recordsOf s xs)) ≡ answer (askAt s dose cell step) (tableRecords s xs)
-  unfolding answer askAt
+  unfolding askAt
   answer-same step = answer-local roundHalfUp (askAt s dose cell step) last (recordsField s (recordsOf s xs)) (tableRecords s xs) (field-same s xs room e cell here)
 
 -- estimation that is not refused

@@ -16,8 +16,8 @@ use Rattle.table_file.specs.File.{Header, samplesIn, readOutcome}
 use Rattle.table_file.proofs.ReadLaws.{samples-length}
 use Rattle.table_file.proofs.TakenLaws.{taken}
 use Rattle.text.specs.Lines.{refusedLine}
-use Rattle.report.specs.Report.{heldNodes, heldBytes, shapeOf, cellLines, inputOutcome, textOf, reportText}
-use Rattle.report.specs.Parts.{Held}
+use Rattle.report.specs.Report.{heldNodes, heldBytes, withDegree, cellLines, inputOutcome, textOf, reportText}
+use Rattle.report.specs.Parts.{HeldTable}
 use Rattle.report.proofs.TableLaws.{nodes-are, cubic-shaped}
 
 module _ (input : List ℕ) where
@@ -39,19 +39,19 @@ module _ (input : List ℕ) where
     unfolding reportText textOf
     read-done l = ap (λ (o : Outcome Header). textOf o (samplesIn input)) (outcome l ∙ e)
 
-    pub held : Held h (samplesIn input)
+    pub held : HeldTable h (samplesIn input)
     held =
         let f = taken input heldNodes h e in
-        subst (λ (g : Header). Held g (samplesIn input)) (f .1) (record { permitted = f .0 .permitted; few = le-trans (le-of-eq (samples-length input)) (f .0 .roomy) })
+        subst (λ (g : Header). HeldTable g (samplesIn input)) (f .1) (record { permitted = f .0 .permitted; few = le-trans (le-of-eq (samples-length input)) (f .0 .roomy) })
 
-    pub shape : Shaped (shapeOf h 3)
+    pub shape : Shaped (withDegree h 3)
     shape = cubic-shaped h (samplesIn input) held
 
     -- the samples stand at the front of the slice
-    pub front : (n : ℕ) (old : List ℤ) → n ≡ nodes (shapeOf h 3) → take n (whenDone (readOutcome input heldNodes) (overwrite (samplesIn input) old) old) ≡ samplesIn input
+    pub front : (n : ℕ) (old : List ℤ) → n ≡ nodes (withDegree h 3) → take n (whenDone (readOutcome input heldNodes) (overwrite (samplesIn input) old) old) ≡ samplesIn input
     front n old k =
         ap (take n) (sym (when-done (overwrite (samplesIn input) old) old e))
         ∙ take-at (samplesIn input) (drop (length (samplesIn input)) old) n (sym (k ∙ nodes-are h (samplesIn input) held 3))
 
-    pub few-nodes : (n : ℕ) → n ≡ nodes (shapeOf h 3) → n ≤ heldNodes
+    pub few-nodes : (n : ℕ) → n ≡ nodes (withDegree h 3) → n ≤ heldNodes
     few-nodes n k = le-trans (le-of-eq (k ∙ nodes-are h (samplesIn input) held 3)) (held .few)

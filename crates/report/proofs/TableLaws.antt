@@ -19,51 +19,51 @@ use Rattle.estimate.specs.Estimate.{recordsOf, estimateOutcome}
 use Rattle.estimate.proofs.CallLaws.{estimated}
 use Rattle.table_file.specs.File.{Header, countOf, nodesOf}
 use Rattle.text.specs.Lines.{cellLine}
-use Rattle.report.specs.Report.{heldNodes, shapeOf, cellCount, cellAt, lineIn, cellLines}
-use Rattle.report.specs.Parts.{Held, lineFrom, linesFrom}
+use Rattle.report.specs.Report.{heldNodes, withDegree, cellCount, cellAt, lineIn, cellLines}
+use Rattle.report.specs.Parts.{HeldTable, lineFrom, linesFrom}
 use Rattle.report.proofs.DoseLaws.{dose-same}
 use Rattle.report.proofs.CellsLaws.{any-degree, cells-few, cell-accepted}
 use Rattle.report.proofs.LineLaws.{joined-same}
 
-module _ (h : Header) (xs : List ℤ) (held : Held h xs) where
-  pub nodes-are : (d : ℕ) → nodes (shapeOf h d) ≡ length xs
+module _ (h : Header) (xs : List ℤ) (held : HeldTable h xs) where
+  pub nodes-are : (d : ℕ) → nodes (withDegree h d) ≡ length xs
   unfolding nodes nodesOf count countOf
   nodes-are d = sym (held .permitted .counted)
 
-  shape-passes : (d : ℕ) → degreeOutcome d ≡ done tt → shapeOutcome (shapeOf h d) ≡ done tt
+  shape-passes : (d : ℕ) → degreeOutcome d ≡ done tt → shapeOutcome (withDegree h d) ≡ done tt
   unfolding shapeOutcome count countOf
   shape-passes d e =
       first-passed (axesOutcome (h .axes)) _ (held .permitted .axes-ok) ∙ first-passed (degreeOutcome d) _ e ∙ held .permitted .counts-ok
 
   -- into records of at most 512 · m^3 entries
-  taken : (d m room : ℕ) → degreeOutcome d ≡ done tt → ordersOf d ≤ m → 0 < m → room ≡ heldNodes * m ^ 3 → estimateOutcome (shapeOf h d) xs room ≡ done tt
+  taken : (d m room : ℕ) → degreeOutcome d ≡ done tt → ordersOf d ≤ m → 0 < m → room ≡ heldNodes * m ^ 3 → estimateOutcome (withDegree h d) xs room ≡ done tt
   unfolding estimateOutcome size entries
   taken d m room e k l r =
-      let s : Shape = shapeOf h d in
+      let s : Shape = withDegree h d in
       let n : nodes s * ordersOf d ^ h .axes ≤ heldNodes * m ^ 3
       = mul-le-mul (le-trans (le-of-eq (nodes-are d)) (held .few)) (pow-range m (ordersOf d) (h .axes) k (shaped s (shape-passes d e) .axes-high) l) in
       first-passed (shapeOutcome s) _ (shape-passes d e)
       ∙ first-passed (refuseUnless (eqb (length xs) (nodes s)) 4 0) _ (passes (eqb (length xs) (nodes s)) 4 0 (eq-eqb (length xs) (nodes s) (sym (nodes-are d))))
-      ∙ first-passed (refuseUnless (leb (size s) room) 9 0) (limitOutcome sampleLimit xs) (passes (leb (size s) room) 9 0 (le-leb (size s) room (le-trans n (le-of-eq (sym r)))))
+      ∙ first-passed (refuseUnless (leb (size s) room) 9 0) (limitOutcome 5 sampleLimit xs) (passes (leb (size s) room) 9 0 (le-leb (size s) room (le-trans n (le-of-eq (sym r)))))
       ∙ held .permitted .limited
 
-  pub cubic-taken : estimateOutcome (shapeOf h 3) xs 4096 ≡ done tt
+  pub cubic-taken : estimateOutcome (withDegree h 3) xs 4096 ≡ done tt
   unfolding degreeOutcome ordersOf pick
   cubic-taken = taken 3 2 4096 refl (omega arith) (lit< tt) refl
 
-  pub quintic-taken : estimateOutcome (shapeOf h 5) xs 13824 ≡ done tt
+  pub quintic-taken : estimateOutcome (withDegree h 5) xs 13824 ≡ done tt
   unfolding degreeOutcome ordersOf pick
   quintic-taken = taken 5 3 13824 refl (omega arith) (lit< tt) refl
 
-  pub cubic-shaped : Shaped (shapeOf h 3)
-  cubic-shaped = estimated (shapeOf h 3) xs 4096 cubic-taken .shape
+  pub cubic-shaped : Shaped (withDegree h 3)
+  cubic-shaped = estimated (withDegree h 3) xs 4096 cubic-taken .shape
 
   pub few-cells : cellCount h ≤ heldNodes
   few-cells = le-trans (cells-few h 3 cubic-shaped) (le-trans (le-of-eq (nodes-are 3)) (held .few))
 
   -- the lines
-  pub lines-are : linesFrom h (recordsOf (shapeOf h 3) xs) (recordsOf (shapeOf h 5) xs) ≡ cellLines h xs
+  pub lines-are : linesFrom h (recordsOf (withDegree h 3) xs) (recordsOf (withDegree h 5) xs) ≡ cellLines h xs
   unfolding cellLines lineFrom lineIn
   lines-are = joined-same (cellCount h) _ _ (λ i.
       let here = cell-accepted h 3 cubic-shaped i in
-      ap₂ (cellLine (cellAt h i)) (dose-same (shapeOf h 3) xs 4096 cubic-taken (cellAt h i) here) (dose-same (shapeOf h 5) xs 13824 quintic-taken (cellAt h i) (any-degree h 3 5 (cellAt h i) here)))
+      ap₂ (cellLine (cellAt h i)) (dose-same (withDegree h 3) xs 4096 cubic-taken (cellAt h i) here) (dose-same (withDegree h 5) xs 13824 quintic-taken (cellAt h i) (any-degree h 3 5 (cellAt h i) here)))

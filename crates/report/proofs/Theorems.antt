@@ -14,10 +14,10 @@ use Rattle.lattice.specs.Shape.{count, Shaped}
 use Rattle.lattice.proofs.DigitsLaws.{digit-number, number-below}
 use Rattle.cell.specs.Cell.{placeAt, Accepted}
 use Rattle.table_file.specs.File.{Header, countOf}
-use Rattle.report.specs.Report.{cellsAlong, cellCount, cellAt, shapeOf}
+use Rattle.report.specs.Report.{cellsAlong, cellCount, cellAt, withDegree}
 use Rattle.report.proofs.CellsLaws.{used-along, unused-along}
 
-module _ (h : Header) (d : ℕ) (ok : Shaped (shapeOf h d)) (x y z : ℕ) (here : Accepted (shapeOf h d) (placeAt (x ∷ y ∷ z ∷ []))) where
+module _ (h : Header) (d : ℕ) (ok : Shaped (withDegree h d)) (x y z : ℕ) (here : Accepted (withDegree h d) (placeAt (x ∷ y ∷ z ∷ []))) where
   abbrev place : ℕ → ℕ
   place = placeAt (x ∷ y ∷ z ∷ [])
 

@@ -11,9 +11,9 @@ use Rattle.lattice.specs.Axes.{Place}
 use Rattle.lattice.specs.Records.{recordsField}
 use Rattle.cell.specs.Cell.{placeAt, Accepted, cornersOutcome}
 use Rattle.evaluate.specs.Evaluate.{dose, askAt, answer}
-use Rattle.table_file.specs.File.{Header, Permitted}
+use Rattle.table_file.specs.File.{Header, PermittedTable}
 use Rattle.text.specs.Lines.{cellLine}
-use Rattle.report.specs.Report.{middle, shapeOf, heldNodes, joined, cellCount, cellAt}
+use Rattle.report.specs.Report.{middle, withDegree, heldNodes, joined, cellCount, cellAt}
 
 -- three indices or counts
 pub record Between (low high : ℕ) (xs : List ℕ) : Type 0 where
@@ -31,7 +31,7 @@ unfoldable pub doseFrom : Shape → List ℤ → List ℕ → ℤ
 doseFrom s rs cell = answer (askAt s dose (placeAt cell) (middle (s .axes))) (recordsField s rs)
 
 unfoldable pub lineFrom : Header → List ℤ → List ℤ → List ℕ → List ℕ
-lineFrom h cubic quintic cell = cellLine cell (doseFrom (shapeOf h 3) cubic cell) (doseFrom (shapeOf h 5) quintic cell)
+lineFrom h cubic quintic cell = cellLine cell (doseFrom (withDegree h 3) cubic cell) (doseFrom (withDegree h 5) quintic cell)
 
 abbrev pub linesFrom : Header → List ℤ → List ℤ → List ℕ
 linesFrom h cubic quintic = joined (cellCount h) (λ i. lineFrom h cubic quintic (cellAt h i))
@@ -41,6 +41,6 @@ abbrev pub lineLimit : ℕ
 lineLimit = 33
 
 -- a table that the program holds
-pub record Held (h : Header) (samples : List ℤ) : Type 0 where
-  pub permitted : Permitted h samples
+pub record HeldTable (h : Header) (samples : List ℤ) : Type 0 where
+  pub permitted : PermittedTable h samples
   pub few : length samples ≤ heldNodes

@@ -6,6 +6,7 @@ use lib.IntN.{ℤ}
 use lib.ListN.{length}
 use Rattle.arith.specs.Choice.{pick}
 use Rattle.lattice.specs.declared.Shape.{Shape}
+use Rattle.lattice.specs.Shape.{shapeOf}
 use Rattle.lattice.specs.Outcome.{Outcome, done, refused, refuseUnless, first}
 use Rattle.lattice.specs.Buffer.{tabulate}
 use Rattle.lattice.specs.Digits.{span, digit}
@@ -42,8 +43,8 @@ cellAt h i = tabulate 3 (digit (cellsAlong h) i)
 unfoldable pub middle : ℕ → Place
 middle axes a = pick (ltb a axes) 128 0
 
-abbrev pub shapeOf : Header → ℕ → Shape
-shapeOf h degree = record { axes = h .axes; degree = degree; counts = h .counts }
+abbrev pub withDegree : Header → ℕ → Shape
+withDegree h degree = shapeOf (h .axes) degree (h .counts)
 
 -- the dose there, from the records of one degree that the rules under Estimates give
 unfoldable pub doseIn : Shape → List ℤ → List ℕ → ℤ
@@ -51,7 +52,7 @@ doseIn s samples cell = answer (askAt s dose (placeAt cell) (middle (s .axes))) 
 
 -- the cubic dose and the quintic dose
 unfoldable pub lineIn : Header → List ℤ → List ℕ → List ℕ
-lineIn h samples cell = cellLine cell (doseIn (shapeOf h 3) samples cell) (doseIn (shapeOf h 5) samples cell)
+lineIn h samples cell = cellLine cell (doseIn (withDegree h 3) samples cell) (doseIn (withDegree h 5) samples cell)
 
 -- ---- the text
 

@@ -11,10 +11,9 @@ ghost use Rattle.estimate.specs.Estimate.{recordsOf, estimateOutcome};
 ghost use Rattle.cell.specs.Cell.{placeAt, Accepted};
 ghost use Rattle.table_file.specs.File.{header};
 ghost use Rattle.text.specs.Lines.{Put};
-ghost use Rattle.report.specs.Report.{heldNodes, cellsAlong, cellCount, middle, shapeOf, cellLines, reportText};
-ghost use Rattle.report.specs.Parts.{Between, Answers, Held, doseFrom, lineFrom, linesFrom, lineLimit};
-use evaluate::SlopeAxis;
-use lattice::Shape;
+ghost use Rattle.report.specs.Report.{heldNodes, cellsAlong, cellCount, middle, withDegree, cellLines, reportText};
+ghost use Rattle.report.specs.Parts.{Between, Answers, HeldTable, doseFrom, lineFrom, linesFrom, lineLimit};
+use evaluate::Derivative;
 use query::CellQuery;
 use query::Reading;
 use table_file::TableAnswer;
@@ -39,25 +38,18 @@ fn middle_of(axes: u32) -> [u32; 3]
 
 // The dose of one degree at the middle of a cell; no query is refused.
 fn dose_at(axes: u32, counts: [u32; 3], degree: u32, records: &[i32], cell: [u32; 3]) -> i32
-    requires { ⌜ Answers (shapeOf (header axes counts) degree) (now records) ⌝ }
-    requires { ⌜ Accepted (shapeOf (header axes counts) degree) (placeAt cell) ⌝ }
-    ensures { λ r. ⌜ r ≡ doseFrom (shapeOf (header axes counts) degree) (now (records .entry)) cell ⌝ }
+    requires { ⌜ Answers (withDegree (header axes counts) degree) (now records) ⌝ }
+    requires { ⌜ Accepted (withDegree (header axes counts) degree) (placeAt cell) ⌝ }
+    ensures { λ r. ⌜ r ≡ doseFrom (withDegree (header axes counts) degree) (now (records .entry)) cell ⌝ }
 {
     let step = middle_of(axes);
     let reading = query::in_cell(
-        Shape {
-            axes: axes,
-            degree: degree,
-            counts: counts,
-        },
+        lattice::shape_of(axes, degree, counts),
         records,
         CellQuery {
             cell: cell,
             step: step,
-            slope_axis: SlopeAxis {
-                given: false,
-                axis: 0,
-            },
+            derivative: Derivative { order: 0, axis: 0 },
         },
     );
     match reading {
@@ -76,8 +68,8 @@ fn put_line(
     out: &mut [u8],
     at: usize,
 ) -> usize
-    requires { ⌜ Answers (shapeOf (header axes counts) 3) (now cubic) × Answers (shapeOf (header axes counts) 5) (now quintic) ⌝ }
-    requires { ⌜ Accepted (shapeOf (header axes counts) 3) (placeAt cell) × Between 0 99 cell × (at + lineLimit ≤ length (now out)) ⌝ }
+    requires { ⌜ Answers (withDegree (header axes counts) 3) (now cubic) × Answers (withDegree (header axes counts) 5) (now quintic) ⌝ }
+    requires { ⌜ Accepted (withDegree (header axes counts) 3) (placeAt cell) × Between 0 99 cell × (at + lineLimit ≤ length (now out)) ⌝ }
     ensures { λ r. ⌜ Put (now (out .entry)) at (lineFrom (header axes counts) (now (cubic .entry)) (now (quintic .entry)) cell) (now (out .exit)) r × (r ≤ at + lineLimit) ⌝ }
 {
     let a = dose_at(axes, counts, 3, cubic, cell);
@@ -111,7 +103,7 @@ fn cell_at(cells: [u32; 3], i: u32) -> [u32; 3]
 
 // Puts the lines of all cells at the front of `out`, and gives their length.
 fn put_lines(axes: u32, counts: [u32; 3], cubic: &[i32], quintic: &[i32], out: &mut [u8]) -> usize
-    requires { ⌜ Answers (shapeOf (header axes counts) 3) (now cubic) × Answers (shapeOf (header axes counts) 5) (now quintic) ⌝ }
+    requires { ⌜ Answers (withDegree (header axes counts) 3) (now cubic) × Answers (withDegree (header axes counts) 5) (now quintic) ⌝ }
     requires { ⌜ (cellCount (header axes counts) ≤ heldNodes) × (heldNodes * lineLimit ≤ length (now out)) ⌝ }
     ensures { λ r. ⌜ Put (now (out .entry)) 0 (linesFrom (header axes counts) (now (cubic .entry)) (now (quintic .entry))) (now (out .exit)) r × (r ≤ heldNodes * lineLimit) ⌝ }
 {
@@ -135,21 +127,17 @@ fn estimate_degree(
     samples: &[i32],
     records: &mut [i32],
 ) -> usize
-    requires { ⌜ estimateOutcome (shapeOf (header axes counts) degree) (now samples) (length (now records)) ≡ done tt ⌝ }
-    ensures { λ r. ⌜ (r ≤ length (now (records .exit))) × (take r (now (records .exit)) ≡ recordsOf (shapeOf (header axes counts) degree) (now (samples .entry))) ⌝ }
+    requires { ⌜ estimateOutcome (withDegree (header axes counts) degree) (now samples) (length (now records)) ≡ done tt ⌝ }
+    ensures { λ r. ⌜ (r ≤ length (now (records .exit))) × (take r (now (records .exit)) ≡ recordsOf (withDegree (header axes counts) degree) (now (samples .entry))) ⌝ }
 {
-    let s = Shape {
-        axes: axes,
-        degree: degree,
-        counts: counts,
-    };
+    let s = lattice::shape_of(axes, degree, counts);
     estimate::estimate(s, samples, records);
     lattice::table_entries(s)
 }
 
 // Puts the lines of a table: estimates of both degrees, then its cells.
 fn put_table(axes: u32, counts: [u32; 3], samples: &[i32], out: &mut [u8]) -> usize
-    requires { ⌜ Held (header axes counts) (now samples) × (heldNodes * lineLimit ≤ length (now out)) ⌝ }
+    requires { ⌜ HeldTable (header axes counts) (now samples) × (heldNodes * lineLimit ≤ length (now out)) ⌝ }
     ensures { λ r. ⌜ Put (now (out .entry)) 0 (cellLines (header axes counts) (now (samples .entry))) (now (out .exit)) r × (r ≤ heldNodes * lineLimit) ⌝ }
 {
     let mut cubic = [0i32; 4096];
@@ -174,11 +162,7 @@ pub fn report(input: &[u8], out: &mut [u8; 16896]) -> usize
         TableAnswer::Table { axes, x, y, z } => {
             let counts = [x, y, z];
             // The number of nodes is the same for both degrees.
-            let nodes = lattice::node_count(Shape {
-                axes: axes,
-                degree: 3,
-                counts: counts,
-            });
+            let nodes = lattice::node_count(lattice::shape_of(axes, 3, counts));
             put_table(axes, counts, &samples[..nodes], out)
         }
     }

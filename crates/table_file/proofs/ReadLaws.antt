@@ -11,7 +11,7 @@ use Rattle.arith.proofs.Choices.{pick-true, pick-false, split}
 use Rattle.lattice.specs.Outcome.{Check, done, refuseUnless, first, firstOf}
 use Rattle.lattice.specs.Buffer.{at, tabulate}
 use Rattle.lattice.specs.Digits.{span}
-use Rattle.lattice.specs.Shape.{count, nodes, axesOutcome, countAllowed, countsOutcome, Shaped}
+use Rattle.lattice.specs.Shape.{shapeOf, count, nodes, axesOutcome, countAllowed, countsOutcome, Shaped}
 use Rattle.lattice.specs.Records.{sampleLimit, limitOutcome}
 use Rattle.lattice.specs.declared.Shape.{Shape}
 use Rattle.lattice.proofs.OutcomeLaws.{first-done, first-passed, refuse-done, passes, firstOf-each, firstOf-passes}
@@ -83,7 +83,7 @@ module _ (bytes : List ℕ) where
 
   -- the shape that it gives
   pub shape-is : {n x y z : ℕ} → n ≡ axesIn bytes → x ≡ countIn bytes 0 → y ≡ countIn bytes 1 → z ≡ countIn bytes 2
-      → record { axes = n; degree = 3; counts = x ∷ y ∷ z ∷ [] } ≡ shapeIn bytes
+      → shapeOf n 3 (x ∷ y ∷ z ∷ []) ≡ shapeIn bytes
   unfolding tabulate
   shape-is e f g h = rw (e, f, g, h) refl
 
@@ -162,7 +162,7 @@ module _ (bytes : List ℕ) where
     samples-are = rw (p .axes-is, p .nodes-is) refl
 
     pub rest-is : (room : ℕ) → restOutcome bytes room
-        ≡ first (twoOutcome bytes) (first (refuseUnless (leb nodes room) 9 0) (limitOutcome sampleLimit (samplesFrom bytes (2 + axes) nodes)))
+        ≡ first (twoOutcome bytes) (first (refuseUnless (leb nodes room) 9 0) (limitOutcome 5 sampleLimit (samplesFrom bytes (2 + axes) nodes)))
     unfolding restOutcome
     rest-is room = rw (samples-are, p .nodes-is) refl
 
@@ -170,13 +170,13 @@ module _ (bytes : List ℕ) where
     samples-held h = omega (arith, p .axes-is, p .nodes-is, two-facts h .1)
 
   module _ (room : ℕ) where
-    pub rest-facts : restOutcome bytes room ≡ done tt → (twoOutcome bytes ≡ done tt) × (nodesIn bytes ≤ room) × (limitOutcome sampleLimit (samplesIn bytes) ≡ done tt)
+    pub rest-facts : restOutcome bytes room ≡ done tt → (twoOutcome bytes ≡ done tt) × (nodesIn bytes ≤ room) × (limitOutcome 5 sampleLimit (samplesIn bytes) ≡ done tt)
     unfolding restOutcome
     rest-facts h =
         let f = first-done (twoOutcome bytes) _ tt h in
         let g = first-done (refuseUnless (leb (nodesIn bytes) room) 9 0) _ tt (f .1) in
         (f .0, leb-true (nodesIn bytes) room (refuse-done (leb (nodesIn bytes) room) 9 0 (g .0)), g .1)
 
-    pub rest-passes : twoOutcome bytes ≡ done tt → nodesIn bytes ≤ room → limitOutcome sampleLimit (samplesIn bytes) ≡ done tt → restOutcome bytes room ≡ done tt
+    pub rest-passes : twoOutcome bytes ≡ done tt → nodesIn bytes ≤ room → limitOutcome 5 sampleLimit (samplesIn bytes) ≡ done tt → restOutcome bytes room ≡ done tt
     unfolding restOutcome
     rest-passes e l f = rw (e, le-leb (nodesIn bytes) room l) f

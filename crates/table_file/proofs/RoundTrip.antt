@@ -22,7 +22,7 @@ use Rattle.lattice.specs.Records.{sampleLimit}
 use Rattle.lattice.proofs.BufferLaws.{length-tabulate, getD-tabulate, tabulate-getD}
 use Rattle.arith.specs.Int.{unsignedOf}
 use Rattle.table_file.specs.Numbers.{numberAt, bytesOfAll, signedOf}
-use Rattle.table_file.specs.File.{Header, header, sectionOne, sectionTwo, fileOf, axesIn, countIn, headerIn, nodesIn, samplesIn, countOf, nodesOf, writeOutcome, AreBytes, Permitted}
+use Rattle.table_file.specs.File.{Header, header, sectionOne, sectionTwo, fileOf, axesIn, countIn, headerIn, nodesIn, samplesIn, countOf, nodesOf, writeOutcome, AreBytes, PermittedTable}
 use Rattle.arith.proofs.Choices.{split}
 use Rattle.arith.proofs.Twos.{unsigned-below}
 use Rattle.table_file.proofs.Twos.{unsigned-signed, signed-unsigned}
@@ -117,7 +117,7 @@ module _ (bytes : List ℕ) (room : ℕ) (small : AreBytes bytes) (t : Taken byt
 
 -- ---- a table that was written is read again
 
-module _ (h : Header) (xs : List ℤ) (ok : Permitted h xs) where
+module _ (h : Header) (xs : List ℤ) (ok : PermittedTable h xs) where
   abbrev m : ℕ
   m = h .axes
 
@@ -134,7 +134,7 @@ module _ (h : Header) (xs : List ℤ) (ok : Permitted h xs) where
   allowed = counts-each m (countOf h) (ok .counts-ok)
 
   fits : (i : ℕ) → SFits w32 (at xs i)
-  fits i = sfits-abs {w = w32} (at xs i) (omega (arith, limit-each sampleLimit xs (ok .limited) i))
+  fits i = sfits-abs {w = w32} (at xs i) (omega (arith, limit-each 5 sampleLimit xs (ok .limited) i))
 
   few-samples : length xs ≤ 262144
   few-samples = fit-size m (h .counts) xs ok .1

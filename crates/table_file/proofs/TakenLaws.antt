@@ -9,13 +9,13 @@ use Rattle.lattice.specs.Buffer.{tabulate}
 use Rattle.lattice.specs.Digits.{span}
 use Rattle.lattice.specs.Shape.{countsOutcome}
 use Rattle.lattice.proofs.OutcomeLaws.{first-done, first-passed, done-same, first-assoc}
-use Rattle.table_file.specs.File.{Header, fileNumber, axesIn, headerIn, nodesIn, samplesIn, oneOutcome, readCheck, readOutcome, countOf, nodesOf, Permitted}
+use Rattle.table_file.specs.File.{Header, fileNumber, axesIn, headerIn, nodesIn, samplesIn, oneOutcome, readCheck, readOutcome, countOf, nodesOf, PermittedTable}
 use Rattle.table_file.specs.Parser.{restOutcome}
 use Rattle.table_file.proofs.ReadLaws.{one-facts, one-passes, two-facts, two-passes, rest-facts, rest-passes, samples-length}
 
 -- a file that reading takes
 pub record Taken (bytes : List ℕ) (room : ℕ) : Type 0 where
-  pub permitted : Permitted (headerIn bytes) (samplesIn bytes)
+  pub permitted : PermittedTable (headerIn bytes) (samplesIn bytes)
   pub counted : fileNumber bytes (1 + axesIn bytes) ≡ nodesIn bytes
   pub sized : length bytes ≡ 4 * (2 + axesIn bytes + nodesIn bytes)
   pub roomy : nodesIn bytes ≤ room
@@ -33,7 +33,7 @@ module _ (bytes : List ℕ) (room : ℕ) where
       let one = one-facts bytes (f .0) in
       let rest = rest-facts bytes room (g .0) in
       let two = two-facts bytes (rest .0) in
-      let may : Permitted (headerIn bytes) (samplesIn bytes) = record { three = refl; axes-ok = one .0; counts-ok = one .1; counted = samples-length bytes; limited = rest .2 } in (
+      let may : PermittedTable (headerIn bytes) (samplesIn bytes) = record { three = refl; axes-ok = one .0; counts-ok = one .1; counted = samples-length bytes; limited = rest .2 } in (
         record { permitted = may; counted = two .0; sized = two .1; roomy = rest .1 },
         done-same (headerIn bytes) h (g .1),
       )

@@ -5,7 +5,7 @@ use Prim.Native.Nat.{ℕ, _≤_}
 use lib.IntN.{ℤ}
 use lib.ListN.{length}
 use Rattle.lattice.specs.Outcome.{done}
-use Rattle.table_file.specs.File.{Header, fileOf, samplesIn, readOutcome, writeOutcome, AreBytes, Permitted}
+use Rattle.table_file.specs.File.{Header, fileOf, samplesIn, readOutcome, writeOutcome, AreBytes, PermittedTable}
 use Rattle.table_file.proofs.TakenLaws.{taken, reads}
 use Rattle.table_file.proofs.WriteLaws.{fit-writes}
 use Rattle.table_file.proofs.RoundTrip.{written, writes, samples-again, header-again, taken-again}
@@ -19,7 +19,7 @@ read-then-write bytes room space h small e l =
     (writes bytes room small (t .0) space l, written bytes room small (t .0))
 
 -- reading what was written gives the table again, for every permitted table
-pub write-then-read : (h : Header) (samples : List ℤ) (room space : ℕ) → Permitted h samples → length samples ≤ room → length (fileOf h samples) ≤ space
+pub write-then-read : (h : Header) (samples : List ℤ) (room space : ℕ) → PermittedTable h samples → length samples ≤ room → length (fileOf h samples) ≤ space
     → (writeOutcome h samples space ≡ done (length (fileOf h samples))) × (readOutcome (fileOf h samples) room ≡ done h) × (samplesIn (fileOf h samples) ≡ samples)
 write-then-read h samples room space p r s = (
   fit-writes h samples space p s,

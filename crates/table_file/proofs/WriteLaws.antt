@@ -9,15 +9,15 @@ use lib.Dec.{leb, eqb}
 use lib.IntN.{ℤ, pos}
 use lib.ListN.{length, getD, take, length-append, length-map, List·getD-map}
 use lib.Seq.{sets, take-suc, length-take-le}
-use Rattle.lattice.specs.Outcome.{Outcome, done, refused, refuseUnless, first, whenDone}
+use Rattle.lattice.specs.Outcome.{Outcome, Check, done, refused, refuseUnless, first, whenDone}
 use Rattle.lattice.specs.Buffer.{at, overwrite}
-use Rattle.lattice.specs.Shape.{count, nodes, axesOutcome, degreeOutcome, countsOutcome, shapeOutcome, Shaped}
+use Rattle.lattice.specs.Shape.{shapeOf, count, nodes, axesOutcome, degreeOutcome, countsOutcome, shapeOutcome, Shaped}
 use Rattle.lattice.specs.declared.Shape.{Shape}
 use Rattle.lattice.specs.Records.{sampleLimit, limitOutcome}
 use Rattle.lattice.proofs.OutcomeLaws.{first-done, first-passed, first-after, first-assoc, refuse-done, when-done, when-refused}
 use Rattle.arith.specs.Int.{unsignedOf}
 use Rattle.table_file.specs.Numbers.{bytesOf, bytesOfAll}
-use Rattle.table_file.specs.File.{Header, header, sectionOne, sectionTwo, fileOf, countOf, nodesOf, writeCheck, writeOutcome, Permitted}
+use Rattle.table_file.specs.File.{Header, header, sectionOne, sectionTwo, fileOf, countOf, nodesOf, writeCheck, writeOutcome, PermittedTable}
 use Rattle.lattice.proofs.BufferLaws.{sets-append, sets-front}
 use Rattle.lattice.proofs.ShapeLaws.{shaped, nodes-high}
 use Rattle.table_file.proofs.NumberLaws.{length-all, all-append, all-one}
@@ -81,62 +81,71 @@ module _ (n : ℕ) (cs : List ℕ) (xs : List ℤ) (few : n ≤ length cs) where
 
 -- ---- the tests
 
--- a shape of either degree: both have the same nodes
-abbrev pub shapeOf : ℕ → List ℕ → Shape
-shapeOf n cs = record { axes = n; degree = 3; counts = cs }
-
-pub shape-tests : (n : ℕ) (cs : List ℕ) → shapeOutcome (shapeOf n cs) ≡ first (axesOutcome n) (countsOutcome n (countOf (header n cs)))
+-- of degree 3: both degrees have the same nodes
+pub shape-tests : (n : ℕ) (cs : List ℕ) → shapeOutcome (shapeOf n 3 cs) ≡ first (axesOutcome n) (countsOutcome n (countOf (header n cs)))
 unfolding shapeOutcome degreeOutcome count countOf
 shape-tests n cs = refl
 
-pub shaped-of : (n : ℕ) (cs : List ℕ) → axesOutcome n ≡ done tt → countsOutcome n (countOf (header n cs)) ≡ done tt → Shaped (shapeOf n cs)
-shaped-of n cs e f = shaped (shapeOf n cs) (shape-tests n cs ∙ first-passed (axesOutcome n) _ e ∙ f)
+pub shaped-of : (n : ℕ) (cs : List ℕ) → axesOutcome n ≡ done tt → countsOutcome n (countOf (header n cs)) ≡ done tt → Shaped (shapeOf n 3 cs)
+shaped-of n cs e f = shaped (shapeOf n 3 cs) (shape-tests n cs ∙ first-passed (axesOutcome n) _ e ∙ f)
+
+-- 4, 9 and 5, of a table with `many` nodes and a file of `needed` bytes
+abbrev pub restCheck : List ℤ → ℕ → ℕ → ℕ → Check
+restCheck xs many needed room =
+    first (refuseUnless (eqb (length xs) many) 4 0) (first (refuseUnless (leb needed room) 9 0) (limitOutcome 5 sampleLimit xs))
+
+-- what holds where the shape is not refused, with the number of nodes and of bytes as the code finds them
+pub record AfterShape (n : ℕ) (cs : List ℕ) (xs : List ℤ) (room many : ℕ) : Type 0 where
+  pub few : n ≤ 3
+  pub most : many ≤ 262144
+  pub rest : restCheck xs many (4 * (2 + n + many)) room ≡ writeCheck (header n cs) xs room
 
 module _ (n : ℕ) (cs : List ℕ) (xs : List ℤ) (room : ℕ) where
   pub write-is : writeCheck (header n cs) xs room
-      ≡ first (shapeOutcome (shapeOf n cs))
-      (first (refuseUnless (eqb (length xs) (nodesOf (header n cs))) 4 0) (first (refuseUnless (leb (length (fileOf (header n cs) xs)) room) 9 0) (limitOutcome sampleLimit xs)))
+      ≡ first (shapeOutcome (shapeOf n 3 cs)) (restCheck xs (nodesOf (header n cs)) (length (fileOf (header n cs) xs)) room)
   unfolding writeCheck
   write-is = sym (rw (shape-tests n cs) (first-assoc (axesOutcome n) (countsOutcome n (countOf (header n cs))) _))
 
-  -- with the number of nodes and of bytes as the code finds them
-  module _ (many : ℕ) (three : length cs ≡ 3) (e : shapeOutcome (shapeOf n cs) ≡ done tt) (many-is : many ≡ nodes (shapeOf n cs)) where
-    pub shape-sizes : (n ≤ 3) × (many ≤ 262144)
-    shape-sizes = let s = shaped (shapeOf n cs) e in (s .axes-high, omega (arith, many-is, nodes-high (shapeOf n cs) s))
-
-    pub write-rest : first (refuseUnless (eqb (length xs) many) 4 0) (first (refuseUnless (leb (4 * (2 + n + many)) room) 9 0) (limitOutcome sampleLimit xs)) ≡ writeCheck (header n cs) xs room
-    unfolding nodes nodesOf count countOf
-    write-rest =
-        first-after (refuseUnless (eqb (length xs) many) 4 0) _ _ (λ t.
-        let same : length xs ≡ many = eqb-true (length xs) many (refuse-done (eqb (length xs) many) 4 0 t) in
-        let size : 4 * (2 + n + many) ≡ length (fileOf (header n cs) xs) = omega (arith, length-file n cs xs (omega (arith, shape-sizes .0))) in
-        ap (λ (k : ℕ). first (refuseUnless (leb k room) 9 0) (limitOutcome sampleLimit xs)) size)
-        ∙ ap (λ (k : ℕ). first (refuseUnless (eqb (length xs) k) 4 0) (first (refuseUnless (leb (length (fileOf (header n cs) xs)) room) 9 0) (limitOutcome sampleLimit xs))) many-is
-        ∙ sym (write-is ∙ first-passed (shapeOutcome (shapeOf n cs)) _ e)
+  pub after-shape : (many : ℕ) → length cs ≡ 3 → shapeOutcome (shapeOf n 3 cs) ≡ done tt → many ≡ nodes (shapeOf n 3 cs)
+      → AfterShape n cs xs room many
+  unfolding nodes nodesOf count countOf
+  after-shape many three e many-is =
+      let s = shaped (shapeOf n 3 cs) e in
+      record {
+        few = s .axes-high;
+        most = omega (arith, many-is, nodes-high (shapeOf n 3 cs) s);
+        rest = first-after (refuseUnless (eqb (length xs) many) 4 0) _ _ (λ t.
+            let same : length xs ≡ many = eqb-true (length xs) many (refuse-done (eqb (length xs) many) 4 0 t) in
+            let bytes = length-file n cs xs (omega (arith, s .axes-high)) in
+            let size : 4 * (2 + n + many) ≡ length (fileOf (header n cs) xs) = omega arith in
+            ap (λ (k : ℕ). first (refuseUnless (leb k room) 9 0) (limitOutcome 5 sampleLimit xs)) size)
+            ∙ ap (λ (k : ℕ). restCheck xs k (length (fileOf (header n cs) xs)) room) many-is
+            ∙ sym (write-is ∙ first-passed (shapeOutcome (shapeOf n 3 cs)) _ e);
+      }
 
 module _ (h : Header) (xs : List ℤ) (room : ℕ) where
   -- writing takes permitted tables that have room
-  pub fit : length (h .counts) ≡ 3 → writeCheck h xs room ≡ done tt → Permitted h xs × (length (fileOf h xs) ≤ room)
+  pub fit : length (h .counts) ≡ 3 → writeCheck h xs room ≡ done tt → PermittedTable h xs × (length (fileOf h xs) ≤ room)
   unfolding writeCheck
   fit three e =
       let size = length (fileOf h xs) in
       let f = first-done (axesOutcome (h .axes)) _ tt e in
       let g = first-done (countsOutcome (h .axes) (countOf h)) _ tt (f .1) in
       let k = first-done (refuseUnless (eqb (length xs) (nodesOf h)) 4 0) _ tt (g .1) in
-      let l = first-done (refuseUnless (leb size room) 9 0) (limitOutcome sampleLimit xs) tt (k .1) in
+      let l = first-done (refuseUnless (leb size room) 9 0) (limitOutcome 5 sampleLimit xs) tt (k .1) in
       let counted = eqb-true (length xs) (nodesOf h) (refuse-done (eqb (length xs) (nodesOf h)) 4 0 (k .0)) in (
         record { three = three; axes-ok = f .0; counts-ok = g .0; counted = counted; limited = l .1 },
         leb-true size room (refuse-done (leb size room) 9 0 (l .0)),
       )
 
-  pub fit-writes : Permitted h xs → length (fileOf h xs) ≤ room → writeOutcome h xs room ≡ done (length (fileOf h xs))
+  pub fit-writes : PermittedTable h xs → length (fileOf h xs) ≤ room → writeOutcome h xs room ≡ done (length (fileOf h xs))
   unfolding writeOutcome writeCheck
   fit-writes t r = rw (t .axes-ok, t .counts-ok, eq-eqb (length xs) (nodesOf h) (t .counted), le-leb (length (fileOf h xs)) room r, t .limited) refl
 
 -- sizes that the machine holds
-pub fit-size : (n : ℕ) (cs : List ℕ) (xs : List ℤ) → Permitted (header n cs) xs → (n ≤ 3) × (length xs ≤ 262144) × (length (fileOf (header n cs) xs) ≡ 4 * (2 + n + length xs))
+pub fit-size : (n : ℕ) (cs : List ℕ) (xs : List ℤ) → PermittedTable (header n cs) xs → (n ≤ 3) × (length xs ≤ 262144) × (length (fileOf (header n cs) xs) ≡ 4 * (2 + n + length xs))
 unfolding nodesOf countOf nodes count
 fit-size n cs xs t =
     let s = shaped-of n cs (t .axes-ok) (t .counts-ok) in
     let few = s .axes-high in
-    (few, omega (arith, t .counted, nodes-high (shapeOf n cs) s), length-file n cs xs (omega (arith, few, t .three)))
+    (few, omega (arith, t .counted, nodes-high (shapeOf n 3 cs) s), length-file n cs xs (omega (arith, few, t .three)))

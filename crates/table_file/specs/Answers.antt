@@ -8,10 +8,10 @@ use Rattle.table_file.specs.declared.TableAnswer.the-variants as T
 use Rattle.table_file.specs.declared.WriteAnswer.{WriteAnswer}
 use Rattle.table_file.specs.declared.WriteAnswer.the-variants as W
 
-abbrev pub tableMeaning : TableAnswer → Outcome Header
-tableMeaning (T.Table n x y z) = done (header n (x ∷ y ∷ z ∷ []))
-tableMeaning (T.Refused r) = refused (r .number) (r .place)
+abbrev pub outcomeOfTable : TableAnswer → Outcome Header
+outcomeOfTable (T.Table n x y z) = done (header n (x ∷ y ∷ z ∷ []))
+outcomeOfTable (T.Refused r) = refused (r .number) (r .place)
 
-abbrev pub writeMeaning : WriteAnswer → Outcome ℕ
-writeMeaning (W.Written k) = done k
-writeMeaning (W.Refused r) = refused (r .number) (r .place)
+abbrev pub outcomeOfWrite : WriteAnswer → Outcome ℕ
+outcomeOfWrite (W.Written k) = done k
+outcomeOfWrite (W.Refused r) = refused (r .number) (r .place)

@@ -85,7 +85,7 @@ twoOutcome bytes =
 unfoldable pub readCheck : List ℕ → ℕ → Check
 readCheck bytes room =
     first (oneOutcome bytes)
-    (first (twoOutcome bytes) (first (refuseUnless (leb (nodesIn bytes) room) 9 0) (limitOutcome sampleLimit (samplesIn bytes))))
+    (first (twoOutcome bytes) (first (refuseUnless (leb (nodesIn bytes) room) 9 0) (limitOutcome 5 sampleLimit (samplesIn bytes))))
 
 unfoldable pub readOutcome : List ℕ → ℕ → Outcome Header
 readOutcome bytes room = first (readCheck bytes room) (done (headerIn bytes))
@@ -104,7 +104,7 @@ writeCheck h samples room =
     first (axesOutcome (h .axes))
     (first (countsOutcome (h .axes) (countOf h))
     (first (refuseUnless (eqb (length samples) (nodesOf h)) 4 0)
-    (first (refuseUnless (leb (length (fileOf h samples)) room) 9 0) (limitOutcome sampleLimit samples))))
+    (first (refuseUnless (leb (length (fileOf h samples)) room) 9 0) (limitOutcome 5 sampleLimit samples))))
 
 -- the result is the number of bytes
 unfoldable pub writeOutcome : Header → List ℤ → ℕ → Outcome ℕ
@@ -117,9 +117,9 @@ abbrev pub AreBytes : List ℕ → Type 0
 AreBytes bytes = (i : ℕ) → getD bytes i 0 < 256
 
 -- a table that 1, 3, 4 and 5 do not refuse
-pub record Permitted (h : Header) (samples : List ℤ) : Type 0 where
+pub record PermittedTable (h : Header) (samples : List ℤ) : Type 0 where
   pub three : length (h .counts) ≡ 3
   pub axes-ok : axesOutcome (h .axes) ≡ done tt
   pub counts-ok : countsOutcome (h .axes) (countOf h) ≡ done tt
   pub counted : length samples ≡ nodesOf h
-  pub limited : limitOutcome sampleLimit samples ≡ done tt
+  pub limited : limitOutcome 5 sampleLimit samples ≡ done tt

@@ -4,6 +4,7 @@ use Prim.Native.Nat.{ℕ, _+_, _≤_}
 use mathlib.Core.List.{List}
 use lib.Dec.{leb}
 use lib.IntN.{ℤ}
+use Rattle.lattice.specs.Shape.{shapeOf}
 use Rattle.lattice.specs.declared.Shape.{Shape}
 use Rattle.lattice.specs.Outcome.{Check, refuseUnless, first}
 use Rattle.lattice.specs.Buffer.{tabulate}
@@ -17,7 +18,7 @@ samplesFrom bytes k count = tabulate count (λ i. signedOf (fileNumber bytes (k 
 
 -- the shape in section one, of degree 3
 abbrev pub shapeIn : List ℕ → Shape
-shapeIn bytes = record { axes = axesIn bytes; degree = 3; counts = tabulate 3 (countIn bytes) }
+shapeIn bytes = shapeOf (axesIn bytes) 3 (tabulate 3 (countIn bytes))
 
 -- n and the number of nodes after a section one that is not refused
 pub record AfterOne (bytes : List ℕ) (axes nodes : ℕ) : Type 0 where
@@ -29,4 +30,4 @@ pub record AfterOne (bytes : List ℕ) (axes nodes : ℕ) : Type 0 where
 -- what comes after section one
 unfoldable pub restOutcome : List ℕ → ℕ → Check
 restOutcome bytes room =
-    first (twoOutcome bytes) (first (refuseUnless (leb (nodesIn bytes) room) 9 0) (limitOutcome sampleLimit (samplesIn bytes)))
+    first (twoOutcome bytes) (first (refuseUnless (leb (nodesIn bytes) room) 9 0) (limitOutcome 5 sampleLimit (samplesIn bytes)))

@@ -4,14 +4,14 @@ ghost use Prim.Native.Nat.{_+_, _*_, _≤_, _<_};
 ghost use lib.ListN.{length, getD};
 ghost use lib.Seq.{sets};
 ghost use Rattle.lattice.specs.Outcome.{done, firstOf, whenDone};
-ghost use Rattle.lattice.specs.Answer.{meaning};
+ghost use Rattle.lattice.specs.Answers.{outcomeOf};
 ghost use Rattle.lattice.specs.Buffer.{overwrite};
 ghost use Rattle.lattice.specs.Records.{sampleLimit, limitOutcome};
 ghost use Rattle.table_file.specs.Numbers.{bytesOf, bytesOfAll, signedOf};
 ghost use Rattle.table_file.specs.File.{header, sectionOne, sectionTwo, fileOf, fileNumber, complete, axesIn, countIn, samplesIn, countOutcome, oneOutcome, twoOutcome, readOutcome, writeCheck, writeOutcome};
-ghost use Rattle.table_file.specs.Answers.{tableMeaning, writeMeaning};
+ghost use Rattle.table_file.specs.Answers.{outcomeOfTable, outcomeOfWrite};
 ghost use Rattle.table_file.specs.Parser.{samplesFrom, shapeIn, restOutcome, AfterOne};
-use lattice::Answer;
+use lattice::Check;
 use lattice::Refusal;
 use lattice::Shape;
 
@@ -26,8 +26,6 @@ pub enum WriteAnswer {
     Written(usize),
     Refused(Refusal),
 }
-
-const SAMPLE_LIMIT: u64 = 32768;
 
 // The number that two bytes at `at` make.
 fn pair_at(bytes: &[u8], at: usize) -> u32
@@ -68,54 +66,58 @@ fn sample_at(bytes: &[u8], k: usize) -> i32
 }
 
 // 6 where the first `count` numbers are not complete.
-fn check_complete(bytes: &[u8], count: usize) -> Answer
+fn check_complete(bytes: &[u8], count: usize) -> Check
     requires { ⌜ count ≤ 262149 ⌝ }
-    ensures { λ r. ⌜ meaning r ≡ complete (now (bytes .entry)) count ⌝ }
+    ensures { λ r. ⌜ outcomeOf r ≡ complete (now (bytes .entry)) count ⌝ }
 {
     let end = 4 * count;
     lattice::refuse_unless(end <= bytes.len(), 6, bytes.len())
 }
 
 // 6, then 3, for the node count of a used axis.
-fn check_count(bytes: &[u8], axes: u32, axis: u32) -> Answer
+fn check_count(bytes: &[u8], axes: u32, axis: u32) -> Check
     requires { ⌜ (axes ≡ axesIn (now bytes)) × (axis < axes) × (axes ≤ 3) ⌝ }
-    ensures { λ r. ⌜ meaning r ≡ countOutcome (now (bytes .entry)) axis ⌝ }
+    ensures { λ r. ⌜ outcomeOf r ≡ countOutcome (now (bytes .entry)) axis ⌝ }
 {
     let a = axis as usize;
     let whole = check_complete(bytes, 2 + a);
-    if let Answer::Refused(_) = whole {
+    if let Check::Refused(_) = whole {
         return whole;
     }
-    lattice::check_count(axes, number_at(bytes, 1 + a), axis)
+    lattice::refuse_unless(
+        lattice::count_allowed(axes, number_at(bytes, 1 + a), axis),
+        3,
+        a,
+    )
 }
 
 // 6 and 3 for the node counts, axis by axis.
-fn check_counts(bytes: &[u8], axes: u32) -> Answer
+fn check_counts(bytes: &[u8], axes: u32) -> Check
     requires { ⌜ (axes ≡ axesIn (now bytes)) × (axes ≤ 3) ⌝ }
-    ensures { λ r. ⌜ meaning r ≡ firstOf axes (countOutcome (now (bytes .entry))) ⌝ }
+    ensures { λ r. ⌜ outcomeOf r ≡ firstOf axes (countOutcome (now (bytes .entry))) ⌝ }
 {
     let mut axis: u32 = 0;
     while axis < axes {
         let counted = check_count(bytes, axes, axis);
-        if let Answer::Refused(_) = counted {
+        if let Check::Refused(_) = counted {
             return counted;
         }
         axis += 1;
     }
-    Answer::Done
+    Check::Done
 }
 
 // Section one.
-fn check_one(bytes: &[u8]) -> Answer
-    ensures { λ r. ⌜ meaning r ≡ oneOutcome (now (bytes .entry)) ⌝ }
+fn check_one(bytes: &[u8]) -> Check
+    ensures { λ r. ⌜ outcomeOf r ≡ oneOutcome (now (bytes .entry)) ⌝ }
 {
     let whole = check_complete(bytes, 1);
-    if let Answer::Refused(_) = whole {
+    if let Check::Refused(_) = whole {
         return whole;
     }
     let axes = number_at(bytes, 0);
     let allowed = lattice::check_axes(axes);
-    if let Answer::Refused(_) = allowed {
+    if let Check::Refused(_) = allowed {
         return allowed;
     }
     check_counts(bytes, axes)
@@ -142,20 +144,16 @@ fn shape_in(bytes: &[u8]) -> Shape
     let x = count_in(bytes, axes, 0);
     let y = count_in(bytes, axes, 1);
     let z = count_in(bytes, axes, 2);
-    Shape {
-        axes: axes,
-        degree: 3,
-        counts: [x, y, z],
-    }
+    lattice::shape_of(axes, 3, [x, y, z])
 }
 
 // Section two.
-fn check_two(bytes: &[u8], axes: usize, nodes: usize) -> Answer
+fn check_two(bytes: &[u8], axes: usize, nodes: usize) -> Check
     requires { ⌜ AfterOne (now bytes) axes nodes ⌝ }
-    ensures { λ r. ⌜ meaning r ≡ twoOutcome (now (bytes .entry)) ⌝ }
+    ensures { λ r. ⌜ outcomeOf r ≡ twoOutcome (now (bytes .entry)) ⌝ }
 {
     let whole = check_complete(bytes, 2 + axes);
-    if let Answer::Refused(_) = whole {
+    if let Check::Refused(_) = whole {
         return whole;
     }
     let count = number_at(bytes, 1 + axes) as usize;
@@ -168,32 +166,32 @@ fn check_two(bytes: &[u8], axes: usize, nodes: usize) -> Answer
 }
 
 // Refusal 5 at the first of `count` samples from number `start` on that is beyond its limit.
-fn check_samples(bytes: &[u8], start: usize, count: usize) -> Answer
+fn check_samples(bytes: &[u8], start: usize, count: usize) -> Check
     requires { ⌜ 4 * (start + count) ≤ length (now bytes) ⌝ }
-    ensures { λ r. ⌜ meaning r ≡ limitOutcome sampleLimit (samplesFrom (now (bytes .entry)) start count) ⌝ }
+    ensures { λ r. ⌜ outcomeOf r ≡ limitOutcome 5 sampleLimit (samplesFrom (now (bytes .entry)) start count) ⌝ }
 {
     let mut i = 0;
     while i < count {
         let x = sample_at(bytes, start + i) as i64;
-        if SAMPLE_LIMIT < arith::magnitude(x) {
+        if lattice::SAMPLE_LIMIT < arith::magnitude(x) {
             return lattice::refuse_unless(false, 5, i);
         }
         i += 1;
     }
-    Answer::Done
+    Check::Done
 }
 
 // Section two, then 9 and 5.
-fn check_rest(bytes: &[u8], axes: usize, nodes: usize, room: usize) -> Answer
+fn check_rest(bytes: &[u8], axes: usize, nodes: usize, room: usize) -> Check
     requires { ⌜ AfterOne (now bytes) axes nodes ⌝ }
-    ensures { λ r. ⌜ meaning r ≡ restOutcome (now (bytes .entry)) room ⌝ }
+    ensures { λ r. ⌜ outcomeOf r ≡ restOutcome (now (bytes .entry)) room ⌝ }
 {
     let two = check_two(bytes, axes, nodes);
-    if let Answer::Refused(_) = two {
+    if let Check::Refused(_) = two {
         return two;
     }
     let short = lattice::refuse_unless(nodes <= room, 9, 0);
-    if let Answer::Refused(_) = short {
+    if let Check::Refused(_) = short {
         return short;
     }
     check_samples(bytes, 2 + axes, nodes)
@@ -214,18 +212,18 @@ fn fill(bytes: &[u8], start: usize, count: usize, samples: &mut [i32])
 
 // Reads a table file: the samples to the front of `samples`.
 pub fn read(bytes: &[u8], samples: &mut [i32]) -> TableAnswer
-    ensures { λ r. ⌜ tableMeaning r ≡ readOutcome (now (bytes .entry)) (length (now (samples .entry))) ⌝ }
+    ensures { λ r. ⌜ outcomeOfTable r ≡ readOutcome (now (bytes .entry)) (length (now (samples .entry))) ⌝ }
     ensures { λ _. ⌜ now (samples .exit) ≡ whenDone (readOutcome (now (bytes .entry)) (length (now (samples .entry)))) (overwrite (samplesIn (now (bytes .entry))) (now (samples .entry))) (now (samples .entry)) ⌝ }
 {
     let one = check_one(bytes);
-    if let Answer::Refused(r) = one {
+    if let Check::Refused(r) = one {
         return TableAnswer::Refused(r);
     }
     let s = shape_in(bytes);
     let axes = s.axes as usize;
     let nodes = lattice::node_count(s);
     let rest = check_rest(bytes, axes, nodes, samples.len());
-    if let Answer::Refused(r) = rest {
+    if let Check::Refused(r) = rest {
         return TableAnswer::Refused(r);
     }
     fill(bytes, 2 + axes, nodes, samples);
@@ -289,35 +287,36 @@ fn put_file(axes: u32, counts: [u32; 3], samples: &[i32], bytes: &mut [u8]) -> u
     4 * (1 + start + samples.len())
 }
 
-// 1, 3, 4, 9, 5.
-fn check_write(axes: u32, counts: [u32; 3], samples: &[i32], room: usize) -> Answer
-    ensures { λ r. ⌜ meaning r ≡ writeCheck (header axes counts) (now (samples .entry)) room ⌝ }
+// 1, 3, 4, 9, 5. No sample is read before the lengths are right.
+fn check_write(axes: u32, counts: [u32; 3], samples: &[i32], room: usize) -> Check
+    ensures { λ r. ⌜ outcomeOf r ≡ writeCheck (header axes counts) (now (samples .entry)) room ⌝ }
 {
     // Both degrees have the same nodes.
-    let s = Shape {
-        axes: axes,
-        degree: 3,
-        counts: counts,
-    };
+    let s = lattice::shape_of(axes, 3, counts);
     let shape = lattice::check_shape(s);
-    if let Answer::Refused(_) = shape {
+    if let Check::Refused(_) = shape {
         return shape;
     }
     let nodes = lattice::node_count(s);
     let needed = 4 * (2 + axes as usize + nodes);
     let counted = lattice::refuse_unless(samples.len() == nodes, 4, 0);
-    let short = lattice::refuse_unless(needed <= room, 9, 0);
-    let limit = lattice::check_limit(samples, SAMPLE_LIMIT);
-    lattice::earlier(counted, lattice::earlier(short, limit))
+    if let Check::Refused(_) = counted {
+        return counted;
+    }
+    let roomy = lattice::refuse_unless(needed <= room, 9, 0);
+    if let Check::Refused(_) = roomy {
+        return roomy;
+    }
+    lattice::check_limit(samples, lattice::SAMPLE_LIMIT, 5)
 }
 
 // Writes a table file to the front of `bytes`.
 pub fn write(axes: u32, counts: [u32; 3], samples: &[i32], bytes: &mut [u8]) -> WriteAnswer
-    ensures { λ r. ⌜ writeMeaning r ≡ writeOutcome (header axes counts) (now (samples .entry)) (length (now (bytes .entry))) ⌝ }
+    ensures { λ r. ⌜ outcomeOfWrite r ≡ writeOutcome (header axes counts) (now (samples .entry)) (length (now (bytes .entry))) ⌝ }
     ensures { λ _. ⌜ now (bytes .exit) ≡ whenDone (writeOutcome (header axes counts) (now (samples .entry)) (length (now (bytes .entry)))) (overwrite (fileOf (header axes counts) (now (samples .entry))) (now (bytes .entry))) (now (bytes .entry)) ⌝ }
 {
     let allowed = check_write(axes, counts, samples, bytes.len());
-    if let Answer::Refused(r) = allowed {
+    if let Check::Refused(r) = allowed {
         return WriteAnswer::Refused(r);
     }
     WriteAnswer::Written(put_file(axes, counts, samples, bytes))

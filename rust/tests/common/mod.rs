@@ -1,11 +1,13 @@
-//! What the tests share: random numbers, shapes, guarded buffers and pairs of faults.
+//! What the tests share: random numbers, shapes, guarded buffers, pairs of faults, the program.
 
 #![allow(dead_code)]
 
 use crate::model;
 use lukhtari::Shape;
 use model::query::Where;
+use std::env;
 use std::fmt::Debug;
+use std::path::{Path, PathBuf};
 
 // Splitmix64: seeded and reproducible.
 #[derive(Clone)]
@@ -321,4 +323,20 @@ pub fn wrong_shapes(axes: u32, degree: u32) -> Vec<(Shape, u32, u64)> {
         }
     }
     wrong
+}
+
+pub fn repository() -> PathBuf {
+    let root = Path::new(env!("CARGO_MANIFEST_DIR")).join("..");
+    root.canonicalize().expect("the repository")
+}
+
+// The program: LUKHTARI_PROGRAM, or target/bin/cell_doses of the repository.
+pub fn program() -> PathBuf {
+    let path = match env::var_os("LUKHTARI_PROGRAM") {
+        Some(path) => PathBuf::from(path),
+        None => repository().join("target/bin/cell_doses"),
+    };
+    let shown = path.display();
+    assert!(path.exists(), "{shown} is missing: run `rt check`");
+    path
 }

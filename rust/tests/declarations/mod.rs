@@ -113,16 +113,18 @@ pub fn rust_calls(text: &str, structs: &Structs) -> Calls {
     calls
 }
 
-// The header without comments and preprocessor lines.
+// The header without comments, preprocessor lines and assertions of sizes.
 fn plain_header(text: &str) -> String {
     let mut code = String::new();
-    let mut rest = text;
+    let joined = text.replace("\\\n", " ");
+    let mut rest = &joined[..];
     while let Some((before, after)) = rest.split_once("/*") {
         code.push_str(before);
         rest = after.split_once("*/").expect("end of comment").1;
     }
     code.push_str(rest);
-    let lines = code.lines().filter(|line| !line.starts_with('#'));
+    let declares = |line: &&str| !line.starts_with('#') && !line.starts_with("LUKHTARI_SIZE");
+    let lines = code.lines().filter(declares);
     lines.collect::<Vec<_>>().join("\n")
 }
 

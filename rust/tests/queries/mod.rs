@@ -18,7 +18,7 @@ pub fn run(query: &Query) -> Answer<i32> {
     got
 }
 
-fn call(query: &Query) -> Result<i32, lukhtari::Refusal> {
+pub fn call(query: &Query) -> Result<i32, lukhtari::Refusal> {
     let (shape, records) = (query.shape, &query.records[..]);
     match (query.at, query.slope) {
         (Where::Position(p), None) => dose(shape, records, p),

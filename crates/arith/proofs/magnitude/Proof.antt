@@ -1,8 +1,9 @@
 -- `arith::magnitude` meets its contract: below 0 the size is one more than what is left of −1 − x.
 use mathlib.Core.Path.{_≡_, ap}
 use mathlib.Core.Bool.{true, false}
-use Prim.Native.Nat.{ℕ, suc, _+_, _<_}
+use Prim.Native.Nat.{ℕ, suc, _+_}
 use native.Mathlib.Numerals.{add-one}
+use native.Mathlib.Nat.{not-suc-le-zero}
 use native.Mathlib.Omega.{arith}
 use borrow.Author.Tests.{ltb-true, le-ltb}
 use borrow.Author.Needs.{needs}
@@ -12,6 +13,7 @@ use lib.Signed.{mag, ltZ, nonNeg}
 use mir.Syntax.{w64}
 use mir.Val.{Fits, SFits, toZ, ofZ}
 use mir.Facts.{toZ-ofZ}
+use Rattle.arith.proofs.Choices.{clash}
 use Rattle.arith.proofs.magnitude.Statement.{statement}
 use Rattle.arith.proofs.magnitude.Tie as tie
 
@@ -21,10 +23,7 @@ minus-one n = rw (le-ltb (suc n) 1 (omega arith)) (ap pos (omega arith))
 -- a number below 0 that fits
 module _ (x : ℤ) (f : SFits w64 x) (below : ltZ (toZ w64 (ofZ w64 x)) (pos 0) ≡ true) where
   is-below : (x : ℤ) → ltZ x (pos 0) ≡ true → (negsuc 0 -ℤ x ≡ pos (mag x)) × (mag x + 1 ≡ natAbs x)
-  is-below (pos n) e = absurd (none (ltb-true n 0 e))
-    where
-      none : {n : ℕ} → n < 0 → ⊥
-      none h = omega arith
+  is-below (pos n) e = absurd (not-suc-le-zero (ltb-true n 0 e))
   is-below (negsuc n) e = (minus-one n, add-one n)
 
   rest : negsuc 0 -ℤ toZ w64 (ofZ w64 x) ≡ pos (mag x)
@@ -41,7 +40,7 @@ module _ (x : ℤ) (f : SFits w64 x) (below : ltZ (toZ w64 (ofZ w64 x)) (pos 0) 
 
 not-below : (x : ℤ) → SFits w64 x → ltZ x (pos 0) ≡ false → T (nonNeg x) × Fits w64 (natAbs x)
 not-below (pos n) f e = let h = f .sfits in (tt, omega arith)
-not-below (negsuc n) f e = let z : _≡_ {A = ℕ} 0 1 = cc in absurd (omega arith)
+not-below (negsuc n) f e = clash (cc)
 
 cast-result : tie.Need-cast-result
 cast-result c =

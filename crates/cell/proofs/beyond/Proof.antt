@@ -1,13 +1,14 @@
 -- `cell::beyond` meets its contract: two comparisons with a limit that is not negative.
 use mathlib.Core.Path.{_≡_, refl, sym, _∙_}
 use mathlib.Core.Bool.{true, false}
-use Prim.Native.Nat.{ℕ, zero, suc, _<_, _^_}
+use Prim.Native.Nat.{zero, suc, _<_, _^_}
 use native.Mathlib.Omega.{arith}
 use native.Mathlib.Decide.{decLt}
 use lib.Dec.{ltb, lit<}
 use lib.IntN.{ℤ, pos, negsuc, negℤ, natAbs, _-ℤ_, +ℤ-idl}
 use lib.Signed.{nonNeg, ltZ, mag}
 use borrow.Author.Tests.{lt-ltb, le-ltb}
+use Rattle.arith.proofs.Choices.{clash}
 use Rattle.arith.proofs.Machine.{element}
 use Rattle.cell.proofs.beyond.Statement.{statement}
 use Rattle.cell.proofs.beyond.Tie as tie
@@ -18,7 +19,7 @@ small z h e = rw (+ℤ-idl (negℤ z)) (go z h e)
     go : (z : ℤ) → mag z < 2 ^ 31 → nonNeg z ≡ true → mag (negℤ z) < 2 ^ 31
     go (pos zero) h e = lit< tt
     go (pos (suc n)) h e = omega arith
-    go (negsuc n) h e = let f : _≡_ {A = ℕ} 0 1 = cc in absurd (omega arith)
+    go (negsuc n) h e = clash (cc)
 
 -- a number above the limit
 above : (x limit : ℤ) → nonNeg limit ≡ true → ltZ limit x ≡ true → ltZ limit x ≡ ltb (natAbs limit) (natAbs x)

@@ -1,60 +1,28 @@
 -- `cell::check_cell` meets its contract: the tests of three axes, of which the first refusal stands.
-use mathlib.Core.Path.{_≡_, sym, ap, _∙_}
+use mathlib.Core.Path.{ap, _∙_}
+use mathlib.Core.Bool.{Bool}
 use mathlib.Core.List.{[], _∷_}
 use Prim.Native.Nat.{ℕ, _+_}
 use lib.Dec.{leb, ltb, eqb}
-use lib.ListN.{getD}
 use borrow.Author.Needs.{needs}
 use Rattle.arith.specs.Choice.{pick}
-use Rattle.lattice.specs.Answer.{meaning}
-use Rattle.lattice.specs.Outcome.{Check, done, refuseUnless}
 use Rattle.lattice.specs.Shape.{count}
-use Rattle.lattice.proofs.OutcomeLaws.{refused-x, refused-y, then-z}
-use Rattle.cell.specs.Cell.{placeAt, indexOutcome, cellOutcome}
+use Rattle.lattice.proofs.OutcomeLaws.{scanned}
+use Rattle.cell.specs.Cell.{placeAt, cellOutcome}
 use Rattle.cell.proofs.check_cell.Statement.{statement}
 use Rattle.cell.proofs.check_cell.Tie as tie
 
--- the index of an axis
-abbrev index : tie.Start → ℕ → ℕ
-index b a = getD (b .args .i ∷ b .args .j ∷ b .args .k ∷ []) a 0
-
-abbrev test : tie.Start → ℕ → Check
-test b a = indexOutcome (b .args .t2) (placeAt (b .args .i ∷ b .args .j ∷ b .args .k ∷ []) a) a
-
--- the number of axes given is the shape's
-here : (b : tie.Start) (a : ℕ) → refuseUnless (pick (ltb a (b .args .n)) (leb (index b a + 2) (count (b .args .t2) a)) (eqb (index b a) 0)) 14 a ≡ indexOutcome (b .args .t2) (index b a) a
-unfolding indexOutcome
-here b a = ap (λ (n : ℕ). refuseUnless (pick (ltb a n) (leb (index b a + 2) (count (b .args .t2) a)) (eqb (index b a) 0)) 14 a) (b .pre)
-
-x-passed : (c : tie.After-enum-told2) → test (c .before .before .before .before) 0 ≡ done tt
-unfolding placeAt indexOutcome count pick
-x-passed c = sym (here (c .before .before .before .before) 0) ∙ sym (c .before .before .check-index .ensures) ∙ ap meaning (c .enum-told2 .given .1)
-
 returns : tie.Need-returns
-unfolding cellOutcome placeAt indexOutcome count pick
+unfolding cellOutcome placeAt count pick
 returns c =
-    let g = ap meaning (c .enum-told .given .1) in
-    let d = c .before .before in
-    let b = d .before .before in
-    g ∙ refused-x (test b) (sym (here b 0) ∙ sym (d .check-index .ensures) ∙ g)
-
-returns-2 : tie.Need-returns-2
-unfolding cellOutcome placeAt indexOutcome count pick
-returns-2 c =
-    let g = ap meaning (c .enum-told3 .given .1) in
-    let d = c .before .before in
-    let e = d .before .before in
-    let b = e .before .before .before .before in
-    g ∙ refused-y (test b) (x-passed e) (sym (here b 1) ∙ sym (d .check-index2 .ensures) ∙ g)
-
-returns-3 : tie.Need-returns-3
-unfolding cellOutcome placeAt indexOutcome count pick
-returns-3 c =
-    let f = c .before .before in
-    let d = f .before .before in
-    let e = d .before .before in
-    let b = e .before .before .before .before in
-    c .check-index3 .ensures ∙ here b 2 ∙ then-z (test b) (x-passed e) (sym (here b 1) ∙ sym (d .check-index2 .ensures) ∙ ap meaning (f .enum-told4 .given .1))
+    let z = c .before in
+    let y = z .before .before .before in
+    let x = y .before .before .before in
+    let b = x .before .before in
+    let a = b .args in
+    let test : ℕ → ℕ → Bool = λ n i. let k = placeAt (a .i ∷ a .j ∷ a .k ∷ []) i in pick (ltb i n) (leb (k + 2) (count (a .t2) i)) (eqb k 0) in
+    scanned 14 (test (a .t2 .axes)) (x .index-allowed .ensures ∙ ap (λ n. test n 0) (b .pre)) (y .index-allowed2 .ensures ∙ ap (λ n. test n 1) (b .pre))
+    (z .index-allowed3 .ensures ∙ ap (λ n. test n 2) (b .pre)) (y .before .before .refuse-unless .ensures) (z .before .before .refuse-after .ensures) (c .refuse-after2 .ensures)
 
 pub check-cell-spec : {M : Type 1} → statement M
 check-cell-spec =
@@ -62,14 +30,11 @@ check-cell-spec =
     (tie.spec
     (λ c. search needs)
     (λ c κs. search needs)
-    (λ c. search needs)
-    returns
-    (λ c. search needs)
-    (λ c. search needs)
     (λ c κs. search needs)
     (λ c. search needs)
-    returns-2
-    (λ c. search needs)
+    (λ c κs. search needs)
+    (λ c κs. search needs)
     (λ c. search needs)
     (λ c κs. search needs)
-    returns-3)
+    (λ c κs. search needs)
+    returns)

@@ -2,7 +2,7 @@
 use Rattle.arith.proofs.Machine.{shifted}
 use Rattle.cell.proofs.CellLaws.{laid-small}
 use Rattle.lattice.specs.Outcome.{done, refused, firstOf}
-use Rattle.lattice.specs.Answer.{meaning}
+use Rattle.lattice.specs.Answers.{outcomeOf}
 use Rattle.lattice.specs.Shape.{entries, orders}
 use Rattle.lattice.proofs.ShapeLaws.{orders-range, entries-high}
 use Rattle.lattice.proofs.OutcomeLaws.{firstOf-stops, firstOf-more}
@@ -39,13 +39,13 @@ module _ (c : tie.After-check-record Inv-loop μ-loop) where
   abbrev a : tie.At-loop Inv-loop μ-loop
   a = c .before .before .before .before
 
-  tested : cornerTest (a .before .before .entry-limits .result) (b a .args .l .entries) (b a .args .records .now) (b a .args .l) (a .loop .c) ≡ meaning (c .check-record .result)
+  tested : cornerTest (a .before .before .entry-limits .result) (b a .args .l .entries) (b a .args .records .now) (b a .args .l) (a .loop .c) ≡ outcomeOf (c .check-record .result)
   tested = sym (c .check-record .ensures ∙ ap (λ (k : ℕ). recordOutcome (limitIn (a .before .before .entry-limits .result)) (b a .args .l .entries) (b a .args .records .now) k) (c .before .before .corner-start .ensures))
 
   whole : firstOf (2 ^ b a .args .s .axes) (cornerTest (a .before .before .entry-limits .result) (b a .args .l .entries) (b a .args .records .now) (b a .args .l)) ≡ cornersOutcome (b a .args .s) (b a .args .records .now) (placeAt (b a .args .cell))
   whole = all-is (b a .args .s) (b a .args .cell) (b a .args .l) (b a .args .records .now) (a .before .before .entry-limits .result) (b a .pre .0 .0) (b a .pre .0 .1) (b a .pre .1 .0) (b a .pre .1 .1) (row a)
 
-  stops : (k p : ℕ) → meaning (c .check-record .result) ≡ refused k p → meaning (c .check-record .result) ≡ cornersOutcome (b a .args .s) (b a .args .records .now) (placeAt (b a .args .cell))
+  stops : (k p : ℕ) → outcomeOf (c .check-record .result) ≡ refused k p → outcomeOf (c .check-record .result) ≡ cornersOutcome (b a .args .s) (b a .args .records .now) (placeAt (b a .args .cell))
   stops k p e =
       e ∙ sym (firstOf-stops (2 ^ b a .args .s .axes) (a .loop .c) (cornerTest (a .before .before .entry-limits .result) (b a .args .l .entries) (b a .args .records .now) (b a .args .l)) k p (inside a (c .before .before .before .loop-test .taken)) (a .loop .inv .1) (tested ∙ e)) ∙ whole
 
@@ -83,7 +83,7 @@ loop-again : tie.Need-loop-again Inv-loop μ-loop
 loop-again c =
     let r = c .before .before in
     let s = a r in
-    (omega arith, firstOf-more (s .loop .c) (cornerTest (s .before .before .entry-limits .result) (b s .args .l .entries) (b s .args .records .now) (b s .args .l)) (s .loop .inv .1) (tested r ∙ ap meaning (c .enum-told2 .given .1)))
+    (omega arith, firstOf-more (s .loop .c) (cornerTest (s .before .before .entry-limits .result) (b s .args .l .entries) (b s .args .records .now) (b s .args .l)) (s .loop .inv .1) (tested r ∙ ap outcomeOf (c .enum-told2 .given .1)))
 
 returns-2 : tie.Need-returns-2 Inv-loop μ-loop
 returns-2 c =
@@ -105,7 +105,7 @@ check-corners-spec =
     corner-start-requires
     check-record-requires
     enum-told
-    (λ c. stops (c .before .before) _ _ (ap meaning (c .enum-told .given .1)))
+    (λ c. stops (c .before .before) _ _ (ap outcomeOf (c .enum-told .given .1)))
     (λ c. search needs)
     add-c
     (λ c. omega arith)

@@ -6,7 +6,7 @@ use native.Mathlib.Omega.{arith}
 use lib.IntN.{ℤ}
 use lib.ListN.{length, take, length-take}
 use borrow.Author.Needs.{needs}
-use Rattle.lattice.specs.Answer.{meaning}
+use Rattle.lattice.specs.Answers.{outcomeOf}
 use Rattle.estimate.proofs.CallLaws.{estimated}
 use Rattle.evaluate.specs.Evaluate.{Want}
 use Rattle.evaluate.specs.Wants.{wanted}
@@ -21,7 +21,7 @@ use Rattle.claims.proofs.estimate_and_ask.Tie as tie
 -- what is asked
 module _ (c : tie.Start) where
   abbrev want : Want
-  want = wanted (c .args .slope-axis)
+  want = wanted (c .args .derivative)
 
   abbrev question : Query
   question = queryOf (c .args .q)
@@ -32,7 +32,7 @@ module _ (c : tie.After-enum-told) where
   start = c .before .before .before .before .before
 
   taken : AcceptedTable (start .args .s) (start .args .samples .now) (start .args .records .now)
-  taken = sym (c .before .before .before .estimate .ensures .0) ∙ ap meaning (c .enum-told .given .1)
+  taken = sym (c .before .before .before .estimate .ensures .0) ∙ ap outcomeOf (c .enum-told .given .1)
 
 enum-told : tie.Need-enum-told
 enum-told c = search needs
@@ -50,7 +50,7 @@ returns c =
     let b = c .before .before .before .before .before .before in
     let a = b .args in
     let e = c .before .before .before .before .estimate .ensures in
-    let g = ap (inFloat (want b)) (both-refused (a .s) (a .samples .now) (a .records .now) (want b) (question b) (sym (e .0) ∙ ap meaning (c .before .answer .given .1))) in
+    let g = ap (inFloat (want b)) (both-refused (a .s) (a .samples .now) (a .records .now) (want b) (question b) (sym (e .0) ∙ ap outcomeOf (c .before .answer .given .1))) in
     (g, (e .1, claimed-told (a .s) (a .samples .now) (a .records .now) (want b) (question b) _ g))
 
 returns-2 : tie.Need-returns-2

@@ -5,7 +5,7 @@ use Prim.Native.Nat.{ℕ, _≤_}
 use lib.IntN.{ℤ}
 use lib.ListN.{length}
 use denote.Ref.{now}
-use Rattle.lattice.specs.Answer.{meaning}
+use Rattle.lattice.specs.Answers.{outcomeOf}
 use Rattle.lattice.specs.Outcome.{Check, done}
 use Rattle.lattice.specs.Buffer.{at, tabulate, overwrite}
 use Rattle.lattice.specs.Shape.{orders}
@@ -13,7 +13,7 @@ use Rattle.lattice.specs.Records.{recordsField}
 use Rattle.lattice.proofs.OutcomeLaws.{refused-first, first-passed, when-done, when-refused}
 use Rattle.lattice.proofs.ShapeLaws.{orders-range}
 use Rattle.cell.specs.Cell.{placeAt, cornersOutcome}
-use Rattle.coefficients.specs.Corners.{coefficientList, askedOutcome, coefficientsOutcome, coefficientsWrites}
+use Rattle.coefficients.specs.Corners.{coefficientList, requestOutcome, coefficientsOutcome, coefficientsWrites}
 use Rattle.coefficients.specs.Blocks.{Gathered}
 use Rattle.coefficients.proofs.TableCell.{corners-gathered}
 use Rattle.coefficients.proofs.CallLaws.{Asked, asked, list-is}
@@ -30,8 +30,8 @@ module _ (c : tie.After-enum-told2) where
   abbrev start : tie.Start
   start = c .before .before .before
 
-  passed : askedOutcome (start .args .s) (length (now (start .args .records))) (placeAt (start .args .cell)) (length (now (start .args .out))) ≡ done tt
-  passed = sym (c .before .before .check-asked .ensures) ∙ ap meaning (c .enum-told2 .given .1)
+  passed : requestOutcome (start .args .s) (length (now (start .args .records))) (placeAt (start .args .cell)) (length (now (start .args .out))) ≡ done tt
+  passed = sym (c .before .before .check-request .ensures) ∙ ap outcomeOf (c .enum-told2 .given .1)
 
   facts : Asked (start .args .s) (length (now (start .args .records))) (placeAt (start .args .cell)) (length (now (start .args .out)))
   facts = asked (start .args .s) (length (now (start .args .records))) (start .args .cell) (length (now (start .args .out))) passed
@@ -41,7 +41,7 @@ module _ (c : tie.After-enum-told2) where
 
   outcome : coefficientsOutcome (start .args .s) (now (start .args .records)) (placeAt (start .args .cell)) (length (now (start .args .out))) ≡ tests
   unfolding coefficientsOutcome tests
-  outcome = first-passed (askedOutcome (start .args .s) (length (now (start .args .records))) (placeAt (start .args .cell)) (length (now (start .args .out)))) tests passed
+  outcome = first-passed (requestOutcome (start .args .s) (length (now (start .args .records))) (placeAt (start .args .cell)) (length (now (start .args .out)))) tests passed
 
 -- nor by 5
 module _ (c : tie.After-enum-told4) where
@@ -50,14 +50,14 @@ module _ (c : tie.After-enum-told4) where
 
   tested : tests two ≡ done tt
   unfolding tests
-  tested = sym (c .before .before .check-corners .ensures) ∙ ap meaning (c .enum-told4 .given .1)
+  tested = sym (c .before .before .check-corners .ensures) ∙ ap outcomeOf (c .enum-told4 .given .1)
 
-  gathered : Gathered (c .before .before .before .lay-out .result .orders) (start two .args .s .axes) (c .before .before .before .lay-out .result) (now (start two .args .records))
+  gathered : Gathered (c .before .before .before .layout-of .result .orders) (start two .args .s .axes) (c .before .before .before .layout-of .result) (now (start two .args .records))
   unfolding tests
   gathered =
       let f = facts two in
       let a = start two .args in
-      let l = c .before .before .before .lay-out in
+      let l = c .before .before .before .layout-of in
       subst (λ (m : ℕ). Gathered m (a .s .axes) (l .result) (now (a .records))) (sym (l .ensures .orders-are)) (corners-gathered (a .s) (f .shape) (placeAt (a .cell)) (f .here) (now (a .records)) (f .many) (l .result) (l .ensures) tested)
 
 returns : tie.Need-returns
@@ -65,19 +65,19 @@ unfolding coefficientsOutcome coefficientsWrites
 returns c =
     let w = c .before .before in
     let a = w .before .args in
-    let e = ap meaning (c .enum-told .given .1) in
-    let h = refused-first (cornersOutcome (a .s) (now (a .records)) (placeAt (a .cell))) (sym (w .check-asked .ensures) ∙ e) in
+    let e = ap outcomeOf (c .enum-told .given .1) in
+    let h = refused-first (cornersOutcome (a .s) (now (a .records)) (placeAt (a .cell))) (sym (w .check-request .ensures) ∙ e) in
     (e ∙ sym h, when-refused (written (w .before)) (now (a .out)) h)
 
 check-corners-requires : tie.Need-check-corners-requires
-check-corners-requires c κs = let f = facts (c .before) in ((f .shape, f .many), (f .here, c .lay-out .ensures))
+check-corners-requires c κs = let f = facts (c .before) in ((f .shape, f .many), (f .here, c .layout-of .ensures))
 
 returns-2 : tie.Need-returns-2
 unfolding coefficientsWrites tests
 returns-2 c =
     let d = c .before .before in
     let t = d .before .before in
-    let e = ap meaning (c .enum-told3 .given .1) in
+    let e = ap outcomeOf (c .enum-told3 .given .1) in
     let h = outcome t ∙ sym (d .check-corners .ensures) ∙ e in
     (e ∙ sym h, when-refused (written (start t)) (now (start t .args .out)) h)
 
@@ -86,7 +86,7 @@ cell-coefficients-requires c κs =
     let t = c .before in
     let f = facts (two t) .shape in
     let m = orders-range (start (two t) .args .s .degree) in
-    let e = t .before .before .before .lay-out .ensures .orders-are in
+    let e = t .before .before .before .layout-of .ensures .orders-are in
     (subst (λ (k : ℕ). 2 ≤ k) (sym e) (m .0), subst (λ (k : ℕ). k ≤ 3) (sym e) (m .1), f .axes-low, f .axes-high, gathered t)
 
 copy-out-requires : tie.Need-copy-out-requires
@@ -106,9 +106,9 @@ returns-3 c =
     let s = start d in
     let a = s .args in
     let f = facts d in
-    let l = t .before .before .before .lay-out in
+    let l = t .before .before .before .layout-of in
     let h = outcome d ∙ tested t in (
-      ap meaning (t .enum-told4 .given .1) ∙ sym h,
+      ap outcomeOf (t .enum-told4 .given .1) ∙ sym h,
       c .before .copy-out .ensures ∙ ap (λ (k : ℕ). overwrite (tabulate k (at (x .cell-coefficients .result))) (now (a .out))) (n .coefficient-count .ensures .0)
           ∙ ap (λ (ys : List ℤ). overwrite ys (now (a .out))) (list-is (a .s) (f .shape) (placeAt (a .cell)) (f .here) (now (a .records)) (f .many) (l .result) (l .ensures) (x .cell-coefficients .result) (x .cell-coefficients .ensures))
           ∙ when-done (written s) (now (a .out)) h,

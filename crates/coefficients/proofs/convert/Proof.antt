@@ -9,7 +9,7 @@ use lib.IntN.{ℤ}
 use denote.Ref.{now}
 use Rattle.lattice.specs.Buffer.{at}
 use Rattle.lattice.specs.Digits.{digit}
-use Rattle.coefficients.specs.Blocks.{Within}
+use Rattle.coefficients.specs.Blocks.{AllWithin}
 use Rattle.coefficients.proofs.BlockLaws.{size-low, After, after-first, after-next, after-low, after-all}
 use Rattle.coefficients.proofs.convert.Statement.{statement}
 use Rattle.coefficients.proofs.convert.Tie as tie
@@ -19,14 +19,14 @@ module _ (s : tie.Start) where
   sizes : (2 ≤ s .args .m) × (s .args .m ≤ 3) × (s .args .m * s .args .r ≤ 27)
   sizes = let ok = s .pre .0 .0 in (ok .orders-low, ok .orders-high, size-low ok)
 
-  start-low : Within (2 ^ 50) (s .args .m * s .args .r) (at (now (s .args .xs)))
+  start-low : AllWithin (2 ^ 50) (s .args .m * s .args .r) (at (now (s .args .xs)))
   start-low k l = le-trans (s .pre .0 .1 k (subst (λ (e : ℕ). k < e) (s .pre .0 .0 .groups-are) l)) (lit≤ tt)
 
   -- the array after i passes
   abbrev Passed : ℕ → List ℤ → Type 0
   Passed i zs = After (s .args .back) (s .pre .0 .0) (s .args .c) (at (now (s .args .xs))) i zs
 
-  low : (i : ℕ) → i ≤ 3 → (zs : List ℤ) → Passed i zs → Within (2 ^ 50) (s .args .m * s .args .r) (at zs)
+  low : (i : ℕ) → i ≤ 3 → (zs : List ℤ) → Passed i zs → AllWithin (2 ^ 50) (s .args .m * s .args .r) (at zs)
   low = after-low (s .args .back) (s .pre .0 .0) (s .args .c) (at (now (s .args .xs))) (s .pre .0 .1)
 
 -- the three arrays

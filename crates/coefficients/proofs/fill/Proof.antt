@@ -10,7 +10,7 @@ use lib.ListN.{length}
 use denote.Ref.{now}
 use Rattle.lattice.specs.Buffer.{at}
 use Rattle.cell.specs.Cell.{startOf}
-use Rattle.coefficients.specs.Blocks.{spot, wanted, scatter, Stands}
+use Rattle.coefficients.specs.Blocks.{coefficientIndex, cellCoefficient, scatter, Filled}
 use Rattle.coefficients.proofs.BlockLaws.{orders-some, size-low, corner-low, count-low, in-groups}
 use Rattle.coefficients.proofs.SpotLaws.{scatter-length, stands-none, stands-corner, stands-all}
 use Rattle.coefficients.proofs.FillLaws.{block-is, block-low}
@@ -18,7 +18,8 @@ use Rattle.coefficients.proofs.fill.Statement.{statement}
 use Rattle.coefficients.proofs.fill.Tie as tie
 
 abbrev Inv-loop : tie.InvT-loop
-Inv-loop m n r l records out₀ corners xs₀ zs₀ c₀ out xs zs c = (c ≤ corners) × (length xs ≡ 27) × (length zs ≡ 27) × (length out ≡ 216) × Stands m n (wanted m n l records) (m ^ n * c) out
+Inv-loop m n r l records out₀ corners xs₀ zs₀ c₀ out xs zs c =
+    (length xs ≡ 27) × (length zs ≡ 27) × (length out ≡ 216) × Filled m n (cellCoefficient m n l records) (m ^ n * c) out × (c ≤ corners)
 
 abbrev μ-loop : tie.MeasureT-loop
 μ-loop m n r l records out₀ corners xs₀ zs₀ c₀ out xs zs c = corners - c
@@ -53,19 +54,28 @@ module _ (c : tie.After-convert Inv-loop μ-loop) where
   low : (j : ℕ) → j < s i .args .m ^ s i .args .n → natAbs (at zs j) ≤ 2 ^ 30
   low j h = rw (c .convert .ensures .0 .is j h) (block-low (s i .pre .0 .0) (s i .args .l) (now (s i .args .records)) (s i .pre .0 .1) k (corner i) (at xs) entry-is j h)
 
-  more : Stands (s i .args .m) (s i .args .n) (wanted (s i .args .m) (s i .args .n) (s i .args .l) (now (s i .args .records))) (s i .args .m ^ s i .args .n * (k + 1)) (scatter (s i .args .m ^ s i .args .n) (spot (s i .args .m) k) (at zs) (i .before .loop .out))
+  more : Filled (s i .args .m) (s i .args .n) (cellCoefficient (s i .args .m) (s i .args .n) (s i .args .l) (now (s i .args .records))) (s i .args .m ^ s i .args .n * (k + 1)) (scatter (s i .args .m ^ s i .args .n) (coefficientIndex (s i .args .m) k) (at zs) (i .before .loop .out))
   more =
       let ok = s i .pre .0 .0 in
       let inv = i .before .loop .inv in
-      stands-corner (s i .args .m) (s i .args .n) (orders-some ok) (wanted (s i .args .m) (s i .args .n) (s i .args .l) (now (s i .args .records))) (ok .axes-low) (ok .axes-high) k (corner i) (at zs) (i .before .loop .out) (rw (inv .3) (count-low ok))
-      (λ j h. c .convert .ensures .0 .is j h ∙ block-is ok (s i .args .l) (now (s i .args .records)) (s i .pre .0 .1) k (corner i) (at xs) entry-is j h) (inv .4)
+      let a = s i .args in
+      let rs = now (a .records) in
+      stands-corner (a .m) (a .n) (orders-some ok) (cellCoefficient (a .m) (a .n) (a .l) rs) (ok .axes-low) (ok .axes-high) k (corner i) (at zs)
+      (i .before .loop .out) (rw (inv .2) (count-low ok))
+      (λ j h. c .convert .ensures .0 .is j h ∙ block-is ok (a .l) rs (s i .pre .0 .1) k (corner i) (at xs) entry-is j h) (inv .3)
 
 loop-holds : tie.Need-loop-holds Inv-loop μ-loop
 loop-holds c =
     let a = c .before .args in
     let p = c .before .pre in
-    let f = wanted (a .m) (a .n) (a .l) (now (a .records)) in
-    (zero-le, refl, refl, p .1 .1, subst (λ (i : ℕ). Stands (a .m) (a .n) f i (a .out .now)) (sym (mul-zero (a .m ^ a .n))) (stands-none (a .m) (a .n) (orders-some (p .0 .0)) f (a .out .now) (p .1 .0)))
+    let f = cellCoefficient (a .m) (a .n) (a .l) (now (a .records)) in (
+      refl,
+      refl,
+      p .1 .1,
+      subst (λ (i : ℕ). Filled (a .m) (a .n) f i (a .out .now)) (sym (mul-zero (a .m ^ a .n)))
+          (stands-none (a .m) (a .n) (orders-some (p .0 .0)) f (a .out .now) (p .1 .0)),
+      zero-le,
+    )
 
 load-requires : tie.Need-load-requires Inv-loop μ-loop
 load-requires c κs =
@@ -73,20 +83,25 @@ load-requires c κs =
     let h = s i .pre .0 .1 .inside (i .before .loop .c) (corner i) in
     let e = c .before .corner-start .ensures in
     let g = s i .pre .0 .0 .groups-are in
-    (size-low (s i .pre .0 .0), omega arith, i .before .loop .inv .1)
+    (size-low (s i .pre .0 .0), omega arith, i .before .loop .inv .0)
 
 convert-requires : tie.Need-convert-requires Inv-loop μ-loop
 convert-requires c κs =
     let d = c .before .before in
     let i = d .before .before .before in
     let ok = s i .pre .0 .0 in
-    ((ok, λ j h. d .load .ensures .1 j (in-groups ok j h)), (d .load .ensures .0 .long, i .before .loop .inv .2))
+    ((ok, λ j h. d .load .ensures .1 j (in-groups ok j h)), (d .load .ensures .0 .long, i .before .loop .inv .1))
 
 loop-again : tie.Need-loop-again Inv-loop μ-loop
 loop-again c =
     let d = c .before .before .before in
-    let w = i d .before .loop in
-    (omega arith, d .convert .ensures .1 .0, d .convert .ensures .0 .long, ap length (c .store .ensures) ∙ scatter-length _ _ _ _ ∙ w .inv .3, rw (c .store .ensures) (more d))
+    let w = i d .before .loop in (
+      d .convert .ensures .1 .0,
+      d .convert .ensures .0 .long,
+      ap length (c .store .ensures) ∙ scatter-length _ _ _ _ ∙ w .inv .2,
+      rw (c .store .ensures) (more d),
+      omega arith,
+    )
 
 returns : tie.Need-returns Inv-loop μ-loop
 returns c K l =
@@ -94,8 +109,9 @@ returns c K l =
     let a = st .args in
     let w = c .before .loop in
     let e : w .c ≡ 2 ^ a .n = (let h = c .before .before .power .ensures in omega arith) in
-    let f = wanted (a .m) (a .n) (a .l) (now (a .records)) in
-    stands-all (a .m) (a .n) (orders-some (st .pre .0 .0)) f (w .out) (subst (λ (k : ℕ). Stands (a .m) (a .n) f (a .m ^ a .n * k) (w .out)) e (w .inv .4)) K l
+    let f = cellCoefficient (a .m) (a .n) (a .l) (now (a .records)) in
+    stands-all (a .m) (a .n) (orders-some (st .pre .0 .0)) f (w .out)
+    (subst (λ (k : ℕ). Filled (a .m) (a .n) f (a .m ^ a .n * k) (w .out)) e (w .inv .3)) K l
 
 pub fill-spec : {M : Type 1} → statement M
 fill-spec =

@@ -9,7 +9,7 @@ use Rattle.arith.proofs.Choices.{by-3}
 use Rattle.arith.proofs.Machine.{kept, kept-low}
 use Rattle.lattice.specs.Buffer.{at}
 use Rattle.hermite.proofs.DotLaws.{held}
-use Rattle.coefficients.specs.Blocks.{Within}
+use Rattle.coefficients.specs.Blocks.{AllWithin}
 use denote.Ref.{now}
 use borrow.Author.Needs.{needs}
 use Rattle.coefficients.proofs.group_at.Statement.{statement}
@@ -23,7 +23,7 @@ module _ (s : tie.Start) where
   number : (t : ℕ) → t < s .args .m → held (xs t) ≡ xs t
   number t l = kept (xs t) (2 ^ 50) (s .pre .3 t l) (lit< tt)
 
-  group : (z : ℕ → ℤ) → z 0 ≡ xs 0 → z 1 ≡ xs 1 → (2 < s .args .m → z 2 ≡ xs 2) → natAbs (z 2) ≤ 2 ^ 50 → ((t : ℕ) → t < s .args .m → z t ≡ xs t) × Within (2 ^ 50) 3 z
+  group : (z : ℕ → ℤ) → z 0 ≡ xs 0 → z 1 ≡ xs 1 → (2 < s .args .m → z 2 ≡ xs 2) → natAbs (z 2) ≤ 2 ^ 50 → ((t : ℕ) → t < s .args .m → z t ≡ xs t) × AllWithin (2 ^ 50) 3 z
   group z a b c low =
       let m2 = s .pre .0 in
       let m3 = s .pre .1 in

@@ -6,14 +6,15 @@ use Prim.Native.Nat.{ℕ, _≤_, _+_, _^_, _-_, _*_, zero-le}
 use native.Mathlib.Nat.{mul-zero, lt-of-lt-of-le}
 use native.Mathlib.Omega.{arith}
 use Rattle.lattice.specs.Buffer.{at}
-use Rattle.coefficients.specs.Blocks.{spot, scatter}
+use Rattle.coefficients.specs.Blocks.{coefficientIndex, scatter}
 use Rattle.coefficients.proofs.BlockLaws.{orders-some, entries-low, count-low, row-room}
 use Rattle.coefficients.proofs.SpotLaws.{spot-in, scatter-add}
+use Rattle.lattice.proofs.DigitsLaws.{next-group}
 use Rattle.coefficients.proofs.store.Statement.{statement}
 use Rattle.coefficients.proofs.store.Tie as tie
 
 abbrev Inv-loop : tie.InvT-loop
-Inv-loop m n r c zs out₀ g₀ out g = (g ≤ r) × (out ≡ scatter (m * g) (spot m c) (at zs) out₀)
+Inv-loop m n r c zs out₀ g₀ out g = (g ≤ r) × (out ≡ scatter (m * g) (coefficientIndex m c) (at zs) out₀)
 
 abbrev μ-loop : tie.MeasureT-loop
 μ-loop m n r c zs out₀ g₀ out g = r - g
@@ -28,7 +29,7 @@ module _ (c : tie.In-loop Inv-loop μ-loop) where
 
 loop-holds : tie.Need-loop-holds Inv-loop μ-loop
 unfolding scatter
-loop-holds c = (zero-le, ap (λ (k : ℕ). scatter k (spot (c .args .m) (c .args .c)) (at (c .args .zs .now)) (c .args .out .now)) (sym (mul-zero (c .args .m))))
+loop-holds c = (zero-le, ap (λ (k : ℕ). scatter k (coefficientIndex (c .args .m) (c .args .c)) (at (c .args .zs .now)) (c .args .out .now)) (sym (mul-zero (c .args .m))))
 
 store-row-requires : tie.Need-store-row-requires Inv-loop μ-loop
 store-row-requires c κs =
@@ -45,17 +46,21 @@ loop-again c =
     let i = c .before .before in
     let a = s i .args in
     let w = i .before .loop in
-    (omega arith, c .store-row .ensures ∙ ap (λ (xs : List ℤ). scatter (a .m) (λ t. spot (a .m) (a .c) (a .m * w .g + t)) (λ t. at (a .zs .now) (a .m * w .g + t)) xs) (w .inv .1) ∙ scatter-add (spot (a .m) (a .c)) (at (a .zs .now)) (a .out .now) (a .m * w .g) (a .m) ∙ ap (λ (k : ℕ). scatter k (spot (a .m) (a .c)) (at (a .zs .now)) (a .out .now)) (more (a .m) (w .g)))
-  where
-    more : (m g : ℕ) → m * g + m ≡ m * (g + 1)
-    more m g = omega arith
+    let place = coefficientIndex (a .m) (a .c) in
+    let before = a .m * w .g in (
+      omega arith,
+      c .store-row .ensures
+          ∙ ap (λ (xs : List ℤ). scatter (a .m) (λ t. place (before + t)) (λ t. at (a .zs .now) (before + t)) xs) (w .inv .1)
+          ∙ scatter-add place (at (a .zs .now)) (a .out .now) before (a .m)
+          ∙ ap (λ (k : ℕ). scatter k place (at (a .zs .now)) (a .out .now)) (next-group (a .m) (w .g)),
+    )
 
 returns : tie.Need-returns Inv-loop μ-loop
 returns c =
     let a = c .before .before .args in
     let w = c .before .loop in
     let e : w .g ≡ a .r = omega arith in
-    w .inv .1 ∙ ap (λ (k : ℕ). scatter k (spot (a .m) (a .c)) (at (a .zs .now)) (a .out .now)) (ap (λ (k : ℕ). a .m * k) e ∙ c .before .before .pre .0 .groups-are)
+    w .inv .1 ∙ ap (λ (k : ℕ). scatter k (coefficientIndex (a .m) (a .c)) (at (a .zs .now)) (a .out .now)) (ap (λ (k : ℕ). a .m * k) e ∙ c .before .before .pre .0 .groups-are)
 
 pub store-spec : {M : Type 1} → statement M
 store-spec =

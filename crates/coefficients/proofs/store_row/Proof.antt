@@ -11,13 +11,13 @@ use mir.Facts.{toZ-ofZ}
 use Rattle.arith.proofs.Abs.{sfits-abs}
 use Rattle.arith.proofs.Machine.{kept}
 use Rattle.lattice.specs.Buffer.{at}
-use Rattle.coefficients.specs.Blocks.{spot, scatter}
+use Rattle.coefficients.specs.Blocks.{coefficientIndex, scatter}
 use Rattle.coefficients.proofs.SpotLaws.{scatter-more}
 use Rattle.coefficients.proofs.store_row.Statement.{statement}
 use Rattle.coefficients.proofs.store_row.Tie as tie
 
 abbrev Inv-loop : tie.InvT-loop
-Inv-loop m c g zs out₀ p t₀ out t = (t ≤ m) × (out ≡ scatter t (λ j. spot m c (m * g + j)) (λ j. at zs (m * g + j)) out₀)
+Inv-loop m c g zs out₀ p t₀ out t = (t ≤ m) × (out ≡ scatter t (λ j. coefficientIndex m c (m * g + j)) (λ j. at zs (m * g + j)) out₀)
 
 abbrev μ-loop : tie.MeasureT-loop
 μ-loop m c g zs out₀ p t₀ out t = m - t
@@ -40,14 +40,14 @@ module _ (c : tie.In-loop Inv-loop μ-loop) where
   z-held = kept z (2 ^ 30) z-low (lit< tt)
 
 -- and where
-module _ (c : tie.After-counted Inv-loop μ-loop) where
+module _ (c : tie.After-coefficient-number Inv-loop μ-loop) where
   abbrev i : tie.In-loop Inv-loop μ-loop
   i = c .before .before
 
-  place-is : i .before .before .row-place .result + c .counted .result ≡ spot (s i .args .m) (s i .args .c) (s i .args .m * s i .args .g + t i)
-  place-is = sym (i .before .before .row-place .ensures .1 (t i) (i .loop-test .taken) ∙ ap (λ (k : ℕ). i .before .before .row-place .result + k) (sym (c .counted .ensures .0)))
+  place-is : i .before .before .row-place .result + c .coefficient-number .result ≡ coefficientIndex (s i .args .m) (s i .args .c) (s i .args .m * s i .args .g + t i)
+  place-is = sym (i .before .before .row-place .ensures .1 (t i) (i .loop-test .taken) ∙ ap (λ (k : ℕ). i .before .before .row-place .result + k) (sym (c .coefficient-number .ensures .0)))
 
-  place-low : i .before .before .row-place .result + c .counted .result < 216
+  place-low : i .before .before .row-place .result + c .coefficient-number .result < 216
   place-low = rw place-is (s i .pre .1 (t i) (i .loop-test .taken))
 
 loop-holds : tie.Need-loop-holds Inv-loop μ-loop
@@ -62,14 +62,14 @@ loop-again c =
     let j = i c in
     let a = s j .args in
     let w = j .before .loop in
-    (omega arith, scatter-more (λ k. spot (a .m) (a .c) (a .m * a .g + k)) (λ k. at (a .zs .now) (a .m * a .g + k)) (a .out .now) (w .out) (w .t) _ _ (w .inv .1) (place-is c) (ap (λ y. toZ w32 (ofZ w32 y)) (z-held j) ∙ toZ-ofZ (sfits-abs {w = w32} (z j) (let h = z-low j in omega arith))))
+    (omega arith, scatter-more (λ k. coefficientIndex (a .m) (a .c) (a .m * a .g + k)) (λ k. at (a .zs .now) (a .m * a .g + k)) (a .out .now) (w .out) (w .t) _ _ (w .inv .1) (place-is c) (ap (λ y. toZ w32 (ofZ w32 y)) (z-held j) ∙ toZ-ofZ (sfits-abs {w = w32} (z j) (let h = z-low j in omega arith))))
 
 returns : tie.Need-returns Inv-loop μ-loop
 returns c =
     let a = c .before .before .before .args in
     let w = c .before .loop in
     let e : w .t ≡ a .m = omega arith in
-    w .inv .1 ∙ ap (λ (k : ℕ). scatter k (λ j. spot (a .m) (a .c) (a .m * a .g + j)) (λ j. at (a .zs .now) (a .m * a .g + j)) (a .out .now)) e
+    w .inv .1 ∙ ap (λ (k : ℕ). scatter k (λ j. coefficientIndex (a .m) (a .c) (a .m * a .g + j)) (λ j. at (a .zs .now) (a .m * a .g + j)) (a .out .now)) e
 
 pub store-row-spec : {M : Type 1} → statement M
 store-row-spec =

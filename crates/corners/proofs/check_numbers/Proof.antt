@@ -3,7 +3,7 @@ use lib.Dec.{leb, eqb}
 use Rattle.lattice.specs.Outcome.{refuseUnless}
 use Rattle.lattice.specs.Shape.{ordersOf}
 use Rattle.coefficients.specs.Corners.{coefficientCount}
-use Rattle.lattice.specs.Answer.{meaning}
+use Rattle.lattice.specs.Answers.{outcomeOf}
 use Rattle.lattice.specs.Outcome.{Check, done, first}
 use Rattle.lattice.specs.Shape.{axesOutcome, degreeOutcome}
 use Rattle.lattice.proofs.OutcomeLaws.{refused-first, first-passed, first-done, first-assoc}
@@ -24,11 +24,11 @@ unfolding numbersOutcome lengthsOf
 regroup n degree given room = sym (first-assoc (axesOutcome n) (degreeOutcome degree) (lengthsOf n degree given room))
 
 -- 1 and 2
-kind-is : (c : tie.After-earlier) → meaning (c .earlier .result) ≡ first (axesOutcome (c .before .before .before .args .axes)) (degreeOutcome (c .before .before .before .args .degree))
+kind-is : (c : tie.After-earlier) → outcomeOf (c .earlier .result) ≡ first (axesOutcome (c .before .before .before .args .axes)) (degreeOutcome (c .before .before .before .args .degree))
 kind-is c = c .earlier .ensures ∙ ap₂ first (c .before .before .check-axes .ensures) (c .before .check-degree .ensures)
 
 kind-done : (c : tie.After-enum-told2) → first (axesOutcome (c .before .before .before .before .before .args .axes)) (degreeOutcome (c .before .before .before .before .before .args .degree)) ≡ done tt
-kind-done c = sym (kind-is (c .before .before)) ∙ ap meaning (c .enum-told2 .given .1)
+kind-done c = sym (kind-is (c .before .before)) ∙ ap outcomeOf (c .enum-told2 .given .1)
 
 enum-told : tie.Need-enum-told
 enum-told c = search needs
@@ -36,7 +36,7 @@ enum-told c = search needs
 returns : tie.Need-returns
 returns c =
     let a = c .before .before .before .before .before .args in
-    let e = ap meaning (c .enum-told .given .1) in
+    let e = ap outcomeOf (c .enum-told .given .1) in
     e ∙ sym (regroup (a .axes) (a .degree) (a .given) (a .room) ∙ refused-first (lengthsOf (a .axes) (a .degree) (a .given) (a .room)) (sym (kind-is (c .before .before)) ∙ e))
 
 check-lengths-requires : tie.Need-check-lengths-requires

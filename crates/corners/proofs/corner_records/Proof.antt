@@ -8,7 +8,7 @@ use lib.IntN.{ℤ}
 use lib.ListN.{length}
 use denote.Ref.{now}
 use Rattle.arith.specs.Int.{floorDiv}
-use Rattle.lattice.specs.Answer.{meaning}
+use Rattle.lattice.specs.Answers.{outcomeOf}
 use Rattle.lattice.specs.Outcome.{Check, done, firstOf}
 use Rattle.lattice.specs.Buffer.{at}
 use Rattle.lattice.proofs.OutcomeLaws.{firstOf-stops, firstOf-more, done-refused}
@@ -17,6 +17,7 @@ use Rattle.coefficients.proofs.BlockLaws.{size-low, corner-low, count-low}
 use Rattle.coefficients.proofs.SpotLaws.{scatter-length}
 use Rattle.corners.specs.Back.{blockTest, entryOf, entryTest}
 use Rattle.corners.proofs.BackLaws.{limits-hold, tests-are, filled, count-is, rows}
+use Rattle.lattice.proofs.DigitsLaws.{no-group}
 use borrow.Author.Needs.{needs}
 use Rattle.corners.proofs.corner_records.Statement.{statement}
 use Rattle.corners.proofs.corner_records.Tie as tie
@@ -26,13 +27,16 @@ abbrev row : ℕ → ℕ → List ℤ → ℕ → Check
 row m n cs c = firstOf (m ^ n) (λ k. entryTest m n cs (m ^ n * c + k))
 
 abbrev Inv-loop : tie.InvT-loop
-Inv-loop m n r cs out₀ limits corners xs₀ zs₀ c₀ out xs zs c = (c ≤ corners) × (length xs ≡ 27) × (length zs ≡ 27) × (length out ≡ 216) × (firstOf c (row m n cs) ≡ done tt) × ((i : ℕ) → i < m ^ n * c → at out i ≡ entryOf m n cs i)
+Inv-loop m n r cs out₀ limits corners xs₀ zs₀ c₀ out xs zs c =
+    (length xs ≡ 27)
+    × (length zs ≡ 27)
+    × (length out ≡ 216)
+    × (firstOf c (row m n cs) ≡ done tt)
+    × ((i : ℕ) → i < m ^ n * c → at out i ≡ entryOf m n cs i)
+    × (c ≤ corners)
 
 abbrev μ-loop : tie.MeasureT-loop
 μ-loop m n r cs out₀ limits corners xs₀ zs₀ c₀ out xs zs c = corners - c
-
-none : (i e : ℕ) → i < e * 0 → ⊥
-none i e h = omega arith
 
 module _ (c : tie.In-loop Inv-loop μ-loop) where
   abbrev S : tie.Start Inv-loop μ-loop
@@ -69,28 +73,34 @@ module _ (c : tie.After-store Inv-loop μ-loop) where
   abbrev s : tie.Start Inv-loop μ-loop
   s = S (i d)
 
-  tested : row (s .args .m) (s .args .n) (now (s .args .cs)) (k d) ≡ meaning (c .store .result)
+  tested : row (s .args .m) (s .args .n) (now (s .args .cs)) (k d) ≡ outcomeOf (c .store .result)
   tested =
-      sym (subst (λ (e : ℕ). meaning (c .store .result) ≡ firstOf e (blockTest (s .args .n) (limits d) (at (zs d)))) (s .pre .0 .groups-are) (c .store .ensures .0)
+      sym (subst (λ (e : ℕ). outcomeOf (c .store .result) ≡ firstOf e (blockTest (s .args .n) (limits d) (at (zs d)))) (s .pre .0 .groups-are) (c .store .ensures .0)
       ∙ tests-are (s .pre .0) (limits d) (i d .before .before .before .entry-limits .ensures) (now (s .args .cs)) (k d) (corner (i d)) (at (xs d)) (at (zs d)) (gathered d .gather .ensures .is) (d .convert .ensures .0 .is))
 
   abbrev out : List ℤ
   out = c .store .last .1 .1 .1 .1 .1 .0
 
-  written : meaning (c .store .result) ≡ done tt → out ≡ scatter (s .args .m ^ s .args .n) (λ j. s .args .m ^ s .args .n * k d + j) (λ j. floorDiv (at (zs d) j) (2 ^ s .args .n)) (i d .before .loop .out)
+  written : outcomeOf (c .store .result) ≡ done tt → out ≡ scatter (s .args .m ^ s .args .n) (λ j. s .args .m ^ s .args .n * k d + j) (λ j. floorDiv (at (zs d) j) (2 ^ s .args .n)) (i d .before .loop .out)
   written e = subst (λ (q : ℕ). out ≡ scatter q (λ j. q * k d + j) (λ j. floorDiv (at (zs d) j) (2 ^ s .args .n)) (i d .before .loop .out)) (s .pre .0 .groups-are) (c .store .ensures .1 e)
 
-  entries : meaning (c .store .result) ≡ done tt → (j : ℕ) → j < s .args .m ^ s .args .n * (k d + 1) → at out j ≡ entryOf (s .args .m) (s .args .n) (now (s .args .cs)) j
+  entries : outcomeOf (c .store .result) ≡ done tt → (j : ℕ) → j < s .args .m ^ s .args .n * (k d + 1) → at out j ≡ entryOf (s .args .m) (s .args .n) (now (s .args .cs)) j
   entries e j h =
+      let l = i d .before in
       ap (λ (ys : List ℤ). at ys j) (written e)
-      ∙ filled (s .pre .0) (limits d) (i d .before .before .before .entry-limits .ensures) (now (s .args .cs)) (k d) (corner (i d)) (at (xs d)) (at (zs d)) (gathered d .gather .ensures .is) (d .convert .ensures .0 .is) (i d .before .loop .out) (rw (i d .before .loop .inv .3) (count-low (s .pre .0))) (i d .before .loop .inv .5) j h
+      ∙ filled (s .pre .0) (limits d) (l .before .before .entry-limits .ensures) (now (s .args .cs)) (k d) (corner (i d))
+      (at (xs d)) (at (zs d)) (gathered d .gather .ensures .is) (d .convert .ensures .0 .is) (l .loop .out)
+      (rw (l .loop .inv .2) (count-low (s .pre .0))) (l .loop .inv .4) j h
 
 loop-holds : tie.Need-loop-holds Inv-loop μ-loop
 unfolding firstOf
-loop-holds c = let s = c .before .before in (zero-le, refl, refl, s .pre .2, refl, λ i l. absurd (none i (s .args .m ^ s .args .n) l))
+loop-holds c = let s = c .before .before in (refl, refl, s .pre .2, refl, λ i l. absurd (no-group (s .args .m ^ s .args .n) i l), zero-le)
 
 convert-requires : tie.Need-convert-requires Inv-loop μ-loop
-convert-requires c κs = let g = c .before .before in let j = g .before .before in ((S j .pre .0, g .gather .ensures .low), (g .gather .ensures .long, j .before .loop .inv .2))
+convert-requires c κs =
+    let g = c .before .before in
+    let j = g .before .before in
+    ((S j .pre .0, g .gather .ensures .low), (g .gather .ensures .long, j .before .loop .inv .1))
 
 store-requires : tie.Need-store-requires Inv-loop μ-loop
 store-requires c κs =
@@ -102,22 +112,23 @@ returns : tie.Need-returns Inv-loop μ-loop
 returns c =
     let w = c .before .before in
     let a = s w .args in
-    let e = ap meaning (c .enum-told .given .1) in
-    let stop = e ∙ sym (rows (a .m) (a .n) (now (a .cs)) ∙ firstOf-stops (2 ^ a .n) (k (d w)) (row (a .m) (a .n) (now (a .cs))) _ _ (corner (i (d w))) (i (d w) .before .loop .inv .4) (tested w ∙ e)) in
-    (stop, λ h. absurd (done-refused _ _ _ h e))
+    let e = ap outcomeOf (c .enum-told .given .1) in
+    let rest = row (a .m) (a .n) (now (a .cs)) in
+    let stop = firstOf-stops (2 ^ a .n) (k (d w)) rest _ _ (corner (i (d w))) (i (d w) .before .loop .inv .3) (tested w ∙ e) in
+    (e ∙ sym (rows (a .m) (a .n) (now (a .cs)) ∙ stop), λ h. absurd (done-refused _ _ _ h e))
 
 loop-again : tie.Need-loop-again Inv-loop μ-loop
 loop-again c =
     let w = c .before .before in
     let a = s w .args in
     let l = i (d w) .before .loop in
-    let e = ap meaning (c .enum-told2 .given .1) in (
-      omega arith,
+    let e = ap outcomeOf (c .enum-told2 .given .1) in (
       d w .convert .ensures .1 .0,
       d w .convert .ensures .0 .long,
-      ap length (written w e) ∙ scatter-length _ _ _ _ ∙ l .inv .3,
-      firstOf-more (l .c) (row (a .m) (a .n) (a .cs .now)) (l .inv .4) (tested w ∙ e),
+      ap length (written w e) ∙ scatter-length _ _ _ _ ∙ l .inv .2,
+      firstOf-more (l .c) (row (a .m) (a .n) (a .cs .now)) (l .inv .3) (tested w ∙ e),
       entries w e,
+      omega arith,
     )
 
 returns-2 : tie.Need-returns-2 Inv-loop μ-loop
@@ -126,8 +137,8 @@ returns-2 c =
     let a = st .args in
     let l = c .before .loop in
     let e : l .c ≡ 2 ^ a .n = (let h = c .before .before .power .ensures in omega arith) in (
-      sym (rows (a .m) (a .n) (now (a .cs)) ∙ subst (λ (k : ℕ). firstOf k (row (a .m) (a .n) (now (a .cs))) ≡ done tt) e (l .inv .4)),
-      λ h j q. l .inv .5 j (subst (λ (k : ℕ). j < a .m ^ a .n * k) (sym e) (subst (λ (k : ℕ). j < k) (count-is (a .m) (a .n)) q)),
+      sym (rows (a .m) (a .n) (now (a .cs)) ∙ subst (λ (k : ℕ). firstOf k (row (a .m) (a .n) (now (a .cs))) ≡ done tt) e (l .inv .3)),
+      λ h j q. l .inv .4 j (subst (λ (k : ℕ). j < a .m ^ a .n * k) (sym e) (subst (λ (k : ℕ). j < k) (count-is (a .m) (a .n)) q)),
     )
 
 pub corner-records-spec : {M : Type 1} → statement M
@@ -139,7 +150,7 @@ corner-records-spec =
     (λ c κs. (c .pre .0 .orders-low, c .pre .0 .orders-high))
     (λ c κs. (lit≤ tt, c .before .pre .0 .axes-high))
     loop-holds
-    (λ c κs. let j = c .before in (S j .pre .0, corner j, S j .pre .1, j .before .loop .inv .1))
+    (λ c κs. let j = c .before in (S j .pre .0, corner j, S j .pre .1, j .before .loop .inv .0))
     convert-requires
     (λ c. let h = size-low (S (i c) .pre .0) in omega arith)
     store-requires

@@ -5,7 +5,7 @@ use Prim.Native.Nat.{ℕ, _≤_, _<_}
 use lib.IntN.{ℤ}
 use lib.ListN.{length}
 use denote.Ref.{now}
-use Rattle.lattice.specs.Answer.{meaning}
+use Rattle.lattice.specs.Answers.{outcomeOf}
 use Rattle.lattice.specs.Outcome.{done}
 use Rattle.lattice.specs.Buffer.{at, tabulate, overwrite}
 use Rattle.lattice.specs.Shape.{ordersOf}
@@ -29,7 +29,7 @@ module _ (c : tie.After-enum-told2) where
   S = c .before .before .before
 
   passed : numbersOutcome (S .args .axes) (S .args .degree) (length (now (S .args .coefficients))) (length (now (S .args .out))) ≡ done tt
-  passed = sym (c .before .before .check-numbers .ensures) ∙ ap meaning (c .enum-told2 .given .1)
+  passed = sym (c .before .before .check-numbers .ensures) ∙ ap outcomeOf (c .enum-told2 .given .1)
 
   facts : Numbered (S .args .axes) (S .args .degree) (length (now (S .args .coefficients))) (length (now (S .args .out)))
   facts = numbered (S .args .axes) (S .args .degree) (length (now (S .args .coefficients))) (length (now (S .args .out))) passed
@@ -45,7 +45,7 @@ module _ (c : tie.After-records-of) where
   abbrev m-is : c .before .before .orders .result ≡ ordersOf (S two .args .degree)
   m-is = c .before .before .orders .ensures
 
-  last : backOutcome (S two .args .axes) (S two .args .degree) (now (S two .args .coefficients)) (length (now (S two .args .out))) ≡ meaning (c .records-of .result)
+  last : backOutcome (S two .args .axes) (S two .args .degree) (now (S two .args .coefficients)) (length (now (S two .args .out))) ≡ outcomeOf (c .records-of .result)
   unfolding backOutcome
   last =
       first-passed (numbersOutcome (S two .args .axes) (S two .args .degree) (length (now (S two .args .coefficients))) (length (now (S two .args .out)))) _ (passed two)
@@ -54,7 +54,7 @@ module _ (c : tie.After-records-of) where
   abbrev xs : List ℤ
   xs = c .records-of .last .1 .1 .1 .0
 
-  list-is : meaning (c .records-of .result) ≡ done tt → tabulate (coefficientCount (ordersOf (S two .args .degree)) (S two .args .axes)) (at xs) ≡ entryList (ordersOf (S two .args .degree)) (S two .args .axes) (now (S two .args .coefficients))
+  list-is : outcomeOf (c .records-of .result) ≡ done tt → tabulate (coefficientCount (ordersOf (S two .args .degree)) (S two .args .axes)) (at xs) ≡ entryList (ordersOf (S two .args .degree)) (S two .args .axes) (now (S two .args .coefficients))
   unfolding entryList
   list-is e =
       tabulate-same (coefficientCount (ordersOf (S two .args .degree)) (S two .args .axes)) (at xs) (entryOf (ordersOf (S two .args .degree)) (S two .args .axes) (now (S two .args .coefficients)))
@@ -65,7 +65,7 @@ unfolding backOutcome backWrites
 returns c =
     let w = c .before .before in
     let a = w .before .args in
-    let e = ap meaning (c .enum-told .given .1) in
+    let e = ap outcomeOf (c .enum-told .given .1) in
     let h = refused-first (possibleOutcome (ordersOf (a .degree)) (a .axes) (now (a .coefficients))) (sym (w .check-numbers .ensures) ∙ e) in
     (e ∙ sym h, when-refused (written (w .before)) (now (a .out)) h)
 
@@ -79,7 +79,7 @@ records-of-requires c κs =
 
 returns-2 : tie.Need-returns-2
 unfolding backWrites
-returns-2 c = let w = c .before .before in let s = S (two w) in (sym (last w), when-refused (written s) (now (s .args .out)) (last w ∙ ap meaning (c .enum-told3 .given .1)))
+returns-2 c = let w = c .before .before in let s = S (two w) in (sym (last w), when-refused (written s) (now (s .args .out)) (last w ∙ ap outcomeOf (c .enum-told3 .given .1)))
 
 copy-out-requires : tie.Need-copy-out-requires
 copy-out-requires c κs = let n = c .before .before in let e = n .coefficient-count .ensures in (e .1, rw (e .0) (facts (two (n .before .before .before)) .roomy))
@@ -91,7 +91,7 @@ returns-3 c =
     let w = n .before .before .before in
     let s = S (two w) in
     let a = s .args in
-    let e = ap meaning (n .before .enum-told4 .given .1) in (
+    let e = ap outcomeOf (n .before .enum-told4 .given .1) in (
       sym (last w),
       c .before .copy-out .ensures ∙ ap (λ (k : ℕ). overwrite (tabulate k (at (xs w))) (now (a .out))) (n .coefficient-count .ensures .0) ∙ ap (λ (ys : List ℤ). overwrite ys (now (a .out))) (list-is w e) ∙ when-done (written s) (now (a .out)) (last w ∙ e),
     )

@@ -1,10 +1,11 @@
 -- `corners::gather` meets its contract: row after row, the array is filled from the front.
 use mathlib.Core.Path.{_≡_, ap, subst, _∙_}
-use Prim.Native.Nat.{ℕ, _≤_, _<_, _+_, _^_, _-_, _*_, zero-le}
+use Prim.Native.Nat.{ℕ, _≤_, _+_, _^_, _-_, _*_, zero-le}
 use native.Mathlib.Omega.{arith}
 use Rattle.coefficients.proofs.BlockLaws.{orders-some, entries-low, row-room}
 use Rattle.coefficients.proofs.SpotLaws.{spot-in}
 use Rattle.corners.specs.Back.{Gathers}
+use Rattle.lattice.proofs.DigitsLaws.{no-group, next-group}
 use Rattle.corners.proofs.gather.Statement.{statement}
 use Rattle.corners.proofs.gather.Tie as tie
 
@@ -22,11 +23,10 @@ module _ (c : tie.In-loop Inv-loop μ-loop) where
   room : s .args .m * c .before .loop .g + s .args .m ≤ s .args .m ^ s .args .n
   room = row-room (s .pre .0) (c .before .loop .g) (c .loop-test .taken)
 
-none : (m j : ℕ) → j < m * 0 → ⊥
-none m j h = omega arith
-
 loop-holds : tie.Need-loop-holds Inv-loop μ-loop
-loop-holds c = (zero-le, record { long = c .pre .3; is = λ j h. absurd (none (c .args .m) j h); low = λ j h. absurd (none (c .args .m) j h) })
+loop-holds c =
+    let none = no-group (c .args .m) in
+    (zero-le, record { long = c .pre .3; is = λ j h. absurd (none j h); low = λ j h. absurd (none j h) })
 
 gather-row-requires : tie.Need-gather-row-requires Inv-loop μ-loop
 gather-row-requires c κs =
@@ -38,10 +38,7 @@ gather-row-requires c κs =
     ((ok .orders-low, ok .orders-high, omega arith), (λ t l. rw (s i .pre .2) (spot-in (a .m) (a .n) (orders-some ok) (a .c) (a .m * i .before .loop .g + t) (s i .pre .1) (omega arith) (ok .axes-low) (ok .axes-high)), i .before .loop .inv .1))
 
 loop-again : tie.Need-loop-again Inv-loop μ-loop
-loop-again c = let i = c .before .before in (omega arith, rw (more (s i .args .m) (i .before .loop .g)) (c .gather-row .ensures))
-  where
-    more : (m g : ℕ) → m * (g + 1) ≡ m * g + m
-    more m g = omega arith
+loop-again c = let i = c .before .before in (omega arith, rw (← next-group (s i .args .m) (i .before .loop .g)) (c .gather-row .ensures))
 
 returns : tie.Need-returns Inv-loop μ-loop
 returns c =

@@ -7,7 +7,7 @@ use lib.Dec.{lit<}
 use lib.ListN.{length}
 use Rattle.arith.proofs.Machine.{widen-fits, widened, near}
 use Rattle.lattice.specs.Buffer.{at}
-use Rattle.coefficients.specs.Blocks.{spot}
+use Rattle.coefficients.specs.Blocks.{coefficientIndex}
 use Rattle.corners.specs.Back.{Gathers}
 use Rattle.corners.proofs.BackLaws.{gathers-more}
 use Rattle.corners.proofs.gather_row.Statement.{statement}
@@ -20,7 +20,7 @@ abbrev μ-loop : tie.MeasureT-loop
 μ-loop m c g cs xs₀ p t₀ xs t = m - t
 
 -- where the next coefficient stands
-module _ (c : tie.After-counted Inv-loop μ-loop) where
+module _ (c : tie.After-coefficient-number Inv-loop μ-loop) where
   abbrev i : tie.In-loop Inv-loop μ-loop
   i = c .before
 
@@ -31,16 +31,16 @@ module _ (c : tie.After-counted Inv-loop μ-loop) where
   t = i .before .loop .t
 
   abbrev place : ℕ
-  place = i .before .before .row-place .result + c .counted .result
+  place = i .before .before .row-place .result + c .coefficient-number .result
 
-  place-is : place ≡ spot (s .args .m) (s .args .c) (s .args .m * s .args .g + t)
-  place-is = sym (i .before .before .row-place .ensures .1 t (i .loop-test .taken) ∙ ap (λ (k : ℕ). i .before .before .row-place .result + k) (sym (c .counted .ensures .0)))
+  place-is : place ≡ coefficientIndex (s .args .m) (s .args .c) (s .args .m * s .args .g + t)
+  place-is = sym (i .before .before .row-place .ensures .1 t (i .loop-test .taken) ∙ ap (λ (k : ℕ). i .before .before .row-place .result + k) (sym (c .coefficient-number .ensures .0)))
 
   place-low : place < length (s .args .cs .now)
   place-low = rw place-is (s .pre .1 .0 t (i .loop-test .taken))
 
   small : place ≤ 258
-  small = let p = i .before .before .row-place .ensures .0 in let q = c .counted .ensures .1 in let m3 = s .pre .0 .1 in omega arith
+  small = let p = i .before .before .row-place .ensures .0 in let q = c .coefficient-number .ensures .1 in let m3 = s .pre .0 .1 in omega arith
 
 loop-holds : tie.Need-loop-holds Inv-loop μ-loop
 loop-holds c = let a = c .before .args in (zero-le, subst (λ (k : ℕ). Gathers (a .m) (a .c) k (a .cs .now) (a .xs .now)) (sym (add-zero (a .m * a .g))) (c .before .pre .1 .1))

@@ -13,10 +13,10 @@ use mir.Facts.{toZ-ofZ}
 use borrow.Author.Tests.{leb-true, eqb-true}
 use Rattle.arith.specs.Int.{floorDiv}
 use Rattle.arith.proofs.Abs.{sfits-abs}
-use Rattle.arith.proofs.Choices.{and-true}
+use Rattle.arith.proofs.Choices.{and-true, clash}
 use Rattle.arith.proofs.Machine.{kept, element, near}
 use Rattle.arith.proofs.Round.{whole-is, size-of}
-use Rattle.lattice.specs.Answer.{meaning}
+use Rattle.lattice.specs.Answers.{outcomeOf}
 use Rattle.lattice.specs.Outcome.{done, refuseUnless, firstOf}
 use Rattle.lattice.specs.Buffer.{at}
 use Rattle.lattice.proofs.OutcomeLaws.{firstOf-stops, firstOf-more, done-refused}
@@ -45,7 +45,7 @@ quotient-low n limit z h =
 -- a limit of 32 bits
 limit-low : (x : ℤ) → nonNeg x ≡ true → mag x < 2 ^ 31 → natAbs x < 2 ^ 31
 limit-low (pos n) e h = h
-limit-low (negsuc n) e h = let z : _≡_ {A = ℕ} 0 1 = cc in absurd (omega arith)
+limit-low (negsuc n) e h = clash (cc)
 
 -- where the entries stand
 place : (size c k : ℕ) → size ≤ 27 → c < 8 → k < size → size * c + k < 216
@@ -116,7 +116,7 @@ returns c =
     let w = c .before .before in
     let s = S (a w) in
     let stop = c .refuse-unless .ensures ∙ sym (firstOf-stops (s .args .size) (k (a w)) (blockTest (n w) (s .args .limits .now) (at (s .args .zs .now))) 13 0 (i (a w) .loop-test .taken) (i (a w) .before .loop .inv .1) (ap (λ (b : Bool). refuseUnless b 13 0) (sym (test-is w) ∙ c .before .if1 .left))) in
-    (stop, λ e. absurd (done-refused (meaning (c .refuse-unless .result)) 13 0 e (c .refuse-unless .ensures)))
+    (stop, λ e. absurd (done-refused (outcomeOf (c .refuse-unless .result)) 13 0 e (c .refuse-unless .ensures)))
 
 loop-again : tie.Need-loop-again Inv-loop μ-loop
 loop-again c =

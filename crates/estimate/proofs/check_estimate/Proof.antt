@@ -1,51 +1,73 @@
--- `estimate::check_estimate` meets its contract: the shape is tested first, since the other tests need it; the rest is one expression.
-use mathlib.Core.Path.{_≡_, sym, ap, ap₂, _∙_}
-use Prim.Native.Nat.{ℕ}
+-- `estimate::check_estimate` meets its contract: 1, 2 and 3 from the shape, then 4, 9 and 5; each stops at a refusal.
+use mathlib.Core.Path.{_≡_, sym, ap, _∙_}
 use lib.Dec.{leb, eqb}
 use lib.ListN.{length}
 use borrow.Author.Needs.{needs}
-use Rattle.lattice.specs.Outcome.{Check, refuseUnless, first}
-use Rattle.lattice.specs.Answer.{meaning}
-use Rattle.lattice.specs.Shape.{nodes, size, Shaped}
-use Rattle.lattice.specs.Records.{limitOutcome}
+use Rattle.lattice.specs.Outcome.{done, refuseUnless, first}
+use Rattle.lattice.specs.Answers.{outcomeOf}
+use Rattle.lattice.specs.Shape.{shapeOutcome}
+use Rattle.lattice.specs.Records.{sampleLimit, limitOutcome}
 use Rattle.lattice.proofs.OutcomeLaws.{refused-first, first-passed}
 use Rattle.lattice.proofs.ShapeLaws.{shaped}
 use Rattle.estimate.specs.Estimate.{estimateOutcome}
 use Rattle.estimate.proofs.check_estimate.Statement.{statement}
 use Rattle.estimate.proofs.check_estimate.Tie as tie
 
--- the shape is not refused
-told : (c : tie.After-enum-told2) → Shaped (c .before .before .before .args .s)
-told c = shaped (c .before .before .before .args .s) (sym (c .before .before .check-shape .ensures) ∙ ap meaning (c .enum-told2 .given .1))
+shape-passes : (c : tie.After-enum-told2) → shapeOutcome (c .before .before .before .args .s) ≡ done tt
+shape-passes c = sym (c .before .before .check-shape .ensures) ∙ ap outcomeOf (c .enum-told2 .given .1)
+
+-- 4, 9 and 5, with the numbers of nodes and entries as the code finds them
+rest : (c : tie.After-table-entries)
+    → let a = c .before .before .before .before .before .args in
+    first (refuseUnless (eqb (length (a .samples .now)) (c .before .node-count .result)) 4 0)
+    (first (refuseUnless (leb (c .table-entries .result) (a .room)) 9 0) (limitOutcome 5 sampleLimit (a .samples .now)))
+    ≡ estimateOutcome (a .s) (a .samples .now) (a .room)
+unfolding estimateOutcome
+rest c = rw (c .table-entries .ensures, c .before .node-count .ensures) (sym (first-passed _ _ (shape-passes (c .before .before))))
 
 returns : tie.Need-returns
 unfolding estimateOutcome
-returns c =
-    let g = ap meaning (c .enum-told .given .1) in
-    g ∙ sym (refused-first _ (sym (c .before .before .check-shape .ensures) ∙ g))
+returns c = let g = ap outcomeOf (c .enum-told .given .1) in g ∙ sym (refused-first _ (sym (c .before .before .check-shape .ensures) ∙ g))
 
 returns-2 : tie.Need-returns-2
-unfolding estimateOutcome
 returns-2 c =
-    let b = c .before .before .before .before .before .before .before in
-    let a = b .before .before .before .args in
-    let counted = c .before .before .before .before .before in
-    let roomy = c .before .before .before in
-    let rest : Check = first (refuseUnless (eqb (length (a .samples .now)) (nodes (a .s))) 4 0) (first (refuseUnless (leb (size (a .s)) (a .room)) 9 0) (limitOutcome 32768 (a .samples .now))) in
-    let e : meaning (c .earlier2 .result) ≡ rest = c .earlier2 .ensures
-    ∙ ap₂ first (counted .refuse-unless .ensures ∙ ap (λ (n : ℕ). refuseUnless (eqb (length (a .samples .now)) n) 4 0) (counted .before .node-count .ensures))
-    (c .before .earlier .ensures ∙ ap₂ first (roomy .refuse-unless2 .ensures ∙ ap (λ (n : ℕ). refuseUnless (leb n (a .room)) 9 0) (roomy .before .table-entries .ensures)) (c .before .before .check-limit .ensures)) in
-    e ∙ sym (first-passed _ rest (sym (b .before .before .check-shape .ensures) ∙ ap meaning (b .enum-told2 .given .1)))
+    let g = ap outcomeOf (c .enum-told3 .given .1) in
+    let four = c .before .before in
+    g ∙ sym (refused-first _ (sym (four .refuse-unless .ensures) ∙ g)) ∙ rest (four .before)
+
+returns-3 : tie.Need-returns-3
+returns-3 c =
+    let g = ap outcomeOf (c .enum-told5 .given .1) in
+    let nine = c .before .before in
+    let four = nine .before .before .before in
+    let counted = sym (four .refuse-unless .ensures) ∙ ap outcomeOf (nine .before .enum-told4 .given .1) in
+    g ∙ sym (first-passed _ _ counted ∙ refused-first _ (sym (nine .refuse-unless2 .ensures) ∙ g)) ∙ rest (four .before)
+
+returns-4 : tie.Need-returns-4
+returns-4 c =
+    let nine = c .before .before .before in
+    let four = nine .before .before .before in
+    let counted = sym (four .refuse-unless .ensures) ∙ ap outcomeOf (nine .before .enum-told4 .given .1) in
+    let roomy = sym (nine .refuse-unless2 .ensures) ∙ ap outcomeOf (c .before .enum-told6 .given .1) in
+    c .check-limit .ensures ∙ sym (first-passed _ _ counted ∙ first-passed _ _ roomy) ∙ rest (four .before)
 
 pub check-estimate-spec : {M : Type 1} → statement M
 check-estimate-spec =
     tie.close
     (tie.spec
-    (λ c κs. search needs) (λ c. search needs)
-    (λ c. search needs)
-    (λ c κs. told c)
     (λ c κs. search needs)
-    (λ c κs. told (c .before .before))
-    (λ c κs. search needs) (λ c κs. search needs) (λ c κs. search needs) (λ c κs. search needs)
+    (λ c. search needs)
     returns
-    returns-2)
+    (λ c. search needs)
+    (λ c κs. shaped _ (shape-passes c))
+    (λ c κs. shaped _ (shape-passes (c .before)))
+    (λ c κs. search needs)
+    (λ c. search needs)
+    returns-2
+    (λ c. search needs)
+    (λ c κs. search needs)
+    (λ c. search needs)
+    returns-3
+    (λ c. search needs)
+    (λ c κs. search needs)
+    returns-4)

@@ -1,23 +1,22 @@
 -- `evaluate::place_at` meets its contract: a number of the low end stands before the stride to the high one, one of the high end behind it.
-use mathlib.Core.Path.{_≡_, sym, ap, _∙_}
-use Prim.Native.Nat.{ℕ, _+_, _*_, _-_, _≤_, _<_}
+use mathlib.Core.Path.{_≡_, sym}
+use Prim.Native.Nat.{_+_, _*_, _-_, _≤_, _<_}
 use native.Mathlib.Omega.{arith}
-use Rattle.evaluate.specs.Stages.{offsetBy}
-use Rattle.evaluate.proofs.EndLaws.{offset-low, offset-high}
+use lib.Dec.{ltb}
+use borrow.Author.Tests.{lt-ltb, le-ltb}
+use Rattle.arith.proofs.Choices.{pick-true, pick-false}
+use Rattle.evaluate.specs.Stages.{placeOf}
 use Rattle.evaluate.proofs.place_at.Statement.{statement}
 use Rattle.evaluate.proofs.place_at.Tie as tie
 
 module _ (b : tie.Start) where
-  low : b .args .t < b .args .m → offsetBy (b .args .m) (b .args .near) (b .args .far) (b .args .t) ≡ b .args .t * b .args .near
-  low l = let a = b .args in offset-low (a .m) (a .near) (a .far) (a .t) l
+  low : b .args .t < b .args .m → placeOf (b .args .m) (b .args .order) (b .args .node) (b .args .t) ≡ b .args .t * b .args .order
+  unfolding placeOf
+  low l = let a = b .args in pick-true (ltb (a .t) (a .m)) _ _ (lt-ltb (a .t) (a .m) l)
 
-  high : b .args .m ≤ b .args .t → offsetBy (b .args .m) (b .args .near) (b .args .far) (b .args .t) ≡ b .args .far + (b .args .t - b .args .m) * b .args .near
-  high l =
-      let a = b .args in
-      ap (offsetBy (a .m) (a .near) (a .far)) (whole (a .m) (a .t) l) ∙ offset-high (a .m) (a .near) (a .far) (a .t - a .m) (let h = b .pre .0 in omega arith)
-    where
-      whole : (m t : ℕ) → m ≤ t → t ≡ m + (t - m)
-      whole m t l = omega arith
+  high : b .args .m ≤ b .args .t → placeOf (b .args .m) (b .args .order) (b .args .node) (b .args .t) ≡ b .args .node + (b .args .t - b .args .m) * b .args .order
+  unfolding placeOf
+  high l = let a = b .args in pick-false (ltb (a .t) (a .m)) _ _ (le-ltb (a .t) (a .m) l)
 
 pub place-at-spec : {M : Type 1} → statement M
 place-at-spec =

@@ -4,7 +4,7 @@ use mathlib.Core.List.{[], _∷_}
 use Prim.Native.Nat.{ℕ, zero, suc, _*_, _^_, _≤_, _<_}
 use native.Mathlib.Omega.{arith}
 use lib.ListN.{getD}
-use Rattle.evaluate.specs.Stages.{offsetBy}
+use Rattle.evaluate.specs.Stages.{placeOf}
 use Rattle.evaluate.proofs.places_of.Statement.{statement}
 use Rattle.evaluate.proofs.places_of.Tie as tie
 
@@ -23,7 +23,7 @@ module _ (f : ℕ → ℕ) (a b c d : ℕ) (ea : a ≡ f 0) (eb : b ≡ f 1) (ec
       none t n h l = omega arith
 
 module _ (b : tie.Start) (t : ℕ) where
-  asks : t < 2 * b .args .m → (t < 2 * b .args .m) × (offsetBy (b .args .m) (b .args .near) (b .args .far) t < 2 ^ 64)
+  asks : t < 2 * b .args .m → (t < 2 * b .args .m) × (placeOf (b .args .m) (b .args .order) (b .args .node) t < 2 ^ 64)
   asks l = (l, b .pre .2 t l)
 
   low : t < 4 → t < 2 * b .args .m
@@ -34,7 +34,7 @@ module _ (c : tie.After-place-at4) where
   start = c .before .before .before .before
 
   abbrev place : ℕ → ℕ
-  place = offsetBy (start .args .m) (start .args .near) (start .args .far)
+  place = placeOf (start .args .m) (start .args .order) (start .args .node)
 
   all : (e g : ℕ) → (4 < 2 * start .args .m → e ≡ place 4) → (5 < 2 * start .args .m → g ≡ place 5) → (t : ℕ) → t < 2 * start .args .m
       → getD (c .before .before .before .place-at .result ∷ c .before .before .place-at2 .result ∷ c .before .place-at3 .result ∷ c .place-at4 .result ∷ e ∷ g ∷ []) t 0 ≡ place t

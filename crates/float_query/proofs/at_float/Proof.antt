@@ -1,4 +1,4 @@
--- `float_query::at_float` meets its contract: the query by position at the held steps, told with 10 for 11, is the query by float.
+-- `float_query::at_float` meets its contract: the query by position at the held steps, with 10 for 11, is the query by float.
 use mathlib.Core.Path.{_≡_, sym, ap, _∙_}
 use mathlib.Core.Bool.{Bool}
 use mathlib.Core.List.{List}
@@ -9,12 +9,12 @@ use borrow.Author.Needs.{needs}
 use Rattle.lattice.specs.Outcome.{Outcome}
 use Rattle.evaluate.specs.Evaluate.{Want}
 use Rattle.evaluate.specs.Wants.{wanted}
-use Rattle.query.specs.Answers.{told}
+use Rattle.query.specs.Answers.{outcomeOfReading}
 use Rattle.query.specs.Queries.{positionAt, byPosition}
 use Rattle.float_query.specs.Floats.{floatsAt, finiteOn, withTen}
 use Rattle.float_query.specs.Answers.{inFloat}
 use Rattle.query.proofs.Locate.{by-position-small}
-use Rattle.float_query.proofs.FloatLaws.{Held, held, three-held, ten-done, by-float}
+use Rattle.float_query.proofs.FloatLaws.{HeldSteps, held, three-held, ten-done, by-float}
 use Rattle.float_query.proofs.at_float.Statement.{statement}
 use Rattle.float_query.proofs.at_float.Tie as tie
 
@@ -32,7 +32,7 @@ module _ (c : tie.After-with-ten) where
   start = x .before
 
   abbrev want : Want
-  want = wanted (start .args .slope-axis)
+  want = wanted (start .args .derivative)
 
   abbrev fin : ℕ → Bool
   fin = finiteOn (x .step-of .result) (y .step-of2 .result) (z .step-of3 .result)
@@ -44,10 +44,10 @@ module _ (c : tie.After-with-ten) where
   abbrev position : Outcome ℤ
   position = byPosition (start .args .s) (now (start .args .records)) want (positionAt steps)
 
-  told-is : told (c .with-ten .result) ≡ withTen fin position
+  told-is : outcomeOfReading (c .with-ten .result) ≡ withTen fin position
   told-is = c .with-ten .ensures ∙ ap (withTen fin) (c .before .at-position .ensures)
 
-  stands : Held (floatsAt (start .args .p)) fin (positionAt steps)
+  stands : HeldSteps (floatsAt (start .args .p)) fin (positionAt steps)
   unfolding floatsAt
   stands =
       let e = x .step-of .ensures in
@@ -66,7 +66,7 @@ returns : tie.Need-returns
 returns c =
     let d = c .before in
     let a = start d .args in
-    c .in-float .ensures (a .slope-axis .axis)
+    c .in-float .ensures (a .derivative .axis)
     ∙ ap (inFloat (want d)) (told-is d ∙ by-float (a .s) (now (a .records)) (want d) (floatsAt (a .p)) (fin d) (positionAt (steps d)) (stands d))
 
 pub at-float-spec : {M : Type 1} → statement M

@@ -1,8 +1,7 @@
 -- `float_query::in_float` meets its contract: each case says what the whole-number answer says, the number held by its float.
 use mathlib.Core.Path.{_≡_, sym, ap, subst, _∙_}
-use mathlib.Core.Bool.{Bool}
 use mathlib.Core.Option.{some}
-use Prim.Native.Nat.{_<_, _^_}
+use Prim.Native.Nat.{ℕ, _<_, _^_}
 use native.Mathlib.Nat.{lt-of-lt-of-le}
 use lib.Dec.{lit≤}
 use lib.IntN.{ℤ, natAbs}
@@ -13,7 +12,8 @@ use Rattle.arith.proofs.Abs.{sfits-abs}
 use Rattle.lattice.specs.Outcome.{done}
 use Rattle.evaluate.specs.Evaluate.{dose, slopeAlong}
 use Rattle.evaluate.specs.Wants.{wantOf}
-use Rattle.query.specs.Answers.{told}
+use Rattle.evaluate.proofs.AnswerLaws.{want-some}
+use Rattle.query.specs.Answers.{outcomeOfReading}
 use Rattle.float_query.specs.Answers.{asDose, asSlope, inFloat}
 use borrow.Author.Needs.{needs}
 use Rattle.float_query.proofs.in_float.Statement.{statement}
@@ -27,8 +27,8 @@ module _ (c : tie.After-known-told2) where
   abbrev v : ℤ
   v = c .before .a2 .given .0 .0
 
-  is : told (start .args .a) ≡ done v
-  is = ap told (c .before .a2 .given .1)
+  is : outcomeOfReading (start .args .a) ≡ done v
+  is = ap outcomeOfReading (c .before .a2 .given .1)
 
   small : natAbs v < 2 ^ 24
   small = start .pre v is
@@ -37,21 +37,21 @@ module _ (c : tie.After-known-told2) where
   read = toZ-ofZ {w = w32} (sfits-abs v (lt-of-lt-of-le small (lit≤ tt)))
 
 returns : tie.Need-returns
-returns c axis = let a = c .before .before .before .args in sym (ap (λ z. inFloat (wantOf (a .slope) axis) (told z)) (c .before .a .given .1))
+returns c axis = let a = c .before .before .before .args in sym (ap (λ z. inFloat (wantOf (a .order) axis) (outcomeOfReading z)) (c .before .a .given .1))
 
 returns-2 : tie.Need-returns-2
 returns-2 c axis =
     let k = c .before .before in
     let a = start k .args in
-    ap (λ z. done (asSlope z)) (c .before .whole .ensures ∙ ap some (read k))
-    ∙ sym (ap (λ (b : Bool). inFloat (wantOf b axis) (told (a .a))) (c .if1 .taken) ∙ ap (inFloat (slopeAlong axis)) (is k))
+    ap (λ z. done (asDose z)) (c .before .whole .ensures ∙ ap some (read k))
+    ∙ sym (ap (λ (o : ℕ). inFloat (wantOf o axis) (outcomeOfReading (a .a))) (c .if1 .taken) ∙ ap (inFloat dose) (is k))
 
 returns-3 : tie.Need-returns-3
 returns-3 c axis =
     let k = c .before .before in
     let a = start k .args in
-    ap (λ z. done (asDose z)) (c .before .whole .ensures ∙ ap some (read k))
-    ∙ sym (ap (λ (b : Bool). inFloat (wantOf b axis) (told (a .a))) (c .if1 .left) ∙ ap (inFloat dose) (is k))
+    ap (λ z. done (asSlope z)) (c .before .whole .ensures ∙ ap some (read k))
+    ∙ sym (ap (λ w. inFloat w (outcomeOfReading (a .a))) (want-some (a .order) axis (c .if1 .left)) ∙ ap (inFloat (slopeAlong axis)) (is k))
 
 pub in-float-spec : {M : Type 1} → statement M
 in-float-spec =

@@ -10,7 +10,7 @@ use borrow.Author.Needs.{needs}
 use Rattle.arith.specs.Choice.{pick}
 use Rattle.arith.proofs.Choices.{pick-true, pick-false, on-pick}
 use Rattle.lattice.specs.Outcome.{Outcome, refused}
-use Rattle.query.specs.Answers.{told}
+use Rattle.query.specs.Answers.{outcomeOfReading}
 use Rattle.float_query.specs.Floats.{finiteOn, withTen}
 use Rattle.float_query.proofs.with_ten.Statement.{statement}
 use Rattle.float_query.proofs.with_ten.Tie as tie
@@ -36,13 +36,13 @@ returns c =
     let a = k .before .before .args in
     let r = k .a .given .0 .0 in
     tens (finiteOn (a .x) (a .y) (a .z)) (r .number) (r .place) (d .before .if1 .taken) (sym (d .finite-on .ensures) ∙ not-true _ (c .if2 .taken))
-    ∙ sym (ap (λ z. withTen (finiteOn (a .x) (a .y) (a .z)) (told z)) (k .a .given .1))
+    ∙ sym (ap (λ z. withTen (finiteOn (a .x) (a .y) (a .z)) (outcomeOfReading z)) (k .a .given .1))
 
 returns-2 : tie.Need-returns-2
 unfolding withTen
 returns-2 c =
     let a = c .before .before .args in
-    let e = ap told (c .enum-told .given .1) in
+    let e = ap outcomeOfReading (c .enum-told .given .1) in
     e ∙ sym (ap (withTen (finiteOn (a .x) (a .y) (a .z))) e)
 
 returns-3 : tie.Need-returns-3
@@ -52,7 +52,7 @@ returns-3 c =
     let r = k .a .given .0 .0 in
     stays (finiteOn (a .x) (a .y) (a .z)) (r .number) (r .place)
     (λ e. ⊎-elim (λ w. sym (w .1 .ensures) ∙ not-false _ (w .2 .left)) (λ w. absurd (w .left e)) (c .if1 .came))
-    ∙ sym (ap (λ z. withTen (finiteOn (a .x) (a .y) (a .z)) (told z)) (k .a .given .1))
+    ∙ sym (ap (λ z. withTen (finiteOn (a .x) (a .y) (a .z)) (outcomeOfReading z)) (k .a .given .1))
 
 pub with-ten-spec : {M : Type 1} → statement M
 with-ten-spec = tie.close (tie.spec (λ c. search needs) (λ c. search needs) (λ c κs. search needs) returns returns-2 returns-3)

@@ -16,7 +16,7 @@ use borrow.Author.Needs.{needs, sfits-of}
 use borrow.Author.Tests.{le-leb, lt-leb}
 use Rattle.arith.specs.Int.{roundHalfUp}
 use Rattle.arith.proofs.Abs.{sfits-abs}
-use Rattle.floats.specs.Bits.{exponent, digits, nearestHeld}
+use Rattle.floats.specs.Bits.{exponent, significandOf, nearestHeld}
 use Rattle.floats.proofs.Bits.{bits-low, bits-mid, bits-high, digits-size, rounded-size}
 use Rattle.floats.proofs.StepLaws.{clamped-fits}
 use Rattle.floats.proofs.nearest.Statement.{statement}
@@ -33,10 +33,10 @@ high : (c : tie.Start) → 158 ≤ exponent (bits c) → nearestHeld (c .args .y
 high c h = ap nearestHeld (sym (back c)) ∙ bits-high (bits c) h (subst (λ (v : Float). T (not (isNan v))) (sym (back c)) (c .pre))
 
 returns : tie.Need-returns
-returns c = sym (ap nearestHeld (sym (back (c .before))) ∙ bits-low (bits (c .before)) (c .if1 .taken))
+returns c = sym (ap nearestHeld (sym (back (c .before))) ∙ bits-low (bits (c .before)) (omega arith))
 
 -- the significand, read back
-significand : (c : tie.After-significand) → toZ w64 (ofZ w64 (c .significand .result)) ≡ digits (bits (c .before .before .before))
+significand : (c : tie.After-significand) → toZ w64 (ofZ w64 (c .significand .result)) ≡ significandOf (bits (c .before .before .before))
 significand c = toZ-ofZ {w = w64} (sfits-of (c .significand .ok)) ∙ c .significand .ensures
 
 rounded-requires : tie.Need-rounded-requires
@@ -49,7 +49,7 @@ rounded-requires c κs = (
 -- what is rounded: in 32 signed bits, and nearest to y
 module _ (c : tie.After-rounded) where
   rounding : ℤ
-  rounding = let b = bits (c .before .before .before .before) in roundHalfUp (digits b) (2 ^ (158 - exponent b + 1))
+  rounding = let b = bits (c .before .before .before .before) in roundHalfUp (significandOf b) (2 ^ (158 - exponent b + 1))
 
   result : toZ w64 (ofZ w64 (c .rounded .result)) ≡ rounding
   unfolding rounding
@@ -61,7 +61,7 @@ module _ (c : tie.After-rounded) where
   unfolding rounding
   small =
       let b = bits (c .before .before .before .before) in
-      sfits-abs rounding (rounded-size (digits b) (158 - exponent b) (digits-size b) (omega arith))
+      sfits-abs rounding (rounded-size (significandOf b) (158 - exponent b) (digits-size b) (omega arith))
 
   held : rounding ≡ nearestHeld (c .before .before .before .before .args .y)
   unfolding rounding

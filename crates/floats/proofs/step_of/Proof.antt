@@ -39,6 +39,14 @@ not-above nan h = (refl, refl)
 not-above (inf s) h = (refl, refl)
 not-above (fin s m e) h = absurd (true≢false h)
 
+returns-2 : tie.Need-returns-2
+unfolding div neg ofBits
+returns-2 c = not-above (c .before .before .args .x) (c .if2 .left)
+
+returns-3 : tie.Need-returns-3
+unfolding div ofBits
+returns-3 c = not-below (c .before .args .x) (c .if1 .left)
+
 -- 1.0 / 0.0 and its negative compute to the infinities
 finite-at : (P : Float → Type 0) → ((s : Bool) (m : ℕ) (e : ℤ) → T (fits binary32 (fin s m e)) → P (fin s m e)) → (c : tie.Then2) → P (c .before .before .args .x)
 unfolding div neg ofBits
@@ -48,14 +56,6 @@ returns : tie.Need-returns
 returns c =
     let f = finite-at (λ x. (true ≡ finite x) × (nearestHeld (mul binary32 x scale) ≡ clamped (step 256 x))) (λ s m e t. (refl, scaled s m e t)) (c .before) in
     (f .0, toZ-ofZ {w = w32} (sfits-of (c .nearest .ok)) ∙ c .nearest .ensures ∙ f .1)
-
-returns-2 : tie.Need-returns-2
-unfolding div neg ofBits
-returns-2 c = not-above (c .before .before .args .x) (c .if2 .left)
-
-returns-3 : tie.Need-returns-3
-unfolding div ofBits
-returns-3 c = not-below (c .before .args .x) (c .if1 .left)
 
 pub step-of-spec : {M : Type 1} → statement M
 step-of-spec = tie.close (tie.spec (λ c κs. finite-at (λ x. T (not (isNan (mul binary32 x scale)))) scaled-not-nan c) returns returns-2 returns-3)

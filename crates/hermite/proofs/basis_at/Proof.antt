@@ -3,7 +3,6 @@ use lib.Dec.{lit<}
 use native.Mathlib.Nat.{le-trans, le-of-eq}
 use Rattle.arith.proofs.Machine.{is-nat}
 use Rattle.lattice.specs.Buffer.{at}
-use Rattle.hermite.specs.Hermite.{kindOf}
 use Rattle.hermite.proofs.BasisLaws.{part-size, folds}
 use mathlib.Core.Path.{_≡_, ap}
 use Prim.Native.Nat.{ℕ, _≤_, _-_}
@@ -24,23 +23,26 @@ module _ (n : ℕ) (h : n ≤ 256) where
   distance-size = le-trans (le-of-eq (ap natAbs distance)) h
 
 end-basis-requires : tie.Need-end-basis-requires
-end-basis-requires c κs = (c .pre .0, c .pre .1, distance-size (c .args .u) (c .pre .2), distance-size (256 - c .args .u) (omega arith))
+end-basis-requires c κs = (c .pre .0, c .pre .1, c .pre .2, distance-size (c .args .u) (c .pre .3), distance-size (256 - c .args .u) (omega arith))
 
-mirrored-requires : tie.Need-mirrored-requires
-mirrored-requires c κs o l =
-    let s = c .before in
-    le-trans (le-of-eq (ap natAbs (c .end-basis .ensures o l)))
-    (part-size (kindOf (s .args .slope)) (s .args .m) (s .pre .0) (s .pre .1) (toZ w64 (s .args .u)) (toZ w64 (256 - s .args .u)) (distance-size (s .args .u) (s .pre .2)) (distance-size (256 - s .args .u) (omega arith)) o l)
+mirror-requires : tie.Need-mirror-requires
+mirror-requires c κs =
+    let s = c .before in (
+      s .pre .0,
+      λ o l. le-trans (le-of-eq (ap natAbs (c .end-basis .ensures o l)))
+          (part-size (s .args .order) (s .args .m) (s .pre .0) (s .pre .1) (s .pre .2) (toZ w64 (s .args .u)) (toZ w64 (256 - s .args .u))
+          (distance-size (s .args .u) (s .pre .3)) (distance-size (256 - s .args .u) (omega arith)) o l),
+    )
 
 end-basis-requires-2 : tie.Need-end-basis-requires-2
-end-basis-requires-2 c κs = let s = c .before .before in (s .pre .0, s .pre .1, distance-size (256 - s .args .u) (omega arith), distance-size (s .args .u) (s .pre .2))
+end-basis-requires-2 c κs = let s = c .before .before in (s .pre .0, s .pre .1, s .pre .2, distance-size (256 - s .args .u) (omega arith), distance-size (s .args .u) (s .pre .3))
 
 returns : tie.Need-returns
 returns c =
     let s = c .before .before .before in
-    folds (s .args .slope) (s .args .m) (s .args .u) (record { low = c .end-basis2 .result; high = c .before .mirrored .result }) (s .pre .0) (s .pre .1) (s .pre .2)
-    (toZ w64 (256 - s .args .u)) (toZ w64 (s .args .u)) (distance (256 - s .args .u) (omega arith)) (distance (s .args .u) (s .pre .2)) (at (c .before .before .end-basis .result))
-    (c .end-basis2 .ensures) (c .before .before .end-basis .ensures) (c .before .mirrored .ensures)
+    folds (s .args .order) (s .args .m) (s .args .u) (record { low = c .end-basis2 .result; high = c .before .mirror .result }) (s .pre .0) (s .pre .1) (s .pre .2) (s .pre .3)
+    (toZ w64 (256 - s .args .u)) (toZ w64 (s .args .u)) (distance (256 - s .args .u) (omega arith)) (distance (s .args .u) (s .pre .3)) (at (c .before .before .end-basis .result))
+    (c .end-basis2 .ensures) (c .before .before .end-basis .ensures) (c .before .mirror .ensures)
 
 pub basis-at-spec : {M : Type 1} → statement M
 basis-at-spec =
@@ -50,6 +52,6 @@ basis-at-spec =
     (λ c. search needs)
     (λ c. search needs)
     end-basis-requires
-    mirrored-requires
+    mirror-requires
     end-basis-requires-2
     returns)

@@ -5,7 +5,7 @@ use native.Mathlib.Omega.{arith}
 use lib.IntN.{ℤ, _*ℤ_}
 use mir.Facts.{toZ-ofZ}
 use Rattle.arith.specs.Sum.{sum}
-use Rattle.hermite.specs.Hermite.{multiplier, kindOf, weight}
+use Rattle.hermite.specs.Hermite.{multiplier, weight}
 use Rattle.hermite.proofs.DotLaws.{held}
 use borrow.Author.Needs.{needs}
 use Rattle.hermite.proofs.end_basis.Statement.{statement}
@@ -14,7 +14,7 @@ use Rattle.hermite.proofs.end_basis.Tie as tie
 -- of the distances as the machine holds them, for the degree of a branch
 module _ (s : tie.Start) (o : ℕ) where
   parts : ℕ → ℤ → ℤ → ℤ
-  parts n x y = sum 3 (λ k. multiplier n k o *ℤ weight (kindOf (s .args .slope)) x y (2 * n - 1) k)
+  parts n x y = sum 3 (λ k. multiplier n k o *ℤ weight (s .args .order) x y (2 * n - 1) k)
 
   same : (n : ℕ) → n ≡ s .args .m → parts n (held (s .args .a)) (held (s .args .b)) ≡ parts (s .args .m) (s .args .a) (s .args .b)
   same n e = ap₂ (parts n) (toZ-ofZ (s .fits .a)) (toZ-ofZ (s .fits .b)) ∙ ap (λ (i : ℕ). parts i (s .args .a) (s .args .b)) e

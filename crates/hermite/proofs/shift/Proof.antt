@@ -1,38 +1,33 @@
 -- `hermite::shift` meets its contract: eighths are three powers of 2.
 use mathlib.Core.Path.{_≡_, sym, ap₂, _∙_}
 use mathlib.Core.Bool.{Bool, true, false}
-use Prim.Native.Nat.{ℕ, _≤_, _+_, _*_, _-_}
+use Prim.Native.Nat.{_+_, _*_, _-_}
 use native.Mathlib.Omega.{arith}
 use borrow.Author.Needs.{needs}
 use Rattle.arith.specs.Choice.{pick}
-use Rattle.arith.proofs.Choices.{on-pick}
 use Rattle.hermite.specs.Stage.{shiftOf}
 use Rattle.hermite.proofs.shift.Statement.{statement}
 use Rattle.hermite.proofs.shift.Tie as tie
 
 -- where from and to are known
 module _ (s : tie.Start) (f t : Bool) (ef : s .args .from ≡ f) (et : s .args .to ≡ t) where
-  is : 8 * (2 * s .args .m - pick (s .args .slope) 2 1) + pick f 3 0 - pick t 3 0 ≡ shiftOf (s .args .slope) (s .args .m) (s .args .from) (s .args .to)
+  is : 8 * (2 * s .args .m - 1 - s .args .order) + pick f 3 0 - pick t 3 0 ≡ shiftOf (s .args .order) (s .args .m) (s .args .from) (s .args .to)
   unfolding shiftOf
-  is = ap₂ (λ (f t : Bool). 8 * (2 * s .args .m - pick (s .args .slope) 2 1) + pick f 3 0 - pick t 3 0) (sym ef) (sym et)
-
--- no power is too small or too large for three more or fewer
-range : (b : Bool) (m : ℕ) → 2 ≤ m → m ≤ 3 → (3 ≤ 8 * (2 * m - pick b 2 1)) × (8 * (2 * m - pick b 2 1) ≤ 40)
-range b m h k = on-pick (λ (d : ℕ). (3 ≤ 8 * (2 * m - d)) × (8 * (2 * m - d) ≤ 40)) b 2 1 (λ e. (omega arith, omega arith)) (λ e. (omega arith, omega arith))
+  is = ap₂ (λ (f t : Bool). 8 * (2 * s .args .m - 1 - s .args .order) + pick f 3 0 - pick t 3 0) (sym ef) (sym et)
 
 returns : tie.Need-returns
 unfolding pick
 returns c = let d = c .before .before in d .exponent .ensures ∙ omega arith ∙ is (d .before) true true (c .before .if1 .taken) (c .if2 .taken)
 
 add-result : tie.Need-add-result
-add-result c = let d = c .before .before in let a = d .before .args in let r = range (a .slope) (a .m) (d .before .pre .0) (d .before .pre .1) in let e = d .exponent .ensures in omega arith
+add-result c = let d = c .before .before in let h = d .before .pre in let e = d .exponent .ensures in omega arith
 
 returns-2 : tie.Need-returns-2
 unfolding pick
 returns-2 c = let d = c .before .before in let e = d .exponent .ensures in omega arith ∙ is (d .before) true false (c .before .if1 .taken) (c .if2 .left)
 
 sub-result : tie.Need-sub-result
-sub-result c = let d = c .before .before in let a = d .before .args in let r = range (a .slope) (a .m) (d .before .pre .0) (d .before .pre .1) in let e = d .exponent .ensures in omega arith
+sub-result c = let d = c .before .before in let h = d .before .pre in let e = d .exponent .ensures in omega arith
 
 returns-3 : tie.Need-returns-3
 unfolding pick

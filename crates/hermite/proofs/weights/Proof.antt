@@ -1,9 +1,8 @@
--- `hermite::weights` meets its contract: the weights from the products of the distances, by the two cases of the flag.
+-- `hermite::weights` meets its contract: the weights from the products of the distances, by the two orders.
 use lib.Dec.{lit<}
 use Prim.Native.Nat.{ℕ, _<_, _≤_, _^_, _-_, _*_}
 use native.Mathlib.Nat.{le-trans, le-of-eq}
 use native.Mathlib.Omega.{arith}
-use mathlib.Core.Bool.{true, false}
 use mathlib.Core.Path.{_≡_, ap, ap₂, _∙_}
 use lib.IntN.{pos, natAbs, _*ℤ_}
 use mir.Syntax.{w64}
@@ -11,7 +10,6 @@ use mir.Val.{toZ}
 use mir.Facts.{toZ-ofZ}
 use Rattle.arith.proofs.Machine.{Size, sized, held as known, s-mul, s-bits, kept, is-nat, fits?, value?}
 use Rattle.lattice.specs.Buffer.{at}
-use Rattle.hermite.specs.Hermite.{kindOf}
 use Rattle.hermite.proofs.DotLaws.{held}
 use Rattle.hermite.proofs.WeightLaws.{product, product-size, value-weight, slope-weights, weights-row, Slopes, slopes-fit}
 use borrow.Author.Needs.{needs}
@@ -24,10 +22,10 @@ module _ (c : tie.After-products) where
   product-held k l =
       let s = c .before in
       ap held (c .products .ensures k l ∙ ap₂ (λ x y. product x y (s .args .m) k) (toZ-ofZ (s .fits .a)) (toZ-ofZ (s .fits .b)))
-      ∙ kept (product (s .args .a) (s .args .b) (s .args .m) k) (2 ^ 40) (product-size (s .args .m) (s .pre .0) (s .pre .1) (s .args .a) (s .args .b) (s .pre .2) (s .pre .3) k l) (lit< tt)
+      ∙ kept (product (s .args .a) (s .args .b) (s .args .m) k) (2 ^ 40) (product-size (s .args .m) (s .pre .1) (s .pre .2) (s .args .a) (s .args .b) (s .pre .3) (s .pre .4) k l) (lit< tt)
 
   small : (k : ℕ) → k < 3 → natAbs (held (at (c .products .result) k)) ≤ 2 ^ 40
-  small k l = let s = c .before in rw (product-held k l) (product-size (s .args .m) (s .pre .0) (s .pre .1) (s .args .a) (s .args .b) (s .pre .2) (s .pre .3) k l)
+  small k l = let s = c .before in rw (product-held k l) (product-size (s .args .m) (s .pre .1) (s .pre .2) (s .args .a) (s .args .b) (s .pre .3) (s .pre .4) k l)
 
   -- the degree
   degree : toZ w64 (2 * c .before .args .m - 1) ≡ pos (2 * c .before .args .m - 1)
@@ -39,30 +37,29 @@ module _ (c : tie.After-products) where
 
   -- a weight of a dose
   abbrev times : (k : ℕ) → k < 3 → Size (held (c .before .args .a) *ℤ held (at (c .products .result) k))
-  times k l = s-mul _ _ (known w64 (c .before .args .a) 256 (c .before .fits .a) (c .before .pre .2)) (sized _ (2 ^ 40) (small k l))
+  times k l = s-mul _ _ (known w64 (c .before .args .a) 256 (c .before .fits .a) (c .before .pre .3)) (sized _ (2 ^ 40) (small k l))
 
 returns : tie.Need-returns
-unfolding kindOf
 returns c =
     let q = c .before .before .before .before in
     let s = q .before in
-    let w = slope-weights (s .args .a) (s .args .b) (s .args .m) (s .pre .0) (s .pre .1) in
-    let x = product-held q 0 (lit< tt) in
-    let y = product-held q 1 (lit< tt) in
-    let z = product-held q 2 (lit< tt) in
-    weights-row (s .args .slope) true (c .if1 .taken) (s .args .a) (s .args .b) (2 * s .args .m - 1) _ _ _
-    (slopes q .first ∙ rw (degree q, x) (w .0)) (slopes q .second ∙ rw (degree q, x, y) (w .1)) (slopes q .third ∙ rw (degree q, y, z) (w .2))
+    let w = value-weight (s .args .a) (s .args .b) (s .args .m) in
+    weights-row (s .args .order) 0 (c .if1 .taken) (s .args .a) (s .args .b) (2 * s .args .m - 1) _ _ _
+    (value? (s-bits w64 _ (times q 0 (lit< tt))) (omega arith) ∙ rw (product-held q 0 (lit< tt)) (w 0 (omega arith)))
+    (value? (s-bits w64 _ (times q 1 (lit< tt))) (omega arith) ∙ rw (product-held q 1 (lit< tt)) (w 1 (omega arith)))
+    (value? (s-bits w64 _ (times q 2 (lit< tt))) (omega arith) ∙ rw (product-held q 2 (lit< tt)) (w 2 (omega arith)))
 
 returns-2 : tie.Need-returns-2
-unfolding kindOf
 returns-2 c =
     let q = c .before .before .before .before in
     let s = q .before in
-    let w = value-weight (s .args .a) (s .args .b) (s .args .m) (s .pre .0) (s .pre .1) in
-    weights-row (s .args .slope) false (c .if1 .left) (s .args .a) (s .args .b) (2 * s .args .m - 1) _ _ _
-    (value? (s-bits w64 _ (times q 0 (lit< tt))) (omega arith) ∙ rw (product-held q 0 (lit< tt)) (w 0 (lit< tt)))
-    (value? (s-bits w64 _ (times q 1 (lit< tt))) (omega arith) ∙ rw (product-held q 1 (lit< tt)) (w 1 (lit< tt)))
-    (value? (s-bits w64 _ (times q 2 (lit< tt))) (omega arith) ∙ rw (product-held q 2 (lit< tt)) (w 2 (lit< tt)))
+    let w = slope-weights (s .args .a) (s .args .b) (s .args .m) (s .pre .1) in
+    let x = product-held q 0 (lit< tt) in
+    let y = product-held q 1 (lit< tt) in
+    let z = product-held q 2 (lit< tt) in
+    weights-row (s .args .order) 1 (omega (arith, c .if1 .left, s .pre .0)) (s .args .a) (s .args .b) (2 * s .args .m - 1) _ _ _
+    (slopes q .first ∙ rw (degree q, x) (w .first)) (slopes q .second ∙ rw (degree q, x, y) (w .second))
+    (slopes q .third ∙ rw (degree q, y, z) (w .third))
 
 pub weights-spec : {M : Type 1} → statement M
 weights-spec =
@@ -72,6 +69,10 @@ weights-spec =
     (λ c. search needs)
     (λ c. search needs)
     (λ c. search needs)
+    (λ c. fits? (times (c .before .before .before .before) 0 (lit< tt)) (omega arith))
+    (λ c. fits? (times (c .before .before .before .before) 1 (lit< tt)) (omega arith))
+    (λ c. fits? (times (c .before .before .before .before) 2 (lit< tt)) (omega arith))
+    returns
     (λ c. search needs)
     (λ c. search needs)
     (λ c. search needs)
@@ -84,8 +85,4 @@ weights-spec =
     (λ c. slopes (c .before .before .before .before) .f)
     (λ c. slopes (c .before .before .before .before) .fz)
     (λ c. slopes (c .before .before .before .before) .less-fz)
-    returns
-    (λ c. fits? (times (c .before .before .before .before) 0 (lit< tt)) (omega arith))
-    (λ c. fits? (times (c .before .before .before .before) 1 (lit< tt)) (omega arith))
-    (λ c. fits? (times (c .before .before .before .before) 2 (lit< tt)) (omega arith))
     returns-2)

@@ -23,10 +23,10 @@ module _ (limit r : ℕ) (xs : List ℤ) (i : ℕ) (fit : mag (at xs i) < 2 ^ 31
   size-is = is ∙ ap natAbs (widened (at xs i) fit)
 
 abbrev Inv-loop : tie.InvT-loop
-Inv-loop xs limit i₀ i = (i ≤ length xs) × (firstOf i (limitTest limit xs) ≡ done tt)
+Inv-loop xs limit number i₀ i = (i ≤ length xs) × (firstOf i (limitTest number limit xs) ≡ done tt)
 
 abbrev μ-loop : tie.MeasureT-loop
-μ-loop xs limit i₀ i = length xs - i
+μ-loop xs limit number i₀ i = length xs - i
 
 loop-holds : tie.Need-loop-holds Inv-loop μ-loop
 unfolding firstOf
@@ -40,9 +40,10 @@ returns c =
     let b = c .before .before .before .before .before in
     let xs = b .before .args .xs .now in
     let limit = b .before .args .limit in
+    let number = b .before .args .number in
     let i = b .loop .i in
     c .refuse-unless .ensures
-    ∙ sym (limit-stops limit xs i (omega arith) (b .loop .inv .1)
+    ∙ sym (limit-stops number limit xs i (omega arith) (b .loop .inv .1)
     (omega (arith, c .before .if1 .taken, size-is limit _ xs i (c .before .before .before .x .given) (c .before .before .magnitude .ensures))))
 
 loop-again : tie.Need-loop-again Inv-loop μ-loop
@@ -50,14 +51,15 @@ loop-again c =
     let b = c .before .before .before .before in
     let xs = b .before .args .xs .now in
     let limit = b .before .args .limit in
+    let number = b .before .args .number in
     let i = b .loop .i in (
       omega arith,
-      limit-more limit xs i (b .loop .inv .1)
+      limit-more number limit xs i (b .loop .inv .1)
           (omega (arith, c .if1 .left, size-is limit _ xs i (c .before .before .x .given) (c .before .magnitude .ensures))),
     )
 
 returns-2 : tie.Need-returns-2 Inv-loop μ-loop
-returns-2 c = sym (limit-ends (c .before .before .args .limit) (c .before .before .args .xs .now) (c .before .loop .i) (omega arith) (c .before .loop .inv .1))
+returns-2 c = sym (limit-ends (c .before .before .args .number) (c .before .before .args .limit) (c .before .before .args .xs .now) (c .before .loop .i) (omega arith) (c .before .loop .inv .1))
 
 pub check-limit-spec : {M : Type 1} → statement M
 check-limit-spec =

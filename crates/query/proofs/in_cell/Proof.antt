@@ -11,7 +11,7 @@ use Rattle.query.proofs.in_cell.Tie as tie
 returns : tie.Need-returns
 returns c =
     let a = c .before .before .before .args in
-    c .read .ensures ∙ ap₂ (byCell (a .s) (now (a .records)) (wanted (a .q .«slope_axis»))) (indices (a .q .cell)) (indices (a .q .step))
+    c .read .ensures ∙ ap₂ (byCell (a .s) (now (a .records)) (wanted (a .q .derivative))) (indices (a .q .cell)) (indices (a .q .step))
 
 pub in-cell-spec : {M : Type 1} → statement M
 in-cell-spec =

@@ -8,7 +8,7 @@ use lib.ListN.{length}
 use lib.Seq.{take-length}
 use denote.Ref.{now}
 use borrow.Author.Needs.{needs}
-use Rattle.lattice.specs.Answer.{meaning}
+use Rattle.lattice.specs.Answers.{outcomeOf}
 use Rattle.lattice.specs.Outcome.{done}
 use Rattle.cell.specs.Cell.{placeAt}
 use Rattle.evaluate.specs.Wants.{wantOf}
@@ -23,28 +23,28 @@ module _ (c : tie.After-enum-told) where
   b = c .before .before .before
 
   passes : (rs : List ℤ) → length rs ≡ length (now (b .args .records))
-      → testedOutcome (b .args .s) rs (wantOf (b .args .slope) (b .args .axis)) (placeAt (b .args .i ∷ b .args .j ∷ b .args .k ∷ [])) (placeAt (b .args .u ∷ b .args .v ∷ b .args .w ∷ [])) ≡ done tt
-  passes rs e = sym (c .before .before .check-by-axes .ensures rs e) ∙ ap meaning (c .enum-told .given .1)
+      → testedOutcome (b .args .s) rs (wantOf (b .args .order) (b .args .axis)) (placeAt (b .args .i ∷ b .args .j ∷ b .args .k ∷ [])) (placeAt (b .args .u ∷ b .args .v ∷ b .args .w ∷ [])) ≡ done tt
+  passes rs e = sym (c .before .before .check-by-axes .ensures rs e) ∙ ap outcomeOf (c .enum-told .given .1)
 
   -- what is read of the slice made anew
-  gives : reading (b .args .s) (lent (now (b .args .records))) (wantOf (b .args .slope) (b .args .axis)) (placeAt (b .args .i ∷ b .args .j ∷ b .args .k ∷ [])) (placeAt (b .args .u ∷ b .args .v ∷ b .args .w ∷ []))
-      ≡ byCell (b .args .s) (now (b .args .records)) (wantOf (b .args .slope) (b .args .axis)) (placeAt (b .args .i ∷ b .args .j ∷ b .args .k ∷ [])) (placeAt (b .args .u ∷ b .args .v ∷ b .args .w ∷ []))
-  gives = rw (take-length (now (b .args .records))) (sym (by-cell-reads (b .args .s) (now (b .args .records)) (wantOf (b .args .slope) (b .args .axis)) _ _ (passes (now (b .args .records)) refl)))
+  gives : reading (b .args .s) (lent (now (b .args .records))) (wantOf (b .args .order) (b .args .axis)) (placeAt (b .args .i ∷ b .args .j ∷ b .args .k ∷ [])) (placeAt (b .args .u ∷ b .args .v ∷ b .args .w ∷ []))
+      ≡ byCell (b .args .s) (now (b .args .records)) (wantOf (b .args .order) (b .args .axis)) (placeAt (b .args .i ∷ b .args .j ∷ b .args .k ∷ [])) (placeAt (b .args .u ∷ b .args .v ∷ b .args .w ∷ []))
+  gives = rw (take-length (now (b .args .records))) (sym (by-cell-reads (b .args .s) (now (b .args .records)) (wantOf (b .args .order) (b .args .axis)) _ _ (passes (now (b .args .records)) refl)))
 
 refused-before : tie.Need-returns-2
 refused-before c =
     let d = c .before .before .before in
     let b = d .before in
     let a = b .args in
-    sym (by-cell-stops (a .s) (now (a .records)) (wantOf (a .slope) (a .axis)) (placeAt (a .i ∷ a .j ∷ a .k ∷ [])) (placeAt (a .u ∷ a .v ∷ a .w ∷ []))
-    (sym (d .check-by-axes .ensures (now (a .records)) refl) ∙ ap meaning (c .before .tested .given .1)))
+    sym (by-cell-stops (a .s) (now (a .records)) (wantOf (a .order) (a .axis)) (placeAt (a .i ∷ a .j ∷ a .k ∷ [])) (placeAt (a .u ∷ a .v ∷ a .w ∷ []))
+    (sym (d .check-by-axes .ensures (now (a .records)) refl) ∙ ap outcomeOf (c .before .tested .given .1)))
 
 -- more than one axis
 two : (c : tie.Else1) → 2 ≤ b (c .before .before) .args .s .axes
 two c =
     let d = c .before .before in
     let a = b d .args in
-    let h = near (a .s) (now (a .records)) (wantOf (a .slope) (a .axis)) (a .i ∷ a .j ∷ a .k ∷ []) (placeAt (a .u ∷ a .v ∷ a .w ∷ [])) (passes d (now (a .records)) refl) .shape .axes-low in
+    let h = near (a .s) (now (a .records)) (wantOf (a .order) (a .axis)) (a .i ∷ a .j ∷ a .k ∷ []) (placeAt (a .u ∷ a .v ∷ a .w ∷ [])) (passes d (now (a .records)) refl) .shape .axes-low in
     omega (arith, c .if1 .left)
 
 pub read-spec : {M : Type 1} → statement M

@@ -1,7 +1,5 @@
 -- `dose_at` meets its contract: the query is answered.
 use mathlib.Core.Path.{_≡_, sym, ap, _∙_}
-use Prim.Native.Nat.{ℕ}
-use native.Mathlib.Omega.{arith}
 use mir.Syntax.{w32}
 use mir.Facts.{toZ-ofZ}
 use denote.Ref.{now}
@@ -10,9 +8,11 @@ use Rattle.lattice.specs.Outcome.{done}
 use Rattle.lattice.proofs.OutcomeLaws.{done-same}
 use Rattle.lattice.proofs.ShapeLaws.{shaped}
 use Rattle.cell.specs.Cell.{placeAt}
-use Rattle.query.specs.Answers.{told}
+use Rattle.evaluate.specs.Evaluate.{dose}
+use Rattle.query.specs.Queries.{byCell}
+use Rattle.query.specs.Answers.{outcomeOfReading}
 use Rattle.table_file.specs.File.{header}
-use Rattle.report.specs.Report.{shapeOf}
+use Rattle.report.specs.Report.{withDegree}
 use Rattle.report.specs.Parts.{doseFrom}
 use Rattle.report.proofs.DoseLaws.{answered}
 use borrow.Author.Needs.{needs}
@@ -20,17 +20,20 @@ use Rattle.report.proofs.dose_at.Statement.{statement}
 use Rattle.report.proofs.dose_at.Tie as tie
 
 abbrev shape : tie.Start → Shape
-shape c = shapeOf (header (c .args .axes) (c .args .counts)) (c .args .degree)
+shape c = withDegree (header (c .args .axes) (c .args .counts)) (c .args .degree)
 
 -- what the query gives
 module _ (c : tie.After-in-cell) where
   abbrev start : tie.Start
-  start = c .before .before
+  start = c .before .before .before
 
-  is : told (c .in-cell .result) ≡ done (doseFrom (shape start) (now (start .args .records)) (start .args .cell))
+  is : outcomeOfReading (c .in-cell .result) ≡ done (doseFrom (shape start) (now (start .args .records)) (start .args .cell))
   is =
+      let step = placeAt (c .before .before .middle-of .result) in
       c .in-cell .ensures
-      ∙ answered (shape start) (now (start .args .records)) (start .args .cell) (placeAt (c .before .middle-of .result)) (start .pre .0) (start .pre .1) (c .before .middle-of .ensures)
+      ∙ ap (λ (s : Shape). byCell s (now (start .args .records)) dose (placeAt (start .args .cell)) step) (c .before .shape-of .ensures)
+      ∙ answered (shape start) (now (start .args .records)) (start .args .cell) step (start .pre .0) (start .pre .1)
+      (c .before .before .middle-of .ensures)
 
 enum-told : tie.Need-enum-told
 enum-told c = search needs
@@ -38,14 +41,19 @@ enum-told c = search needs
 returns : tie.Need-returns
 returns c =
     let v = c .before .reading .given .0 .0 in
-    toZ-ofZ {w = w32} (record { sfits = c .known-told .given .0 .1 }) ∙ done-same v _ (sym (ap told (c .before .reading .given .1)) ∙ is (c .before .before .before))
+    toZ-ofZ {w = w32} (record { sfits = c .known-told .given .0 .1 }) ∙ done-same v _ (sym (ap outcomeOfReading (c .before .reading .given .1)) ∙ is (c .before .before .before))
 
 returns-2 : tie.Need-returns-2
-returns-2 c =
-    let e = sym (ap told (c .enum-told .given .1)) ∙ is (c .before .before) in
-    absurd (let z : _≡_ {A = ℕ} 0 1 = cc e in omega arith)
+returns-2 c = cc (sym (ap outcomeOfReading (c .enum-told .given .1)) ∙ is (c .before .before))
 
 pub dose-at-spec : {M : Type 1} → statement M
 dose-at-spec =
     tie.close
-    (tie.spec (λ c κs. shaped (shape c) (c .pre .0 .shape) .axes-high) (λ c κs. search needs) (λ c. search needs) enum-told returns returns-2)
+    (tie.spec
+    (λ c κs. shaped (shape c) (c .pre .0 .shape) .axes-high)
+    (λ c κs. search needs)
+    (λ c κs. search needs)
+    (λ c. search needs)
+    enum-told
+    returns
+    returns-2)

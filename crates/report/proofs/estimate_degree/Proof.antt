@@ -6,10 +6,10 @@ use lib.ListN.{length, take}
 use denote.Ref.{now}
 use Rattle.lattice.specs.declared.Shape.{Shape}
 use Rattle.lattice.specs.Shape.{size}
-use Rattle.estimate.specs.Estimate.{Estimable}
+use Rattle.estimate.specs.Estimate.{Estimable, estimateWrites}
 use Rattle.estimate.proofs.CallLaws.{estimated}
 use Rattle.table_file.specs.File.{header}
-use Rattle.report.specs.Report.{shapeOf}
+use Rattle.report.specs.Report.{withDegree}
 use Rattle.claims.proofs.Lent.{lent}
 use borrow.Author.Needs.{needs}
 use Rattle.report.proofs.estimate_degree.Statement.{statement}
@@ -17,20 +17,30 @@ use Rattle.report.proofs.estimate_degree.Tie as tie
 
 module _ (c : tie.Start) where
   abbrev shape : Shape
-  shape = shapeOf (header (c .args .axes) (c .args .counts)) (c .args .degree)
+  shape = withDegree (header (c .args .axes) (c .args .counts)) (c .args .degree)
 
   known : Estimable shape (now (c .args .samples)) (length (now (c .args .records)))
   known = estimated shape (now (c .args .samples)) (length (now (c .args .records))) (c .pre)
 
 returns : tie.Need-returns
 returns c =
-    let s = c .before .before .before .before in
+    let g = c .before .before .before .before in
+    let s = g .before in
     let p = c .before .before .estimate in
-    let e = c .table-entries .ensures in (
+    let is = g .shape-of .ensures in
+    let e = c .table-entries .ensures ∙ ap size is in (
       omega (arith, known s .fits, p .kept .1 .1 .0),
-      ap (λ (k : ℕ). take k (p .last .1 .1 .0)) e ∙ ap (take (size (shape s))) (p .ensures .1) ∙ lent (shape s) (now (s .args .samples)) (now (s .args .records)) (s .pre),
+      ap (λ (k : ℕ). take k (p .last .1 .1 .0)) e
+          ∙ ap (take (size (shape s))) (p .ensures .1 ∙ ap (λ (t : Shape). estimateWrites t (now (s .args .samples)) (now (s .args .records))) is)
+          ∙ lent (shape s) (now (s .args .samples)) (now (s .args .records)) (s .pre),
     )
 
 pub estimate-degree-spec : {M : Type 1} → statement M
 estimate-degree-spec =
-    tie.close (tie.spec (λ c κs. search needs) (λ c κs. known (c .before .before .before) .shape) (λ c. search needs) returns)
+    tie.close
+    (tie.spec
+    (λ c κs. search needs)
+    (λ c κs. search needs)
+    (λ c κs. let g = c .before .before .before in rw (g .shape-of .ensures) (known (g .before) .shape))
+    (λ c. search needs)
+    returns)

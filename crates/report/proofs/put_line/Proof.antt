@@ -41,14 +41,14 @@ module _ (c : tie.After-dose-at2) where
 dose-at-requires-2 : tie.Need-dose-at-requires-2
 dose-at-requires-2 c κs = let b = c .before .before in (b .pre .0 .1, any-degree (header (b .args .axes) (b .args .counts)) 3 5 (b .args .cell) (b .pre .1 .0))
 
-put-cell-line-requires : tie.Need-put-cell-line-requires
-put-cell-line-requires c κs = let b = start (c .before) in let s = short (c .before) in omega (arith, b .pre .1 .2)
-
 returns : tie.Need-returns
 returns c =
     let p = c .before .before .put-cell-line in
     let d = c .before .before .before .before in
-    (put-as (line d) (record { ended = p .ensures .0; written = p .ensures .1 }), omega (arith, p .ensures .0, short d))
+    (put-as (line d) (record { written = p .ensures .1; ended = p .ensures .0 }), omega (arith, p .ensures .0, short d))
+
+put-cell-line-requires : tie.Need-put-cell-line-requires
+put-cell-line-requires c κs = let b = start (c .before) in let s = short (c .before) in omega (arith, b .pre .1 .2)
 
 pub put-line-spec : {M : Type 1} → statement M
 put-line-spec =

@@ -13,7 +13,7 @@ use Rattle.lattice.proofs.ShapeLaws.{shaped}
 use Rattle.table_file.specs.File.{Header, header}
 use Rattle.text.specs.Lines.{Put}
 use Rattle.text.proofs.LineLaws.{put-as, put-length}
-use Rattle.report.specs.Report.{cellCount, cellAt, shapeOf, joined}
+use Rattle.report.specs.Report.{cellCount, cellAt, withDegree, joined}
 use Rattle.report.specs.Parts.{Between, lineFrom, lineLimit}
 use Rattle.report.proofs.CellsLaws.{counts-between, cells-between, cell-accepted, cell-between, cell-is, total-is}
 use Rattle.report.proofs.LineLaws.{lines-none, lines-more}
@@ -35,8 +35,8 @@ abbrev μ-loop : tie.MeasureT-loop
 abbrev table : tie.Start Inv-loop μ-loop → Header
 table s = header (s .args .axes) (s .args .counts)
 
-shape : (s : tie.Start Inv-loop μ-loop) → Shaped (shapeOf (table s) 3)
-shape s = shaped (shapeOf (table s) 3) (s .pre .0 .0 .shape)
+shape : (s : tie.Start Inv-loop μ-loop) → Shaped (withDegree (table s) 3)
+shape s = shaped (withDegree (table s) 3) (s .pre .0 .0 .shape)
 
 abbrev cells : tie.After-cells-of Inv-loop μ-loop → List ℕ
 cells c = c .cells-of .result

@@ -6,7 +6,7 @@ use lib.Seq.{length-take-le}
 use denote.Ref.{now}
 use Rattle.table_file.specs.File.{Header, header}
 use Rattle.text.proofs.LineLaws.{put-as}
-use Rattle.report.specs.Report.{shapeOf}
+use Rattle.report.specs.Report.{withDegree}
 use Rattle.report.specs.Parts.{linesFrom}
 use Rattle.report.proofs.DoseLaws.{answers}
 use Rattle.report.proofs.TableLaws.{cubic-taken, quintic-taken, few-cells, lines-are}
@@ -36,8 +36,8 @@ put-lines-requires c κs =
     let s = p .before .before .before in
     let h = s .pre .0 in (
       (
-        rw (p .estimate-degree .ensures .1) (answers (shapeOf (table s) 3) (samples s) 4096 (cubic-taken (table s) (samples s) h)),
-        rw (q .estimate-degree2 .ensures .1) (answers (shapeOf (table s) 5) (samples s) 13824 (quintic-taken (table s) (samples s) h)),
+        rw (p .estimate-degree .ensures .1) (answers (withDegree (table s) 3) (samples s) 4096 (cubic-taken (table s) (samples s) h)),
+        rw (q .estimate-degree2 .ensures .1) (answers (withDegree (table s) 5) (samples s) 13824 (quintic-taken (table s) (samples s) h)),
       ),
       (few-cells (table s) (samples s) h, s .pre .1),
     )

@@ -2,7 +2,7 @@
 use mathlib.Core.Path.{_≡_, refl, sym, ap, _∙_}
 use Prim.Native.Nat.{ℕ, _≤_, _-_}
 use native.Mathlib.Omega.{arith}
-use Rattle.lattice.specs.Answer.{meaning}
+use Rattle.lattice.specs.Answers.{outcomeOf}
 use Rattle.lattice.specs.Outcome.{done, firstOf}
 use Rattle.lattice.proofs.OutcomeLaws.{firstOf-stops, firstOf-more}
 use Rattle.table_file.specs.File.{countOutcome}
@@ -24,14 +24,14 @@ returns : tie.Need-returns Inv-loop μ-loop
 returns c =
     let d = c .before .before in
     let l = d .before .before in
-    let g = ap meaning (c .enum-told .given .1) in
+    let g = ap outcomeOf (c .enum-told .given .1) in
     g ∙ sym (firstOf-stops _ (l .loop .axis) (countOutcome (l .before .before .args .bytes .now)) _ _ (omega arith) (l .loop .inv .1) (sym (d .check-count .ensures) ∙ g))
 
 loop-again : tie.Need-loop-again Inv-loop μ-loop
 loop-again c =
     let d = c .before .before in
     let l = d .before .before in
-    (omega arith, firstOf-more (l .loop .axis) (countOutcome (l .before .before .args .bytes .now)) (l .loop .inv .1) (sym (d .check-count .ensures) ∙ ap meaning (c .enum-told2 .given .1)))
+    (omega arith, firstOf-more (l .loop .axis) (countOutcome (l .before .before .args .bytes .now)) (l .loop .inv .1) (sym (d .check-count .ensures) ∙ ap outcomeOf (c .enum-told2 .given .1)))
 
 returns-2 : tie.Need-returns-2 Inv-loop μ-loop
 returns-2 c =

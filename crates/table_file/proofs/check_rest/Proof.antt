@@ -1,7 +1,7 @@
 -- `check_rest` meets its contract: section two, then 9, then 5 for the samples that are there.
 use mathlib.Core.Path.{_≡_, sym, ap, _∙_}
 use native.Mathlib.Omega.{arith}
-use Rattle.lattice.specs.Answer.{meaning}
+use Rattle.lattice.specs.Answers.{outcomeOf}
 use Rattle.lattice.specs.Outcome.{done}
 use Rattle.lattice.proofs.OutcomeLaws.{first-passed, refused-first}
 use Rattle.table_file.specs.File.{twoOutcome}
@@ -11,13 +11,13 @@ use Rattle.table_file.proofs.check_rest.Statement.{statement}
 use Rattle.table_file.proofs.check_rest.Tie as tie
 
 two-passed : (d : tie.After-enum-told2) → twoOutcome (d .before .before .before .before .args .bytes .now) ≡ done tt
-two-passed d = sym (d .before .before .check-two .ensures) ∙ ap meaning (d .enum-told2 .given .1)
+two-passed d = sym (d .before .before .check-two .ensures) ∙ ap outcomeOf (d .enum-told2 .given .1)
 
 returns : tie.Need-returns
 returns c =
     let d = c .before .before in
     let b = d .before .before in
-    let g = ap meaning (c .enum-told .given .1) in
+    let g = ap outcomeOf (c .enum-told .given .1) in
     g ∙ sym (rest-is (b .args .bytes .now) (b .args .axes) (b .args .nodes) (b .pre) (b .args .room) ∙ refused-first _ (sym (d .check-two .ensures) ∙ g))
 
 returns-2 : tie.Need-returns-2
@@ -25,7 +25,7 @@ returns-2 c =
     let s = c .before .before in
     let d = s .before in
     let b = d .before .before .before .before in
-    let g = ap meaning (c .enum-told3 .given .1) in
+    let g = ap outcomeOf (c .enum-told3 .given .1) in
     g ∙ sym (rest-is (b .args .bytes .now) (b .args .axes) (b .args .nodes) (b .pre) (b .args .room) ∙ first-passed _ _ (two-passed d) ∙ refused-first _ (sym (s .refuse-unless .ensures) ∙ g))
 
 returns-3 : tie.Need-returns-3
@@ -35,7 +35,7 @@ returns-3 c =
     let b = d .before .before .before .before in
     c .check-samples .ensures
     ∙ sym (rest-is (b .args .bytes .now) (b .args .axes) (b .args .nodes) (b .pre) (b .args .room) ∙ first-passed _ _ (two-passed d)
-    ∙ first-passed _ _ (sym (s .refuse-unless .ensures) ∙ ap meaning (c .before .enum-told4 .given .1)))
+    ∙ first-passed _ _ (sym (s .refuse-unless .ensures) ∙ ap outcomeOf (c .before .enum-told4 .given .1)))
 
 check-samples-requires : tie.Need-check-samples-requires
 check-samples-requires c κs =

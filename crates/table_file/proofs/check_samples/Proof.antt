@@ -16,7 +16,7 @@ use Rattle.table_file.proofs.check_samples.Statement.{statement}
 use Rattle.table_file.proofs.check_samples.Tie as tie
 
 abbrev Inv-loop : tie.InvT-loop
-Inv-loop bytes start count i₀ i = (i ≤ count) × (firstOf i (limitTest sampleLimit (samplesFrom bytes start count)) ≡ done tt)
+Inv-loop bytes start count i₀ i = (i ≤ count) × (firstOf i (limitTest 5 sampleLimit (samplesFrom bytes start count)) ≡ done tt)
 
 abbrev μ-loop : tie.MeasureT-loop
 μ-loop bytes start count i₀ i = count - i
@@ -42,18 +42,18 @@ returns c =
     let l = m .before .before .before in
     let a = l .before .before .args in
     c .refuse-unless .ensures
-    ∙ sym (limit-stops sampleLimit (samples (l .before .before)) (l .loop .i) (omega (arith, length-samples (a .bytes .now) (a .start) (a .count))) (l .loop .inv .1) (omega (arith, c .before .if1 .taken, size-is m)))
+    ∙ sym (limit-stops 5 sampleLimit (samples (l .before .before)) (l .loop .i) (omega (arith, length-samples (a .bytes .now) (a .start) (a .count))) (l .loop .inv .1) (omega (arith, c .before .if1 .taken, size-is m)))
 
 loop-again : tie.Need-loop-again Inv-loop μ-loop
 loop-again c =
     let m = c .before in
     let l = m .before .before .before in
-    (omega arith, limit-more sampleLimit (samples (l .before .before)) (l .loop .i) (l .loop .inv .1) (omega (arith, c .if1 .left, size-is m)))
+    (omega arith, limit-more 5 sampleLimit (samples (l .before .before)) (l .loop .i) (l .loop .inv .1) (omega (arith, c .if1 .left, size-is m)))
 
 returns-2 : tie.Need-returns-2 Inv-loop μ-loop
 returns-2 c =
     let a = c .before .before .before .args in
-    sym (limit-ends sampleLimit (samples (c .before .before .before)) (c .before .loop .i) (omega (arith, length-samples (a .bytes .now) (a .start) (a .count))) (c .before .loop .inv .1))
+    sym (limit-ends 5 sampleLimit (samples (c .before .before .before)) (c .before .loop .i) (omega (arith, length-samples (a .bytes .now) (a .start) (a .count))) (c .before .loop .inv .1))
 
 pub check-samples-spec : {M : Type 1} → statement M
 check-samples-spec =

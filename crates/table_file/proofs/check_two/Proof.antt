@@ -3,7 +3,7 @@ use mathlib.Core.Path.{_≡_, sym, ap, ap₂, _∙_}
 use Prim.Native.Nat.{ℕ, _+_}
 use native.Mathlib.Omega.{arith}
 use lib.Dec.{eqb}
-use Rattle.lattice.specs.Answer.{meaning}
+use Rattle.lattice.specs.Answers.{outcomeOf}
 use Rattle.lattice.specs.Outcome.{done, refuseUnless, first}
 use Rattle.lattice.proofs.OutcomeLaws.{first-passed, refused-first}
 use Rattle.table_file.specs.File.{complete}
@@ -13,13 +13,13 @@ use Rattle.table_file.proofs.check_two.Statement.{statement}
 use Rattle.table_file.proofs.check_two.Tie as tie
 
 whole : (d : tie.After-enum-told2) → complete (d .before .before .before .before .args .bytes .now) (2 + d .before .before .before .before .args .axes) ≡ done tt
-whole d = sym (d .before .before .check-complete .ensures) ∙ ap meaning (d .enum-told2 .given .1)
+whole d = sym (d .before .before .check-complete .ensures) ∙ ap outcomeOf (d .enum-told2 .given .1)
 
 returns : tie.Need-returns
 returns c =
     let d = c .before .before in
     let b = d .before .before in
-    let g = ap meaning (c .enum-told .given .1) in
+    let g = ap outcomeOf (c .enum-told .given .1) in
     g ∙ sym (two-is (b .args .bytes .now) (b .args .axes) (b .args .nodes) (b .pre) ∙ refused-first _ (sym (d .check-complete .ensures) ∙ g))
 
 returns-2 : tie.Need-returns-2

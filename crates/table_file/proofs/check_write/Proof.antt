@@ -1,57 +1,80 @@
--- `check_write` meets its contract: 1 and 3 from the shape, then 4, 9 and 5 with the number of nodes.
-use mathlib.Core.Path.{_≡_, sym, ap, ap₂, _∙_}
-use Prim.Native.Nat.{_≤_}
+-- `check_write` meets its contract: 1 and 3 from the shape, then 4, 9 and 5 with the number of nodes; each stops at a refusal.
+use mathlib.Core.Path.{_≡_, sym, ap, _∙_}
 use native.Mathlib.Omega.{arith}
-use Rattle.lattice.specs.Answer.{meaning}
-use Rattle.lattice.specs.Outcome.{done, first}
-use Rattle.lattice.specs.Shape.{shapeOutcome}
-use Rattle.lattice.proofs.OutcomeLaws.{refused-first}
+use Rattle.lattice.specs.Answers.{outcomeOf}
+use Rattle.lattice.specs.Outcome.{done}
+use Rattle.lattice.specs.Shape.{shapeOf, shapeOutcome, nodes}
+use Rattle.lattice.proofs.OutcomeLaws.{first-passed, refused-first}
 use Rattle.lattice.proofs.ShapeLaws.{shaped}
-use Rattle.table_file.proofs.WriteLaws.{shapeOf, write-is, shape-sizes, write-rest}
+use Rattle.table_file.proofs.WriteLaws.{write-is, AfterShape, after-shape}
 use borrow.Author.Needs.{needs}
 use Rattle.table_file.proofs.check_write.Statement.{statement}
 use Rattle.table_file.proofs.check_write.Tie as tie
 
-passed : (d : tie.After-enum-told2) → shapeOutcome (shapeOf (d .before .before .before .args .axes) (d .before .before .before .args .counts)) ≡ done tt
-passed d = sym (d .before .before .check-shape .ensures) ∙ ap meaning (d .enum-told2 .given .1)
+shape-passes : (c : tie.After-enum-told2)
+    → let a = c .before .before .before .before .args in shapeOutcome (shapeOf (a .axes) 3 (a .counts)) ≡ done tt
+shape-passes c =
+    let d = c .before .before in
+    ap shapeOutcome (sym (d .before .shape-of .ensures)) ∙ sym (d .check-shape .ensures) ∙ ap outcomeOf (c .enum-told2 .given .1)
 
-sizes : (d : tie.After-node-count) → (d .before .before .before .before .args .axes ≤ 3) × (d .node-count .result ≤ 262144)
-sizes d =
-    let b = d .before .before .before .before in
-    shape-sizes (b .args .axes) (b .args .counts) (b .args .samples .now) (b .args .room) (d .node-count .result) (omega (arith, b .good .1 .0)) (passed (d .before)) (d .node-count .ensures)
+facts : (c : tie.After-node-count)
+    → let a = c .before .before .before .before .before .args in
+    AfterShape (a .axes) (a .counts) (a .samples .now) (a .room) (c .node-count .result)
+facts c =
+    let d = c .before .before .before .before in
+    after-shape _ _ _ _ _ (omega (arith, d .before .good .1 .0)) (shape-passes (c .before))
+    (c .node-count .ensures ∙ ap nodes (d .shape-of .ensures))
 
 returns : tie.Need-returns
 returns c =
     let d = c .before .before in
-    let a = d .before .args in
-    let g = ap meaning (c .enum-told .given .1) in
-    g ∙ sym (write-is (a .axes) (a .counts) (a .samples .now) (a .room) ∙ refused-first _ (sym (d .check-shape .ensures) ∙ g))
+    let a = d .before .before .args in
+    let g = ap outcomeOf (c .enum-told .given .1) in
+    let tested = sym (d .check-shape .ensures ∙ ap shapeOutcome (d .before .shape-of .ensures)) ∙ g in
+    g ∙ sym (write-is (a .axes) (a .counts) (a .samples .now) (a .room) ∙ refused-first _ tested)
 
 returns-2 : tie.Need-returns-2
 returns-2 c =
-    let l = c .before .before in
-    let s = l .before in
-    let d = s .before .before in
-    let b = d .before .before .before .before in
-    c .earlier2 .ensures
-    ∙ ap₂ first (s .before .refuse-unless .ensures) (c .before .earlier .ensures ∙ ap₂ first (s .refuse-unless2 .ensures) (l .check-limit .ensures))
-    ∙ write-rest (b .args .axes) (b .args .counts) (b .args .samples .now) (b .args .room) (d .node-count .result) (omega (arith, b .good .1 .0)) (passed (d .before)) (d .node-count .ensures)
+    let g = ap outcomeOf (c .enum-told3 .given .1) in
+    let four = c .before .before in
+    g ∙ sym (refused-first _ (sym (four .refuse-unless .ensures) ∙ g)) ∙ facts (four .before) .rest
+
+returns-3 : tie.Need-returns-3
+returns-3 c =
+    let g = ap outcomeOf (c .enum-told5 .given .1) in
+    let nine = c .before .before in
+    let four = nine .before .before .before in
+    let counted = sym (four .refuse-unless .ensures) ∙ ap outcomeOf (nine .before .enum-told4 .given .1) in
+    g ∙ sym (first-passed _ _ counted ∙ refused-first _ (sym (nine .refuse-unless2 .ensures) ∙ g)) ∙ facts (four .before) .rest
+
+returns-4 : tie.Need-returns-4
+returns-4 c =
+    let nine = c .before .before .before in
+    let four = nine .before .before .before in
+    let counted = sym (four .refuse-unless .ensures) ∙ ap outcomeOf (nine .before .enum-told4 .given .1) in
+    let roomy = sym (nine .refuse-unless2 .ensures) ∙ ap outcomeOf (c .before .enum-told6 .given .1) in
+    c .check-limit .ensures ∙ sym (first-passed _ _ counted ∙ first-passed _ _ roomy) ∙ facts (four .before) .rest
 
 pub check-write-spec : {M : Type 1} → statement M
 check-write-spec =
     tie.close
     (tie.spec
     (λ c κs. search needs)
+    (λ c κs. search needs)
     (λ c. search needs)
     returns
     (λ c. search needs)
-    (λ c κs. shaped _ (passed c))
+    (λ c κs. rw (c .before .before .before .shape-of .ensures) (shaped _ (shape-passes c)))
     (λ c. search needs)
-    (λ c. omega (arith, sizes c))
-    (λ c. omega (arith, sizes c))
+    (λ c. omega (arith, facts c))
+    (λ c. omega (arith, facts c))
     (λ c κs. search needs)
+    (λ c. search needs)
+    returns-2
+    (λ c. search needs)
     (λ c κs. search needs)
+    (λ c. search needs)
+    returns-3
+    (λ c. search needs)
     (λ c κs. search needs)
-    (λ c κs. search needs)
-    (λ c κs. search needs)
-    returns-2)
+    returns-4)

@@ -4,7 +4,7 @@ use mathlib.Core.Path.{_≡_, sym, ap, _∙_}
 use native.Mathlib.Omega.{arith}
 use lib.IntN.{ℤ}
 use lib.ListN.{length}
-use Rattle.lattice.specs.Answer.{meaning}
+use Rattle.lattice.specs.Answers.{outcomeOf}
 use Rattle.lattice.specs.Buffer.{overwrite}
 use Rattle.lattice.specs.Outcome.{done}
 use Rattle.lattice.proofs.OutcomeLaws.{first-passed, refused-first}
@@ -18,23 +18,23 @@ use Rattle.table_file.proofs.read.Statement.{statement}
 use Rattle.table_file.proofs.read.Tie as tie
 
 one-passed : (d : tie.After-enum-told) → oneOutcome (d .before .before .before .before .args .bytes .now) ≡ done tt
-one-passed d = sym (d .before .before .check-one .ensures) ∙ ap meaning (d .enum-told .given .1)
+one-passed d = sym (d .before .before .check-one .ensures) ∙ ap outcomeOf (d .enum-told .given .1)
 
 one-gave : (d : tie.After-node-count) → AfterOne (d .before .before .before .before .before .before .args .bytes .now) (d .before .shape-in .result .axes) (d .node-count .result)
 one-gave d = after-one _ (one-passed (d .before .before)) _ (d .before .shape-in .ensures) _ (d .node-count .ensures)
 
 rest-passed : (d : tie.After-enum-told2) → restOutcome (d .before .before .before .before .before .before .before .before .before .args .bytes .now) (length (d .before .before .before .before .before .before .before .before .before .args .samples .now)) ≡ done tt
-rest-passed d = sym (d .before .before .check-rest .ensures) ∙ ap meaning (d .enum-told2 .given .1)
+rest-passed d = sym (d .before .before .check-rest .ensures) ∙ ap outcomeOf (d .enum-told2 .given .1)
 
 returns : tie.Need-returns
 returns c =
     let d = c .before .before .before in
-    answered-refused _ _ _ _ _ (read-is _ _ ∙ refused-first _ (sym (d .check-one .ensures) ∙ ap meaning (c .before .one .given .1)))
+    answered-refused _ _ _ _ _ (read-is _ _ ∙ refused-first _ (sym (d .check-one .ensures) ∙ ap outcomeOf (c .before .one .given .1)))
 
 returns-2 : tie.Need-returns-2
 returns-2 c =
     let d = c .before .before .before in
-    answered-refused _ _ _ _ _ (read-is _ _ ∙ first-passed _ _ (one-passed (d .before .before .before)) ∙ refused-first _ (sym (d .check-rest .ensures) ∙ ap meaning (c .before .rest .given .1)))
+    answered-refused _ _ _ _ _ (read-is _ _ ∙ first-passed _ _ (one-passed (d .before .before .before)) ∙ refused-first _ (sym (d .check-rest .ensures) ∙ ap outcomeOf (c .before .rest .given .1)))
 
 fill-requires : tie.Need-fill-requires
 fill-requires c κs =

@@ -2,7 +2,7 @@
 use mathlib.Core.Path.{_≡_, sym, ap, _∙_}
 use native.Mathlib.Omega.{arith}
 use lib.ListN.{length}
-use Rattle.lattice.specs.Answer.{meaning}
+use Rattle.lattice.specs.Answers.{outcomeOf}
 use Rattle.lattice.specs.Outcome.{done}
 use Rattle.lattice.proofs.OutcomeLaws.{first-passed, refused-first}
 use Rattle.table_file.specs.File.{header, writeCheck, writeOutcome}
@@ -12,7 +12,7 @@ use Rattle.table_file.proofs.write.Statement.{statement}
 use Rattle.table_file.proofs.write.Tie as tie
 
 passed : (d : tie.After-enum-told) → writeCheck (header (d .before .before .before .before .args .axes) (d .before .before .before .before .args .counts)) (d .before .before .before .before .args .samples .now) (length (d .before .before .before .before .args .bytes .now)) ≡ done tt
-passed d = sym (d .before .before .check-write .ensures) ∙ ap meaning (d .enum-told .given .1)
+passed d = sym (d .before .before .check-write .ensures) ∙ ap outcomeOf (d .enum-told .given .1)
 
 put-file-requires : tie.Need-put-file-requires
 put-file-requires c κs =
@@ -23,7 +23,7 @@ put-file-requires c κs =
 
 returns : tie.Need-returns
 unfolding writeOutcome
-returns c = answered-refused _ _ _ _ _ (refused-first _ (sym (c .before .before .before .check-write .ensures) ∙ ap meaning (c .before .allowed .given .1)))
+returns c = answered-refused _ _ _ _ _ (refused-first _ (sym (c .before .before .before .check-write .ensures) ∙ ap outcomeOf (c .before .allowed .given .1)))
 
 returns-2 : tie.Need-returns-2
 unfolding writeOutcome

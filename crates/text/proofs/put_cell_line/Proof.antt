@@ -18,6 +18,18 @@ use Rattle.text.proofs.put_cell_line.Tie as tie
 same : (x : ℤ) (b : ℕ) → SFits w32 x → word (signedDecimal (toZ w64 (ofZ w64 (toZ w32 (ofZ w32 x))))) b ≡ word (signedDecimal x) b
 same x b f = ap (λ (y : ℤ). word (signedDecimal y) b) (widened x (f .sfits))
 
+returns : tie.Need-returns
+returns c =
+    let p₂ = c .before .before in
+    let p₁ = p₂ .before .before .before .before in
+    let p₀ = p₁ .before .before .before .before in
+    let b = p₀ .before .before .before in
+    let a = b .args in
+    let l = put-as (cell-is (a .cell) (a .cubic) (a .quintic))
+    (put-then (p₀ .put-indices .ensures) (put-then (put-as (same (a .cubic) 32 (b .fits .cubic)) (p₁ .put-word .ensures))
+    (put-as (same (a .quintic) 10 (b .fits .quintic)) (p₂ .put-word2 .ensures)))) in
+    (l .ended, l .written)
+
 put-word-requires-2 : tie.Need-put-word-requires-2
 put-word-requires-2 c κs =
     let b = c .before .before .before .before .before .before .before .before .before .before in
@@ -29,17 +41,6 @@ put-word-requires c κs =
     let b = c .before .before .before .before .before .before in
     let a = b .args in
     omega (arith, cell-length (a .cell) (a .cubic) (a .quintic), ap length (same (a .cubic) 32 (b .fits .cubic)))
-
-returns : tie.Need-returns
-returns c =
-    let p₂ = c .before .before in
-    let p₁ = p₂ .before .before .before .before in
-    let p₀ = p₁ .before .before .before .before in
-    let b = p₀ .before .before .before in
-    let a = b .args in
-    let l = put-as (cell-is (a .cell) (a .cubic) (a .quintic))
-    (put-then (p₀ .put-indices .ensures) (put-then (put-as (same (a .cubic) 32 (b .fits .cubic)) (p₁ .put-word .ensures)) (put-as (same (a .quintic) 10 (b .fits .quintic)) (p₂ .put-word2 .ensures)))) in
-    (l .ended, l .written)
 
 pub put-cell-line-spec : {M : Type 1} → statement M
 put-cell-line-spec =

@@ -1,0 +1,43 @@
+//! The library's calls beside hand-written Rust and C of the same whole calls, the published method
+//! in f64, and LittleCMS where it is installed. All times are of one run, in nanoseconds a call; in
+//! brackets is the library's time divided by the other's. The tables are those of `docs/SPEED.md`.
+//!
+//! Doses and slopes by hand are of two kinds: specialised, with one copy of the code for each
+//! degree, number of axes and slope axis; and plain, with one copy for all of them. Each kind works
+//! off an axis in two ways: as printed, and with the table folded into the weights.
+
+mod c;
+mod clock;
+mod conversion;
+mod double;
+mod estimation;
+mod floats;
+mod hand;
+mod inputs;
+mod lcms;
+mod queries;
+mod report;
+
+use std::env;
+
+// All parts, or those named by the arguments.
+fn main() {
+    let parts: [(&str, fn()); 6] = [
+        ("estimation", estimation::run),
+        ("conversion", conversion::run),
+        ("queries", queries::run),
+        ("floats", floats::run),
+        ("c", c::run),
+        ("lcms", lcms::run),
+    ];
+    let named: Vec<String> = env::args().skip(1).collect();
+    for name in &named {
+        let known = parts.iter().any(|part| part.0 == name);
+        assert!(known, "there is no part {name}");
+    }
+    for (name, part) in parts {
+        if named.is_empty() || named.iter().any(|wanted| wanted == name) {
+            part();
+        }
+    }
+}

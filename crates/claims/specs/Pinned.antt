@@ -1,0 +1,172 @@
+-- Further rows: where a theorem would hold of more than one reading of document 01, a computed row fixes the reading.
+-- Refusal numbers, places and order; the order of nodes, entries, coefficients and corners on two and three axes; limits;
+-- the order of the stages; the cell of a shared node; the distances.
+use mathlib.Core.List.{List, [], _∷_, _++_}
+use Prim.Native.Nat.{ℕ, suc, _+_, _*_, _-_}
+use lib.Dec.{eqb}
+use lib.IntN.{ℤ, pos, negsuc, natAbs, _-ℤ_, _*ℤ_}
+use lib.ListN.{replicate}
+use Rattle.arith.specs.Choice.{pick}
+use Rattle.lattice.specs.declared.Shape.{Shape}
+use Rattle.lattice.specs.Outcome.{Outcome, Check, done, refused, first}
+use Rattle.lattice.specs.Buffer.{tabulate}
+use Rattle.lattice.specs.Shape.{shapeOf, size}
+use Rattle.lattice.specs.Digits.{digit}
+use Rattle.lattice.specs.Records.{entryLimit}
+use Rattle.estimate.specs.Estimate.{tableRecords, estimateOutcome}
+use Rattle.evaluate.specs.Evaluate.{Want, dose, slopeAlong, exactSum, exactDivisor}
+use Rattle.table_file.specs.File.{readCheck, fileOf, header}
+use Rattle.claims.specs.Third.{Query, atPosition, inCell, queried, allowedDistance, asked}
+use Rattle.claims.specs.Examples.{Table, listed, Row, _gives_, _refusedAs_atPlace_, coefficientsOf, backFrom, backInto, pair, at-x}
+
+-- ---- what a row computes
+
+-- a test, with nothing to list
+abbrev pub tested : Check → Outcome (List ℤ)
+tested (done u) = done []
+tested (refused number place) = refused number place
+
+-- a query of records
+unfoldable pub answerFrom : Shape → List ℤ → Want → Query → Outcome (List ℤ)
+answerFrom s rs want q = listed (queried s rs want q)
+
+-- the numbers of a list that are not 0, each after its index; the first has index i
+unfoldable pub notZero : ℕ → List ℤ → List ℤ
+notZero i [] = []
+notZero i (x ∷ xs) = pick (eqb (natAbs x) 0) [] (pos i ∷ x ∷ []) ++ notZero (suc i) xs
+
+unfoldable pub sparse : Outcome (List ℤ) → Outcome (List ℤ)
+sparse (done xs) = done (notZero 0 xs)
+sparse (refused number place) = refused number place
+
+-- a list of that many numbers, 0 but for those that stand after their index
+unfoldable pub among : List ℕ → ℕ → ℤ
+among [] k = pos 0
+among (i ∷ []) k = pos 0
+among (i ∷ v ∷ rest) k = pick (eqb k i) (pos v) (among rest k)
+
+unfoldable pub numbered : ℕ → List ℕ → List ℤ
+numbered count entries = tabulate count (among entries)
+
+-- the limits of that many entries of a record on three axes
+unfoldable pub limits : ℕ → ℕ → List ℤ
+limits m count = tabulate count (λ i. pos (entryLimit m 3 (λ a. digit (λ b. m) i a)))
+
+-- the distance allowed less the distance of the answer v from the exact value, multiplied out
+unfoldable pub leftOver : Table → Want → List ℤ → ℤ → ℤ
+leftOver t want p v =
+    let q = asked (t .shape) want (atPosition p) in
+    let f = allowedDistance want (t .shape .axes) in
+    let y = exactDivisor q in
+    pos (f .top * y - f .bottom * natAbs (v *ℤ pos y -ℤ exactSum q (tableRecords (t .shape) (t .samples))))
+
+-- the distances allowed on one, two and three axes
+unfoldable pub distances : Want → List ℤ
+distances want =
+    pos (allowedDistance want 1 .top) ∷ pos (allowedDistance want 1 .bottom) ∷ pos (allowedDistance want 2 .top) ∷ pos (allowedDistance want 2 .bottom)
+    ∷ pos (allowedDistance want 3 .top) ∷ pos (allowedDistance want 3 .bottom) ∷ []
+
+-- ---- tables
+
+abbrev pub line : Shape
+line = shapeOf 1 3 (3 ∷ 1 ∷ 1 ∷ [])
+
+abbrev pub plane : Shape
+plane = shapeOf 2 3 (2 ∷ 2 ∷ 1 ∷ [])
+
+abbrev pub cube : Shape
+cube = shapeOf 3 3 (2 ∷ 2 ∷ 2 ∷ [])
+
+-- no two counts alike
+abbrev pub block : Shape
+block = shapeOf 3 3 (2 ∷ 3 ∷ 4 ∷ [])
+
+abbrev pub sheet : Shape
+sheet = shapeOf 2 3 (3 ∷ 4 ∷ 1 ∷ [])
+
+-- all entries 0 but one
+unfoldable pub only : Shape → ℕ → ℤ → List ℤ
+only s i v = replicate i (pos 0) ++ (v ∷ replicate (size s - suc i) (pos 0))
+
+-- eight values, each with seven entries 0
+unfoldable pub flat : List ℤ → List ℤ
+flat [] = []
+flat (v ∷ vs) = (v ∷ pos 0 ∷ pos 0 ∷ pos 0 ∷ pos 0 ∷ pos 0 ∷ pos 0 ∷ pos 0 ∷ []) ++ flat vs
+
+abbrev pub at : ℤ → ℤ → ℤ → Query
+at x y z = atPosition (x ∷ y ∷ z ∷ [])
+
+abbrev pub start : Query
+start = at (pos 0) (pos 0) (pos 0)
+
+-- the file of 0, 100 with more bytes
+unfoldable pub fileWith : List ℕ → List ℕ
+fileWith more = fileOf (header 1 (2 ∷ 1 ∷ 1 ∷ [])) (pos 0 ∷ pos 100 ∷ []) ++ more
+
+-- ---- refusals: numbers, places and order
+
+unfoldable pub refusals : List Row
+refusals =
+    -- 1, 2, 3, then 4; 64 nodes stand
+    (answerFrom (shapeOf 4 7 (0 ∷ 0 ∷ 0 ∷ [])) [] dose start refusedAs 1 atPlace 0)
+    ∷ (answerFrom (shapeOf 2 7 (2 ∷ 65 ∷ 1 ∷ [])) [] dose start refusedAs 2 atPlace 0)
+    ∷ (answerFrom (shapeOf 2 3 (64 ∷ 65 ∷ 1 ∷ [])) [] dose start refusedAs 3 atPlace 1)
+    ∷ (answerFrom (shapeOf 2 5 (64 ∷ 64 ∷ 1 ∷ [])) [] (slopeAlong 2) start refusedAs 4 atPlace 0)
+    -- 4 before 9; a sample of 32768 stands
+    ∷ (tested (estimateOutcome plane (pos 0 ∷ []) 0) refusedAs 4 atPlace 0)
+    ∷ (tested (estimateOutcome line (pos 32768 ∷ negsuc 32767 ∷ pos 32769 ∷ []) 6) refusedAs 5 atPlace 2)
+    -- 15 before 9; the place of 13 is 0 wherever the entry stands
+    ∷ (backInto 0 1 3 (pos 0 ∷ []) refusedAs 15 atPlace 0)
+    ∷ (backFrom 1 3 (pos 0 ∷ pos 0 ∷ pos 65537 ∷ pos 0 ∷ []) refusedAs 13 atPlace 0)
+    -- 12 before 14, 14 before 11, 11 before 5
+    ∷ (answerFrom plane (only plane 0 (pos 32769)) (slopeAlong 2) (inCell (1 ∷ 0 ∷ 0 ∷ []) (0 ∷ 0 ∷ 0 ∷ []))
+    refusedAs 12 atPlace 0)
+    ∷ (answerFrom plane (only plane 0 (pos 32769)) dose (inCell (0 ∷ 1 ∷ 0 ∷ []) (257 ∷ 0 ∷ 0 ∷ [])) refusedAs 14 atPlace 1)
+    ∷ (answerFrom plane (only plane 0 (pos 32769)) dose (inCell (0 ∷ 0 ∷ 0 ∷ []) (256 ∷ 257 ∷ 0 ∷ [])) refusedAs 11 atPlace 1)
+    -- the place of 7 is the first spare byte
+    ∷ (tested (readCheck (fileWith (0 ∷ 0 ∷ [])) 0) refusedAs 7 atPlace 20)
+    ∷ []
+
+-- ---- cells, limits, nodes and entries
+
+unfoldable pub readings : List Row
+readings =
+    -- a position on a shared node is read in the upper cell
+    (answerFrom line (pos 32769 ∷ pos 0 ∷ pos 7 ∷ pos 0 ∷ pos 9 ∷ pos 0 ∷ []) dose (atPosition (at-x 256)) gives pos 7 ∷ [])
+    -- the limits of the entries of a record
+    ∷ (done (limits 2 8 ++ limits 3 9)
+    gives pos 32768 ∷ pos 65536 ∷ pos 65536 ∷ pos 131072 ∷ pos 65536 ∷ pos 131072 ∷ pos 131072 ∷ pos 262144
+    ∷ pos 32768 ∷ pos 65536 ∷ pos 131072 ∷ pos 65536 ∷ pos 131072 ∷ pos 262144 ∷ pos 131072 ∷ pos 262144 ∷ pos 524288 ∷ [])
+    -- the place of 5, corner by corner with x fastest
+    ∷ (answerFrom cube (flat (pos 0 ∷ pos 32769 ∷ pos 32769 ∷ pos 0 ∷ pos 32769 ∷ pos 0 ∷ pos 0 ∷ pos 0 ∷ [])) dose start
+    refusedAs 5 atPlace 8)
+    ∷ (answerFrom cube (flat (pos 0 ∷ pos 0 ∷ pos 32769 ∷ pos 0 ∷ pos 32769 ∷ pos 0 ∷ pos 0 ∷ pos 0 ∷ [])) dose start
+    refusedAs 5 atPlace 16)
+    -- nodes and entries, x fastest: twice the slope along y of node (0, 1, 2), and of node (1, 2)
+    ∷ (answerFrom block (only block 114 (pos 20)) (slopeAlong 1) (at (pos 0) (pos 256) (pos 512)) gives pos 10 ∷ [])
+    ∷ (answerFrom sheet (only sheet 30 (pos 20)) (slopeAlong 1) (at (pos 256) (pos 512) (pos 0)) gives pos 10 ∷ [])
+    ∷ []
+
+-- ---- stages, coefficients, distances
+
+unfoldable pub numbers : List Row
+numbers =
+    -- the stages' order: x, y, z, a slope's axis last
+    (answerFrom cube (flat (pos 0 ∷ negsuc 1 ∷ negsuc 0 ∷ negsuc 0 ∷ pos 3 ∷ negsuc 0 ∷ pos 0 ∷ pos 0 ∷ [])) dose
+    (at (pos 160) (pos 96) (pos 128)) gives negsuc 0 ∷ [])
+    ∷ (answerFrom cube (flat (negsuc 0 ∷ pos 1 ∷ negsuc 0 ∷ negsuc 0 ∷ pos 0 ∷ pos 0 ∷ negsuc 1 ∷ negsuc 1 ∷ []))
+    (slopeAlong 1) (at (pos 32) (pos 96) (pos 128)) gives negsuc 1 ∷ [])
+    -- coefficients, x index fastest, of twice the slope along y of corner (1, 0), and of corner (1, 0, 0); and back
+    ∷ (sparse (coefficientsOf plane (only plane 6 (pos 1))) gives pos 6 ∷ pos 6 ∷ pos 7 ∷ pos 2 ∷ [])
+    ∷ (sparse (coefficientsOf cube (only cube 10 (pos 1)))
+    gives pos 6 ∷ pos 12 ∷ pos 7 ∷ pos 4 ∷ pos 22 ∷ pos 36 ∷ pos 23 ∷ pos 12 ∷ [])
+    ∷ (sparse (backFrom 3 3 (numbered 64 (6 ∷ 12 ∷ 7 ∷ 4 ∷ 22 ∷ 36 ∷ 23 ∷ 12 ∷ []))) gives pos 10 ∷ pos 1 ∷ [])
+    -- one half is attained on one axis; the distances allowed
+    ∷ (done (leftOver (pair 3 (pos 0) (pos 1)) dose (at-x 128) (pos 1) ∷ distances dose ++ distances (slopeAlong 0))
+    gives pos 0
+    ∷ pos 1 ∷ pos 2 ∷ pos 37 ∷ pos 64 ∷ pos 173 ∷ pos 256
+    ∷ pos 1 ∷ pos 2 ∷ pos 13 ∷ pos 16 ∷ pos 77 ∷ pos 64 ∷ [])
+    ∷ []
+
+unfoldable pub pins : List Row
+pins = refusals ++ readings ++ numbers

@@ -1,0 +1,81 @@
+-- The second demand: coefficients exactly as in the paper, from estimates or from measured slopes; back gives the corner records that have given
+-- coefficients, and refuses 13 if and only if no permitted ones have them.
+use mathlib.Core.Path.{_≡_}
+use mathlib.Core.List.{List}
+use mathlib.Core.Logic.{_⊎_, _↔_}
+use Prim.Native.Nat.{ℕ, _≤_, _^_, _<_}
+use lib.IntN.{ℤ, natAbs}
+use lib.ListN.{length, take}
+use Rattle.lattice.specs.declared.Shape.{Shape}
+use Rattle.lattice.specs.Outcome.{done, refused}
+use Rattle.lattice.specs.Buffer.{at, overwrite}
+use Rattle.lattice.specs.Shape.{orders, ordersOf, size, axesOutcome, degreeOutcome, shapeOutcome}
+use Rattle.lattice.specs.Axes.{Place, Field}
+use Rattle.lattice.specs.Records.{recordsField, entryLimit}
+use Rattle.cell.specs.Cell.{placeAt, Accepted, InCorners}
+use Rattle.coefficients.specs.Corners.{coefficientCount, coefficientList, coefficientsOutcome, coefficientsWrites, PermittedCorners, HasCoefficients, backOutcome, backWrites}
+use Rattle.estimate.specs.Estimate.{tableRecords, estimateWrites}
+use Rattle.claims.specs.Third.{AcceptedTable}
+
+-- ---- forward
+
+-- the coefficients call, lent the records rs: it is not refused, and `out` then holds the coefficients of the numbers g, each within 2^30, and its old tail
+pub record Converts (s : Shape) (rs : List ℤ) (g : Field) (cell : List ℕ) (out : List ℤ) : Type 0 where
+  pub taken : coefficientsOutcome s rs (placeAt cell) (length out) ≡ done tt
+  pub written : coefficientsWrites s rs (placeAt cell) out ≡ overwrite (coefficientList (orders s) (s .axes) (placeAt cell) g) out
+  pub within : (K : ℕ) → K < coefficientCount (orders s) (s .axes) → natAbs (at (coefficientList (orders s) (s .axes) (placeAt cell) g) K) ≤ 2 ^ 30
+
+-- an accepted cell, and a slice long enough
+pub record Asked (s : Shape) (cell : List ℕ) (out : List ℤ) : Type 0 where
+  pub here : Accepted s (placeAt cell)
+  pub room : coefficientCount (orders s) (s .axes) ≤ length out
+
+-- from estimates: the call is lent exactly the records that estimation wrote, and converts the records that the rules under Estimates give
+abbrev pub FromEstimates : Type 0
+FromEstimates =
+    (s : Shape) (xs old : List ℤ) (cell : List ℕ) (out : List ℤ) → AcceptedTable s xs old → Asked s cell out
+    → Converts s (take (size s) (estimateWrites s xs old)) (tableRecords s xs) cell out
+
+-- records as many as the shape has, of which those of the cell's corners are within their limits
+pub record Measured (s : Shape) (rs : List ℤ) (cell : List ℕ) : Type 0 where
+  pub shape : shapeOutcome s ≡ done tt
+  pub many : length rs ≡ size s
+  pub within : (p : Place) → InCorners (orders s) (s .axes) (placeAt cell) p → natAbs (recordsField s rs p) ≤ entryLimit (orders s) (s .axes) p
+
+-- from measured slopes
+abbrev pub FromRecords : Type 0
+FromRecords = (s : Shape) (rs : List ℤ) (cell : List ℕ) (out : List ℤ) → Measured s rs cell → Asked s cell out → Converts s rs (recordsField s rs) cell out
+
+-- ---- back
+
+-- n and d are permitted, and there are as many coefficients as asked for and room for as many entries
+pub record BackAsked (n degree : ℕ) (cs out : List ℤ) : Type 0 where
+  pub axes-ok : axesOutcome n ≡ done tt
+  pub degree-ok : degreeOutcome degree ≡ done tt
+  pub many : length cs ≡ coefficientCount (ordersOf degree) n
+  pub room : coefficientCount (ordersOf degree) n ≤ length out
+
+-- permitted corner records that have the coefficients cs
+pub record CornersOf (n degree : ℕ) (cs r : List ℤ) : Type 0 where
+  pub permitted : PermittedCorners (ordersOf degree) n r
+  pub has : HasCoefficients (ordersOf degree) n r cs
+
+pub record ConvertsBack (n degree : ℕ) (cs out : List ℤ) : Type 0 where
+  -- the answer is done or 13, and nothing else
+  pub answer : (backOutcome n degree cs (length out) ≡ done tt) ⊎ (backOutcome n degree cs (length out) ≡ refused 13 0)
+  -- done if and only if there are such corner records
+  pub possible : (backOutcome n degree cs (length out) ≡ done tt) ↔ ((r : List ℤ) × CornersOf n degree cs r)
+  -- there is one such list, and the slice then holds it and its old tail
+  pub unique : (r q : List ℤ) → CornersOf n degree cs r → CornersOf n degree cs q → r ≡ q
+  pub written : (r : List ℤ) → CornersOf n degree cs r → backWrites n degree cs out ≡ overwrite r out
+
+abbrev pub Back : Type 0
+Back = (n degree : ℕ) (cs out : List ℤ) → BackAsked n degree cs out → ConvertsBack n degree cs out
+
+-- ---- the whole
+
+-- for all tables, cells and buffers
+pub record SecondDemand : Type 0 where
+  pub from-estimates : FromEstimates
+  pub from-records : FromRecords
+  pub back : Back

@@ -1,0 +1,60 @@
+//! Limits of tables and the largest sizes of buffers, as `lukhtari.h` has them.
+
+/// Number of the C interface; another number means other structs or calls.
+pub const INTERFACE: u32 = 1;
+
+/// Steps of a cell along an axis.
+pub const STEPS: u32 = 256;
+
+/// Least node count of a used axis.
+pub const COUNT_MIN: u32 = 2;
+
+/// Largest node count of an axis.
+pub const COUNT_MAX: u32 = 64;
+
+/// Most nodes of a table.
+pub const NODES_MAX: usize = (COUNT_MAX as usize).pow(3);
+
+/// Largest size of a sample.
+pub const SAMPLE_LIMIT: i32 = 32768;
+
+/// Largest size of an entry whose orders add up to `orders`, which is at most 6.
+///
+/// ```
+/// use lukhtari::limits::{entry_limit, SAMPLE_LIMIT};
+/// assert_eq!(entry_limit(0), SAMPLE_LIMIT);
+/// assert_eq!(entry_limit(3), 8 * SAMPLE_LIMIT);
+/// ```
+pub const fn entry_limit(orders: u32) -> i32 {
+    SAMPLE_LIMIT.saturating_mul(2_i32.saturating_pow(orders))
+}
+
+/// Largest size of a coefficient.
+pub const COEFFICIENT_LIMIT: i32 = 1 << 30;
+
+/// Doses and slopes are smaller than this in size.
+pub const ANSWER_LIMIT: i32 = 1 << 24;
+
+/// Most entries of one record.
+pub const RECORD_ENTRIES_MAX: usize = 27;
+
+/// Most entries of all records of a table.
+pub const ENTRIES_MAX: usize = NODES_MAX * RECORD_ENTRIES_MAX;
+
+/// Most coefficients of a cell, and most entries of its corner records.
+pub const COEFFICIENTS_MAX: usize = 216;
+
+/// Most bytes of a table file.
+pub const FILE_BYTES_MAX: usize = 4 * (2 + 3 + NODES_MAX);
+
+/// Most bytes of stack that an estimation uses.
+pub const STACK_ESTIMATE: usize = 8192;
+
+/// Most bytes of stack that coefficients or corner records use.
+pub const STACK_CONVERSION: usize = 4096;
+
+/// Most bytes of stack that a dose or slope uses.
+pub const STACK_QUERY: usize = 2048;
+
+/// Most bytes of stack that reading or writing a table file uses.
+pub const STACK_FILE: usize = 1024;

@@ -1,7 +1,0 @@
-//! Benchmarks: run with `cargo run --release`.
-
-mod bench;
-
-fn main() {
-    bench::run();
-}

@@ -1,0 +1,187 @@
+/* The stack that each call uses: it runs on painted memory, and what it painted over is counted,
+ * with the frame that makes the call. Prints the call's name, its bytes and its limit. */
+#define _XOPEN_SOURCE 700
+#include "lukhtari.h"
+
+#include <stdio.h>
+#include <string.h>
+#include <ucontext.h>
+
+enum { STACK = 65536, PAINT = 0xA5, X = 64, NODES = X * 3 * 3 };
+
+static unsigned char stack[STACK];
+static unsigned char *top;
+static ucontext_t here, there;
+static void (*call)(void);
+
+/* What the calls are lent. */
+static lukhtari_shape shape;
+static lukhtari_position position;
+static lukhtari_float_position float_position;
+static lukhtari_index cell, u, counts;
+static uint32_t slope_axis;
+static int32_t samples[NODES], records[NODES * LUKHTARI_RECORD_ENTRIES_MAX];
+static int32_t coefficients[LUKHTARI_COEFFICIENTS_MAX], corners[LUKHTARI_COEFFICIENTS_MAX];
+static uint8_t file[LUKHTARI_FILE_BYTES(3, NODES)];
+static size_t nodes, entries, cell_numbers, bytes;
+static uint32_t number;
+
+static void estimate(void) {
+    number = lukhtari_estimate(shape, samples, nodes, records, entries).number;
+}
+
+static void forward(void) {
+    number = lukhtari_coefficients(shape, records, entries, cell, coefficients, cell_numbers).number;
+}
+
+static void back(void) {
+    number = lukhtari_corners(shape.axes, shape.degree, coefficients, cell_numbers, corners,
+                              cell_numbers)
+                 .number;
+}
+
+static void dose(void) { number = lukhtari_dose(shape, records, entries, position).number; }
+
+static void slope(void) {
+    number = lukhtari_slope(shape, records, entries, position, slope_axis).number;
+}
+
+static void dose_in_cell(void) {
+    number = lukhtari_dose_in_cell(shape, records, entries, cell, u).number;
+}
+
+static void slope_in_cell(void) {
+    number = lukhtari_slope_in_cell(shape, records, entries, cell, u, slope_axis).number;
+}
+
+static void dose_float(void) {
+    number = lukhtari_dose_float(shape, records, entries, float_position).number;
+}
+
+static void slope_float(void) {
+    number = lukhtari_slope_float(shape, records, entries, float_position, slope_axis).number;
+}
+
+static void write_file(void) {
+    number = lukhtari_write(shape.axes, counts, samples, nodes, file, sizeof file).number;
+}
+
+static void read_file(void) { number = lukhtari_read(file, bytes, samples, NODES).number; }
+
+enum {
+    ESTIMATE,
+    COEFFICIENTS,
+    CORNERS,
+    DOSE,
+    SLOPE,
+    DOSE_IN_CELL,
+    SLOPE_IN_CELL,
+    DOSE_FLOAT,
+    SLOPE_FLOAT,
+    WRITE,
+    READ,
+    CALLS
+};
+
+static const struct {
+    const char *name;
+    void (*call)(void);
+    size_t limit;
+} calls[CALLS] = {
+    {"estimate", estimate, LUKHTARI_STACK_ESTIMATE},
+    {"coefficients", forward, LUKHTARI_STACK_CONVERSION},
+    {"corners", back, LUKHTARI_STACK_CONVERSION},
+    {"dose", dose, LUKHTARI_STACK_QUERY},
+    {"slope", slope, LUKHTARI_STACK_QUERY},
+    {"dose_in_cell", dose_in_cell, LUKHTARI_STACK_QUERY},
+    {"slope_in_cell", slope_in_cell, LUKHTARI_STACK_QUERY},
+    {"dose_float", dose_float, LUKHTARI_STACK_QUERY},
+    {"slope_float", slope_float, LUKHTARI_STACK_QUERY},
+    {"write", write_file, LUKHTARI_STACK_FILE},
+    {"read", read_file, LUKHTARI_STACK_FILE},
+};
+
+static size_t most[CALLS];
+
+static void on_stack(void) {
+    top = __builtin_frame_address(0);
+    call();
+}
+
+/* Makes one call on the painted stack, keeps the most bytes, and returns whether its number is the
+ * expected one. */
+static int measure(int which, uint32_t expected) {
+    memset(stack, PAINT, sizeof stack);
+    call = calls[which].call;
+    getcontext(&there);
+    there.uc_stack.ss_sp = stack;
+    there.uc_stack.ss_size = sizeof stack;
+    there.uc_link = &here;
+    makecontext(&there, on_stack, 0);
+    swapcontext(&here, &there);
+    size_t first = 0;
+    while (stack[first] == PAINT) {
+        first++;
+    }
+    size_t used = (size_t)(top - &stack[first]);
+    most[which] = used > most[which] ? used : most[which];
+    return number == expected;
+}
+
+/* Sets everything for a table. */
+static void prepare(uint32_t axes, uint32_t degree) {
+    lukhtari_shape wanted = {axes, degree, {X, axes > 1 ? 3 : 1, axes > 2 ? 3 : 1}};
+    shape = wanted;
+    memcpy(counts.at, shape.counts, sizeof counts.at);
+    nodes = LUKHTARI_NODES(shape.counts[0], shape.counts[1], shape.counts[2]);
+    entries = LUKHTARI_ENTRIES(axes, degree, nodes);
+    cell_numbers = LUKHTARI_COEFFICIENTS(axes, degree);
+    bytes = LUKHTARI_FILE_BYTES(axes, nodes);
+    for (size_t i = 0; i < nodes; i++) {
+        samples[i] = (int32_t)(i * 7919 % 60000) - 30000;
+    }
+    for (uint32_t axis = 0; axis < axes; axis++) {
+        position.at[axis] = 77;
+        u.at[axis] = 77;
+    }
+    float_position.x = 0.3f;
+    float_position.y = axes > 1 ? 0.3f : 0;
+    float_position.z = axes > 2 ? 0.3f : 0;
+}
+
+/* Every call on a table: with its full result, then refused for a number that it reads. */
+static int measure_table(uint32_t axes, uint32_t degree) {
+    int right = 1;
+    prepare(axes, degree);
+    for (int which = 0; which < CALLS; which++) {
+        for (slope_axis = 0; slope_axis < axes; slope_axis++) {
+            right &= measure(which, LUKHTARI_NOT_REFUSED);
+        }
+    }
+    slope_axis = axes - 1;
+    records[0] = LUKHTARI_SAMPLE_LIMIT + 1;
+    for (int which = DOSE; which <= SLOPE_FLOAT; which++) {
+        right &= measure(which, LUKHTARI_REFUSED_BEYOND_LIMIT);
+    }
+    right &= measure(COEFFICIENTS, LUKHTARI_REFUSED_BEYOND_LIMIT);
+    coefficients[0] = 1;
+    right &= measure(CORNERS, LUKHTARI_REFUSED_NO_CORNER_RECORDS);
+    samples[nodes - 1] = LUKHTARI_SAMPLE_LIMIT + 1;
+    right &= measure(ESTIMATE, LUKHTARI_REFUSED_BEYOND_LIMIT);
+    right &= measure(WRITE, LUKHTARI_REFUSED_BEYOND_LIMIT);
+    return right;
+}
+
+int main(void) {
+    int right = 1;
+    for (uint32_t axes = 1; axes <= 3; axes++) {
+        for (uint32_t degree = 3; degree <= 5; degree += 2) {
+            right &= measure_table(axes, degree);
+        }
+    }
+    for (int which = 0; which < CALLS; which++) {
+        printf("%s %zu %zu\n", calls[which].name, most[which], calls[which].limit);
+        right &= most[which] > 0 && most[which] <= calls[which].limit;
+    }
+    return !right;
+}

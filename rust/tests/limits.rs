@@ -1,0 +1,89 @@
+//! The constants of `lukhtari::limits` are the numbers at which the calls begin to refuse.
+
+mod common;
+mod model;
+
+use common::{cube, plain_shape, KINDS};
+use lukhtari::limits::*;
+use lukhtari::*;
+
+// The number of a refusal, 0 for none.
+fn number<T>(answer: Result<T, Refusal>) -> u32 {
+    answer.err().map_or(0, |refusal| refusal.number)
+}
+
+#[test]
+fn samples() {
+    let shape = cube(1, 3, 2);
+    for sign in [1, -1] {
+        let refused = |sample| number(estimate(shape, &[0, sign * sample], &mut [0; 4]));
+        assert_eq!(refused(SAMPLE_LIMIT), 0);
+        assert_eq!(refused(SAMPLE_LIMIT + 1), Refusal::BEYOND_LIMIT);
+    }
+}
+
+#[test]
+fn node_counts() {
+    for (axes, degree) in KINDS {
+        let refused = |count| {
+            let shape = cube(axes, degree, count);
+            let samples = vec![SAMPLE_LIMIT; shape.nodes()];
+            number(estimate(shape, &samples, &mut vec![0; shape.entries()]))
+        };
+        let counts = [COUNT_MIN - 1, COUNT_MIN, COUNT_MAX, COUNT_MAX + 1];
+        assert_eq!(counts.map(refused), [3, 0, 0, 3]);
+    }
+}
+
+#[test]
+fn largest_table() {
+    let shape = cube(3, 5, COUNT_MAX);
+    assert_eq!(shape.nodes(), NODES_MAX);
+    assert_eq!(shape.entries(), ENTRIES_MAX);
+    assert_eq!(shape.coefficients(), COEFFICIENTS_MAX);
+    assert_eq!(shape.file_bytes(), FILE_BYTES_MAX);
+    assert_eq!(ENTRIES_MAX, NODES_MAX * RECORD_ENTRIES_MAX);
+}
+
+#[test]
+fn steps() {
+    let shape = cube(1, 3, 3);
+    let records = [0; 6];
+    let last = 2 * STEPS as i32;
+    assert_eq!(number(dose(shape, &records, [last, 0, 0])), 0);
+    assert_eq!(number(dose(shape, &records, [last + 1, 0, 0])), 11);
+    let within = |u| number(dose_in_cell(shape, &records, [0; 3], [u, 0, 0]));
+    assert_eq!([STEPS, STEPS + 1].map(within), [0, Refusal::POSITION]);
+}
+
+#[test]
+fn entries() {
+    for (axes, degree) in KINDS {
+        let shape = cube(axes, degree, 2);
+        for (entry, orders) in plain_shape(shape).record_orders().into_iter().enumerate() {
+            let limit = entry_limit(orders.iter().sum::<usize>() as u32);
+            let mut records = vec![0; shape.entries()];
+            for (size, expected) in [(limit, 0), (limit + 1, Refusal::BEYOND_LIMIT)] {
+                records[entry] = size;
+                assert_eq!(number(dose(shape, &records, [0; 3])), expected);
+            }
+        }
+    }
+}
+
+#[test]
+fn coefficients_and_answers() {
+    for (axes, degree) in KINDS {
+        let shape = cube(axes, degree, 2);
+        let orders = plain_shape(shape).record_orders();
+        let limits = orders
+            .iter()
+            .map(|orders| entry_limit(orders.iter().sum::<usize>() as u32));
+        let records: Vec<i32> = limits.cycle().take(shape.entries()).collect();
+        let mut all = vec![0; shape.coefficients()];
+        coefficients(shape, &records, [0; 3], &mut all).expect("permitted records");
+        assert!(all.iter().all(|number| number.abs() <= COEFFICIENT_LIMIT));
+        let middle = [0, 1, 2].map(|axis| if axis < axes { 128 } else { 0 });
+        assert!(dose(shape, &records, middle).expect("an answer").abs() < ANSWER_LIMIT);
+    }
+}

@@ -1,0 +1,391 @@
+//! Readings of document 01 that theorems leave open, fixed by printed numbers: the rows of
+//! crates/claims/specs/Pinned.antt and more of their kind.
+
+mod common;
+mod files;
+mod model;
+mod printed;
+mod queries;
+
+use common::*;
+use files::EXAMPLE;
+use lukhtari::dose_float;
+use model::query::Where::{Cell, Position};
+use model::Rational;
+use printed::*;
+
+#[test]
+fn axes_then_degree_then_counts_then_lengths() {
+    for (axes, degree, counts, slope, number, place) in [
+        (4, 7, [0, 0, 0], None, 1, 0),
+        (2, 7, [2, 65, 1], None, 2, 0),
+        (2, 3, [64, 65, 1], None, 3, 1),
+        (2, 5, [64, 64, 1], Some(2), 4, 0),
+    ] {
+        let shape = shape(axes, degree, counts);
+        check(shape, &[], START, slope, refused(number, place));
+        let said = with_nothing_lent(shape);
+        assert_eq!(said[..4], [refused(number, place); 4], "{shape:?}");
+    }
+}
+
+#[test]
+fn degrees_are_3_and_5() {
+    for degree in [0, 1, 2, 4, 6, 7, 8, 9, 11, u32::MAX] {
+        for axes in 1..=3 {
+            let said = with_nothing_lent(cube(axes, degree, 2));
+            assert_eq!(said[..4], [refused(2, 0); 4], "degree {degree}");
+            assert_eq!(back(axes, degree, &[], 0), refused(2, 0));
+        }
+    }
+}
+
+#[test]
+fn nodes_on_an_axis_are_64_at_most() {
+    for (axes, degree) in KINDS {
+        for axis in 0..axes as usize {
+            let mut shape = cube(axes, degree, 2);
+            shape.counts[axis] = 64;
+            let samples = vec![7; shape.nodes()];
+            let records = estimated(shape, &samples, shape.entries()).expect("64 nodes");
+            let mut last = [0; 3];
+            last[axis] = 16128;
+            check(shape, &records, Position(last), None, Ok(7));
+            shape.counts[axis] = 65;
+            let place = axis as u64;
+            assert_eq!(with_nothing_lent(shape), [refused(3, place); 5]);
+        }
+        let said = with_nothing_lent(cube(axes, degree, 64));
+        assert_eq!(said, [refused(4, 0); 5]);
+    }
+    // Files that end after their node counts.
+    assert_eq!(read_numbers(&[1, 64], 0), refused(6, 8));
+    assert_eq!(read_numbers(&[1, 65], 0), refused(3, 0));
+    assert_eq!(read_numbers(&[3, 64, 64, 64], 0), refused(6, 16));
+    assert_eq!(read_numbers(&[3, 64, 65, 64], 0), refused(3, 1));
+    assert_eq!(read_numbers(&[3, 64, 64, 65], 0), refused(3, 2));
+}
+
+#[test]
+fn lengths_before_rooms() {
+    let plane = cube(2, 3, 2);
+    for (length, number) in [(0, 4), (1, 4), (4, 9)] {
+        let samples = vec![0; length];
+        assert_eq!(estimated(plane, &samples, 0), refused(number, 0));
+        assert_eq!(written(2, plane.counts, &samples, 0), refused(number, 0));
+        let entries = vec![0; 4 * length];
+        assert_eq!(forward(plane, &entries, ORIGIN, 0), refused(number, 0));
+    }
+    for (length, number) in [(0, 15), (1, 15), (4, 9)] {
+        assert_eq!(back(1, 3, &vec![0; length], 0), refused(number, 0));
+    }
+}
+
+#[test]
+fn samples_are_within_32768() {
+    let line = cube(1, 3, 3);
+    let beyond = estimated(line, &[32768, -32768, 32769], 6);
+    assert_eq!(beyond, refused(5, 2));
+    let within = estimated(line, &[32768, -32768, 32768], 6);
+    assert_eq!(within, Ok(vec![32768, -65536, -32768, 0, 32768, 65536]));
+}
+
+#[test]
+fn slope_axis_then_cell_then_step_then_entry() {
+    let records = only(16, &[(0, 32769)]);
+    for (cell, u, slope, number, place) in [
+        ([1, 0, 0], [0, 0, 0], Some(2), 12, 0),
+        ([0, 1, 0], [257, 0, 0], None, 14, 1),
+        ([0, 0, 0], [256, 257, 0], None, 11, 1),
+        ([0, 0, 0], [256, 256, 0], None, 5, 0),
+    ] {
+        let printed = refused(number, place);
+        check(cube(2, 3, 2), &records, Cell(cell, u), slope, printed);
+    }
+}
+
+#[test]
+fn a_slope_axis_not_used_is_12() {
+    for (axes, degree) in KINDS {
+        let shape = cube(axes, degree, 2);
+        let records = vec![0; shape.entries()];
+        for at in [START, Cell(ORIGIN, ORIGIN)] {
+            for axis in [axes, 3, u32::MAX] {
+                check(shape, &records, at, Some(axis), refused(12, 0));
+            }
+        }
+    }
+}
+
+#[test]
+fn place_of_7_is_the_first_spare_byte() {
+    for spare in [1, 2, 5] {
+        assert_eq!(read_numbers(&EXAMPLE, spare), refused(7, 20));
+    }
+}
+
+#[test]
+fn place_of_13_is_0() {
+    // The one coefficient of the last corner's last entry, and that entry's limit.
+    for (axes, degree, count, index, limit) in [
+        (1, 3, 4, 2, 65536),
+        (2, 3, 16, 10, 131072),
+        (3, 3, 64, 42, 262144),
+        (1, 5, 6, 3, 131072),
+        (2, 5, 36, 21, 524288),
+        (3, 5, 216, 129, 2097152),
+    ] {
+        let with = |index, number| {
+            let numbers = only(count, &[(index, number)]);
+            outcome(&back(axes, degree, &numbers, 216))
+        };
+        assert_eq!(with(index, limit), Ok(()));
+        assert_eq!(with(index, limit + 1), refused(13, 0));
+        // The last corner's value is not whole.
+        assert_eq!(with(count - 1, 1), refused(13, 0));
+    }
+}
+
+#[test]
+fn limits_of_entries_and_place_of_5() {
+    let cubic = [32768, 65536, 65536, 131072, 65536, 131072, 131072, 262144];
+    let quintic = [
+        32768, 65536, 131072, 65536, 131072, 262144, 131072, 262144, 524288, //
+        65536, 131072, 262144, 131072, 262144, 524288, 262144, 524288, 1048576, //
+        131072, 262144, 524288, 262144, 524288, 1048576, 524288, 1048576, 2097152,
+    ];
+    // Where the last corner's record starts.
+    for (axes, degree, start, limits) in [
+        (1, 3, 2, &cubic[..2]),
+        (2, 3, 12, &cubic[..4]),
+        (3, 3, 56, &cubic),
+        (1, 5, 3, &quintic[..3]),
+        (2, 5, 27, &quintic[..9]),
+        (3, 5, 189, &quintic),
+    ] {
+        let shape = cube(axes, degree, 2);
+        for (number, &limit) in limits.iter().enumerate() {
+            let index = start + number;
+            let beyond = refused(5, index as u64);
+            for (sign, more, printed) in [
+                (1, 0, Ok(0)),
+                (-1, 0, Ok(0)),
+                (1, 1, beyond),
+                (-1, 1, beyond),
+            ] {
+                let records = only(shape.entries(), &[(index, sign * (limit + more))]);
+                check(shape, &records, START, None, printed);
+                let numbers = forward(shape, &records, ORIGIN, 216);
+                assert_eq!(outcome(&numbers), outcome(&printed));
+            }
+        }
+    }
+}
+
+#[test]
+fn place_of_5_in_corner_order() {
+    // The nodes of cell (1, 2) and of cell (0, 1, 2).
+    let plane = ([3, 4, 1], [1, 2, 0], &[7, 8, 10, 11][..]);
+    let block = ([2, 3, 4], [0, 1, 2], &[14, 15, 16, 17, 20, 21, 22, 23][..]);
+    for (axes, degree, size, (counts, cell, nodes)) in [
+        (2, 3, 4, plane),
+        (2, 5, 9, plane),
+        (3, 3, 8, block),
+        (3, 5, 27, block),
+    ] {
+        let shape = shape(axes, degree, counts);
+        for (corner, node) in nodes.iter().enumerate() {
+            let beyond = nodes[corner..].iter().map(|node| (size * node, 32769));
+            let records = only(shape.entries(), &beyond.collect::<Vec<_>>());
+            let place = (size * node) as u64;
+            check(shape, &records, Cell(cell, ORIGIN), None, refused(5, place));
+            assert_eq!(forward(shape, &records, cell, 216), refused(5, place));
+        }
+    }
+}
+
+#[test]
+fn shared_nodes_are_read_in_the_upper_cell() {
+    let line = cube(1, 3, 3);
+    let records = [32769, 0, 7, 0, 9, 0];
+    assert_eq!(dose_float(line, &records, [1.0, 0.0, 0.0]), Ok(7.0));
+    for (p, printed) in [(255, refused(5, 0)), (256, Ok(7)), (512, Ok(9))] {
+        check(line, &records, Position([p, 0, 0]), None, printed);
+    }
+    for (axes, degree) in KINDS {
+        for axis in 0..axes as usize {
+            let mut shape = cube(axes, degree, 2);
+            shape.counts[axis] = 3;
+            let mut at = [0; 3];
+            at[axis] = 256;
+            // From a record to the next along the axis.
+            let next = [1, 2, 4][axis] * shape.entries() / shape.nodes();
+            let upper = refused(5, 2 * next as u64);
+            for (beyond, printed) in [(0, Ok(7)), (2 * next, upper)] {
+                let records = only(shape.entries(), &[(next, 7), (beyond, 32769)]);
+                check(shape, &records, Position(at), None, printed);
+            }
+        }
+    }
+}
+
+#[test]
+fn nodes_and_entries_with_x_fastest() {
+    // Node (0, 1, 2) of a block and (1, 2) of a plane: its value, twice its slope along each axis,
+    // and its second derivative, of which the dose half a cell on has a sixty-fourth.
+    let (block, plane) = ((3, [2, 3, 4]), (2, [3, 4, 1]));
+    for ((axes, counts), degree, index, entry, slope, at, answer) in [
+        (block, 3, 112, 5, None, [0, 256, 512], 5),
+        (block, 3, 113, 20, Some(0), [0, 256, 512], 10),
+        (block, 3, 114, 20, Some(1), [0, 256, 512], 10),
+        (block, 3, 116, 20, Some(2), [0, 256, 512], 10),
+        (block, 5, 378, 5, None, [0, 256, 512], 5),
+        (block, 5, 379, 20, Some(0), [0, 256, 512], 10),
+        (block, 5, 381, 20, Some(1), [0, 256, 512], 10),
+        (block, 5, 387, 20, Some(2), [0, 256, 512], 10),
+        (block, 5, 380, 640, None, [128, 256, 512], 10),
+        (block, 5, 384, 640, None, [0, 384, 512], 10),
+        (block, 5, 396, 640, None, [0, 256, 640], 10),
+        (plane, 3, 28, 5, None, [256, 512, 0], 5),
+        (plane, 3, 29, 20, Some(0), [256, 512, 0], 10),
+        (plane, 3, 30, 20, Some(1), [256, 512, 0], 10),
+        (plane, 5, 63, 5, None, [256, 512, 0], 5),
+        (plane, 5, 64, 20, Some(0), [256, 512, 0], 10),
+        (plane, 5, 66, 20, Some(1), [256, 512, 0], 10),
+        (plane, 5, 65, 640, None, [384, 512, 0], 10),
+        (plane, 5, 69, 640, None, [256, 640, 0], 10),
+    ] {
+        let shape = shape(axes, degree, counts);
+        let records = only(shape.entries(), &[(index, entry)]);
+        check(shape, &records, Position(at), slope, Ok(answer));
+    }
+}
+
+#[test]
+fn estimated_records_with_x_fastest() {
+    // Products of 1, 2, 4 along x, 0, 1, 5, 0 along y and 0, 1, 7, 0, 0 along z.
+    let block = [0, 1, 7, 0, 0].map(|z| [0, 1, 5, 0].map(|y| [1, 2, 4].map(|x| x * y * z)));
+    let block = block.as_flattened().as_flattened();
+    let plane = &block[12..24];
+    let cubic = [2, 3, 10, 15, 14, 21, 70, 105];
+    let quintic = [
+        2, 3, 1, 10, 15, 5, 6, 9, 3, //
+        14, 21, 7, 70, 105, 35, 42, 63, 21, //
+        10, 15, 5, 50, 75, 25, 30, 45, 15,
+    ];
+    // The records of node (1, 1) and of node (1, 1, 1), and where they start.
+    for (axes, degree, counts, samples, start, record) in [
+        (2, 3, [3, 4, 1], plane, 16, &cubic[..4]),
+        (3, 3, [3, 4, 5], block, 128, &cubic),
+        (2, 5, [3, 4, 1], plane, 36, &quintic[..9]),
+        (3, 5, [3, 4, 5], block, 432, &quintic),
+    ] {
+        let shape = shape(axes, degree, counts);
+        let records = estimated(shape, samples, shape.entries()).expect("samples");
+        assert_eq!(records[start..start + record.len()], *record);
+    }
+}
+
+// The coefficients of a cell with one entry 1 and no other, and the corner records of these.
+#[track_caller]
+fn check_both_ways(axes: u32, degree: u32, entry: usize, numbers: &[(usize, i32)]) {
+    let shape = cube(axes, degree, 2);
+    let records = only(shape.entries(), &[(entry, 1)]);
+    let got = forward(shape, &records, ORIGIN, 216);
+    assert_eq!(got.map(sparse), Ok(numbers.to_vec()));
+    let got = back(axes, degree, &only(shape.coefficients(), numbers), 216);
+    assert_eq!(got.map(sparse), Ok(vec![(entry, 1)]));
+}
+
+#[test]
+fn coefficients_with_x_fastest() {
+    for (axes, degree, entry, numbers) in [
+        (2, 3, 6, &[(6, 6), (7, 2)][..]),
+        (3, 3, 10, &[(6, 12), (7, 4), (22, 36), (23, 12)]),
+        (3, 3, 49, &[(41, 36), (45, 12), (57, 12), (61, 4)]),
+        (2, 5, 14, &[(9, 1), (15, 4)]),
+        (3, 5, 131, &[(116, 1), (122, 4)]),
+        (3, 5, 187, &[(127, 1), (128, 4)]),
+    ] {
+        check_both_ways(axes, degree, entry, numbers);
+    }
+    // Of twice the slope along z of node (0, 1, 2) in a larger table.
+    let block = shape(3, 3, [2, 3, 4]);
+    let records = only(block.entries(), &[(116, 1)]);
+    let numbers = forward(block, &records, [0, 1, 2], 64).map(sparse);
+    assert_eq!(numbers, Ok(vec![(16, 4), (17, 12), (20, 12), (21, 36)]));
+}
+
+#[test]
+fn corners_with_x_fastest() {
+    // The last entry of each corner has one coefficient: its index, negative where it is -1.
+    for (axes, degree, size, indices) in [
+        (2, 3, 4, &[5, -6, -9, 10][..]),
+        (3, 3, 8, &[21, -22, -25, 26, -37, 38, 41, -42]),
+        (2, 5, 9, &[14, 15, 20, 21]),
+        (3, 5, 27, &[86, 87, 92, 93, 122, 123, 128, 129]),
+    ] {
+        for (corner, index) in indices.iter().enumerate() {
+            let number = (i32::abs(*index) as usize, index.signum());
+            check_both_ways(axes, degree, size * corner + size - 1, &[number]);
+        }
+    }
+}
+
+// The answer in a cell of two or three axes whose corners have these values and no slopes.
+#[track_caller]
+fn check_stages(degree: u32, slope: Option<u32>, at: [i32; 3], values: &[i32], answer: i32) {
+    let shape = cube(values.len().ilog2(), degree, 2);
+    let size = shape.entries() / shape.nodes();
+    let values = values.iter().enumerate();
+    let values: Vec<_> = values.map(|(node, &value)| (size * node, value)).collect();
+    let records = only(shape.entries(), &values);
+    check(shape, &records, Position(at), slope, Ok(answer));
+}
+
+#[test]
+fn stages_in_the_order_x_y_z_and_a_slope_last() {
+    // Every other order gives another answer.
+    for (degree, at, values, answer) in [
+        (3, [160, 96, 0], &[0, -2, 1, -3][..], -1),
+        (5, [64, 160, 0], &[3, 1, -2, 1], -1),
+        (3, [160, 96, 128], &[0, -2, -1, -1, 3, -1, 0, 0], -1),
+        (5, [96, 192, 64], &[3, -3, -1, 1, 0, 1, -3, -3], 0),
+    ] {
+        check_stages(degree, None, at, values, answer);
+    }
+    for (degree, axis, at, values, answer) in [
+        (3, 0, [32, 160, 0], &[0, -1, 1, -2][..], -1),
+        (3, 1, [192, 128, 0], &[-3, -2, -3, 0], 2),
+        (5, 0, [128, 32, 0], &[-2, 1, 0, -2], 6),
+        (5, 1, [96, 128, 0], &[-1, 2, -2, -2], -4),
+        (3, 0, [96, 192, 128], &[-1, -2, 0, -3, 2, -1, 2, 0], -4),
+        (3, 1, [32, 96, 128], &[-1, 1, -1, -1, 0, 0, -2, -2], -2),
+        (3, 2, [64, 96, 32], &[0, -2, -2, -2, -2, -2, -1, 1], -1),
+        (5, 0, [64, 64, 64], &[-2, -1, 1, 1, 2, -3, -2, 2], 1),
+        (5, 1, [64, 96, 192], &[-1, -1, -3, -1, -3, 0, 3, -2], 8),
+        (5, 2, [192, 32, 128], &[-2, 2, -3, -3, 3, 1, 3, -3], 0),
+    ] {
+        check_stages(degree, Some(axis), at, values, answer);
+    }
+}
+
+#[test]
+fn distances_from_the_exact_value() {
+    let ratio = Rational::ratio;
+    for (axes, dose, slope) in [
+        (1, ratio(1, 2), ratio(1, 2)),
+        (2, ratio(37, 64), ratio(13, 16)),
+        (3, ratio(173, 256), ratio(77, 64)),
+    ] {
+        assert_eq!(distance_bound(axes, false), dose);
+        assert_eq!(distance_bound(axes, true), slope);
+    }
+    // One half is attained on one axis.
+    let (line, at) = (cube(1, 3, 2), Position([128, 0, 0]));
+    let records = estimated(line, &[0, 1], 4).expect("samples");
+    check(line, &records, at, None, Ok(1));
+    let line = plain_shape(line);
+    let point = model::query::checked_point(&line, &records, at, None).expect("a position");
+    assert_eq!(model::stages::exact(&line, &records, &point), ratio(1, 2));
+}

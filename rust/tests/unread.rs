@@ -1,0 +1,241 @@
+//! Refusals that follow from the lengths and the numbers handed over: nothing of a slice is read.
+//! NULL with length 0 is such a slice, and its call is refused.
+//!
+//! Every slice here is a pointer to no memory, so that a read or a write ends the test by a fault.
+//! The calls are the raw ones of the C interface, which take the pointer and the length as they
+//! are: no Rust slice is made of them, and a call that reads and writes nothing is sound with them.
+
+mod common;
+mod model;
+
+use common::{cube, KINDS};
+use lukhtari::ffi::*;
+use std::ptr::{null, null_mut, NonNull};
+
+// A length that no memory has.
+const LONG: usize = 1 << 40;
+
+// An address in the page of address 0, which is never mapped.
+fn nowhere<T>() -> *mut T {
+    NonNull::dangling().as_ptr()
+}
+
+fn estimate(shape: Shape, samples: usize, room: usize) -> u32 {
+    // SAFETY: nothing is read or written.
+    unsafe { lukhtari_estimate(shape, nowhere(), samples, nowhere(), room) }.number
+}
+
+fn write(axes: u32, counts: [u32; 3], samples: usize, room: usize) -> u32 {
+    let counts = Index { at: counts };
+    // SAFETY: nothing is read or written.
+    unsafe { lukhtari_write(axes, counts, nowhere(), samples, nowhere(), room) }.number
+}
+
+fn coefficients(shape: Shape, records: usize, cell: u32, room: usize) -> u32 {
+    let cell = Index { at: [cell, 0, 0] };
+    // SAFETY: nothing is read or written.
+    unsafe { lukhtari_coefficients(shape, nowhere(), records, cell, nowhere(), room) }.number
+}
+
+fn corners(axes: u32, degree: u32, coefficients: usize, room: usize) -> u32 {
+    // SAFETY: nothing is read or written.
+    unsafe { lukhtari_corners(axes, degree, nowhere(), coefficients, nowhere(), room) }.number
+}
+
+#[test]
+fn estimation() {
+    for (axes, degree) in KINDS {
+        let shape = cube(axes, degree, 64);
+        let (nodes, entries) = (shape.nodes(), shape.entries());
+        for samples in [LONG, nodes + 1, nodes - 1] {
+            for room in [LONG, entries, entries - 1, 0] {
+                assert_eq!(estimate(shape, samples, room), 4);
+            }
+        }
+        for room in [entries - 1, nodes, 0] {
+            assert_eq!(estimate(shape, nodes, room), 9);
+        }
+        assert_eq!(estimate(Shape { axes: 0, ..shape }, LONG, LONG), 1);
+        assert_eq!(estimate(Shape { degree: 4, ..shape }, LONG, LONG), 2);
+        assert_eq!(estimate(cube(axes, degree, 65), LONG, LONG), 3);
+    }
+}
+
+#[test]
+fn writing() {
+    for axes in 1..=3 {
+        let shape = cube(axes, 3, 64);
+        let nodes = shape.nodes();
+        let needed = 4 * (2 + axes as usize + nodes);
+        for samples in [LONG, nodes + 1, nodes - 1] {
+            for room in [LONG, needed, needed - 1, 0] {
+                assert_eq!(write(axes, shape.counts, samples, room), 4);
+            }
+        }
+        for room in [needed - 1, nodes, 0] {
+            assert_eq!(write(axes, shape.counts, nodes, room), 9);
+        }
+        assert_eq!(write(4, shape.counts, LONG, LONG), 1);
+        assert_eq!(write(axes, [1; 3], LONG, LONG), 3);
+    }
+}
+
+#[test]
+fn conversion() {
+    for (axes, degree) in KINDS {
+        let shape = cube(axes, degree, 64);
+        let entries = shape.entries();
+        let count = (degree as usize + 1).pow(axes);
+        for room in [LONG, count, count - 1] {
+            assert_eq!(coefficients(shape, LONG, 0, room), 4);
+            assert_eq!(corners(axes, degree, LONG, room), 15);
+        }
+        assert_eq!(coefficients(shape, entries, 0, count - 1), 9);
+        assert_eq!(coefficients(shape, entries, 63, count), 14);
+        assert_eq!(corners(axes, degree, count, count - 1), 9);
+    }
+}
+
+// The refusals of the six queries, where the position or the step in cell 0 is `at` on the x axis.
+fn queries(shape: Shape, records: usize, at: i32, axis: u32) -> [u32; 6] {
+    let p = Position { at: [at, 0, 0] };
+    let index = |x: i32| Index {
+        at: [x as u32, 0, 0],
+    };
+    let (cell, u) = (index(0), index(at));
+    let (x, y, z) = (at as f32 / 256.0, 0.0, 0.0);
+    let f = FloatPosition { x, y, z };
+    let r = nowhere();
+    // SAFETY: nothing is read.
+    unsafe {
+        [
+            lukhtari_dose(shape, r, records, p).number,
+            lukhtari_dose_in_cell(shape, r, records, cell, u).number,
+            lukhtari_dose_float(shape, r, records, f).number,
+            lukhtari_slope(shape, r, records, p, axis).number,
+            lukhtari_slope_in_cell(shape, r, records, cell, u, axis).number,
+            lukhtari_slope_float(shape, r, records, f, axis).number,
+        ]
+    }
+}
+
+#[test]
+fn doses_and_slopes() {
+    for (axes, degree) in KINDS {
+        let shape = cube(axes, degree, 64);
+        let entries = shape.entries();
+        assert_eq!(queries(shape, LONG, 0, 0), [4; 6]);
+        assert_eq!(queries(shape, entries, -1, 0), [11; 6]);
+        assert_eq!(queries(shape, entries, -1, axes)[3..], [12; 3]);
+    }
+}
+
+#[test]
+fn cells_and_floats() {
+    for (axes, degree) in KINDS {
+        let shape = cube(axes, degree, 64);
+        let (r, entries) = (nowhere(), shape.entries());
+        let (cell, u) = (Index { at: [63, 0, 0] }, Index { at: [0; 3] });
+        let (x, y, z) = (f32::NAN, 0.0, 0.0);
+        let f = FloatPosition { x, y, z };
+        // SAFETY: nothing is read.
+        let (cell, float) = unsafe {
+            (
+                lukhtari_dose_in_cell(shape, r, entries, cell, u),
+                lukhtari_dose_float(shape, r, entries, f),
+            )
+        };
+        assert_eq!((cell.number, float.number), (14, 10));
+    }
+}
+
+#[test]
+fn reading() {
+    for length in 0..4 {
+        // SAFETY: nothing is read or written.
+        let table = unsafe { lukhtari_read(nowhere(), length, nowhere(), LONG) };
+        assert_eq!((table.number, table.place), (6, length as u64));
+    }
+}
+
+// The refusals of the six queries with no records.
+fn queries_of_null(shape: Shape) -> [u32; 6] {
+    let (p, i) = (Position { at: [0; 3] }, Index { at: [0; 3] });
+    let (x, y, z) = (0.0, 0.0, 0.0);
+    let f = FloatPosition { x, y, z };
+    // SAFETY: a slice of length 0 may be NULL.
+    unsafe {
+        [
+            lukhtari_dose(shape, null(), 0, p).number,
+            lukhtari_dose_in_cell(shape, null(), 0, i, i).number,
+            lukhtari_dose_float(shape, null(), 0, f).number,
+            lukhtari_slope(shape, null(), 0, p, 0).number,
+            lukhtari_slope_in_cell(shape, null(), 0, i, i, 0).number,
+            lukhtari_slope_float(shape, null(), 0, f, 0).number,
+        ]
+    }
+}
+
+#[test]
+fn null_with_length_0_for_tables() {
+    for (axes, degree) in KINDS {
+        let shape = cube(axes, degree, 2);
+        let (nodes, entries) = (shape.nodes(), shape.entries());
+        let samples = vec![0; nodes];
+        let mut records = vec![0; entries];
+        // SAFETY: the slices are lent; one of length 0 may be NULL.
+        let estimates = unsafe {
+            [
+                lukhtari_estimate(shape, null(), 0, null_mut(), 0).number,
+                lukhtari_estimate(shape, null(), 0, records.as_mut_ptr(), entries).number,
+                lukhtari_estimate(shape, samples.as_ptr(), nodes, null_mut(), 0).number,
+            ]
+        };
+        assert_eq!(estimates, [4, 4, 9]);
+        assert_eq!(queries_of_null(shape), [4; 6]);
+    }
+}
+
+#[test]
+fn null_with_length_0_for_cells() {
+    for (axes, degree) in KINDS {
+        let shape = cube(axes, degree, 2);
+        let cell = Index { at: [0; 3] };
+        let records = vec![0; shape.entries()];
+        let mut out = vec![0; shape.coefficients()];
+        let (r, entries, o, room) = (records.as_ptr(), records.len(), out.as_mut_ptr(), out.len());
+        // SAFETY: the slices are lent; one of length 0 may be NULL.
+        let conversions = unsafe {
+            [
+                lukhtari_coefficients(shape, null(), 0, cell, null_mut(), 0).number,
+                lukhtari_coefficients(shape, null(), 0, cell, o, room).number,
+                lukhtari_coefficients(shape, r, entries, cell, null_mut(), 0).number,
+                lukhtari_corners(axes, degree, null(), 0, null_mut(), 0).number,
+                lukhtari_corners(axes, degree, null(), 0, o, room).number,
+                lukhtari_corners(axes, degree, r, room, null_mut(), 0).number,
+            ]
+        };
+        assert_eq!(conversions, [4, 4, 9, 15, 15, 9]);
+    }
+}
+
+#[test]
+fn null_with_length_0_for_files() {
+    let counts = Index { at: [2, 1, 1] };
+    let (mut samples, mut bytes) = ([0, 100], [0; 20]);
+    let (s, b) = (samples.as_mut_ptr(), bytes.as_mut_ptr());
+    // SAFETY: the slices are lent; one of length 0 may be NULL.
+    let files = unsafe {
+        [
+            lukhtari_write(1, counts, null(), 0, null_mut(), 0).number,
+            lukhtari_write(1, counts, null(), 0, b, 20).number,
+            lukhtari_write(1, counts, s, 2, null_mut(), 0).number,
+            lukhtari_write(1, counts, s, 2, b, 20).number,
+            lukhtari_read(null(), 0, null_mut(), 0).number,
+            lukhtari_read(null(), 0, s, 2).number,
+            lukhtari_read(b, 20, null_mut(), 0).number,
+            lukhtari_read(b, 20, s, 2).number,
+        ]
+    };
+    assert_eq!(files, [4, 4, 9, 0, 6, 6, 9, 0]);
+}
