@@ -6,7 +6,9 @@ mod declarations;
 use c::text;
 use declarations::*;
 use lukhtari::ffi;
+use std::fs;
 use std::mem::{align_of, offset_of, size_of};
+use std::path::PathBuf;
 
 // Size, alignment and offsets of a struct: what to print in C, and the number in Rust.
 struct Layout(Vec<(String, usize)>);
@@ -78,9 +80,21 @@ fn header_and_rust_declare_the_same() {
     assert_eq!(c, rust_calls(&rust, &rust_structs));
 }
 
+// All files of the crate with the calls.
+fn rattle_source() -> String {
+    let folder = c::repository().join("crates/lukhtari/src");
+    let mut files: Vec<PathBuf> = fs::read_dir(folder)
+        .expect("a folder")
+        .map(|file| file.expect("a file").path())
+        .collect();
+    files.sort();
+    let read = |path: &PathBuf| fs::read_to_string(path).expect("a text");
+    files.iter().map(read).collect()
+}
+
 #[test]
 fn rattle_declares_the_same_as_the_header() {
-    let source = text("crates/lukhtari/src/lib.rt");
+    let source = rattle_source();
     // A shape and a float position are structs of the crates that take them.
     let mut structs = rust_structs(&source);
     for (folder, name) in [("lattice", "Shape"), ("float_query", "FloatPosition")] {

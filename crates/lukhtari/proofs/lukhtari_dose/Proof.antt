@@ -1,9 +1,0 @@
--- `lukhtari::lukhtari_dose` meets its contract: the struct says what the query without a slope axis says.
-use mathlib.Core.Path.{ap, _∙_}
-use Rattle.lukhtari.specs.Host.{wholeFrom}
-use borrow.Author.Needs.{needs}
-use Rattle.lukhtari.proofs.lukhtari_dose.Statement.{statement}
-use Rattle.lukhtari.proofs.lukhtari_dose.Tie as tie
-
-pub lukhtari-dose-spec : {M : Type 1} → statement M
-lukhtari-dose-spec = tie.close (tie.spec (λ c κs. search needs) (λ c κs. search needs) (λ c. c .whole-of .ensures ∙ ap wholeFrom (c .before .at-position .ensures)))

@@ -1,9 +1,0 @@
--- `lukhtari::lukhtari_slope_in_cell` meets its contract: the struct says what the query along the axis says.
-use mathlib.Core.Path.{ap, _∙_}
-use Rattle.lukhtari.specs.Host.{wholeFrom}
-use borrow.Author.Needs.{needs}
-use Rattle.lukhtari.proofs.lukhtari_slope_in_cell.Statement.{statement}
-use Rattle.lukhtari.proofs.lukhtari_slope_in_cell.Tie as tie
-
-pub lukhtari-slope-in-cell-spec : {M : Type 1} → statement M
-lukhtari-slope-in-cell-spec = tie.close (tie.spec (λ c κs. search needs) (λ c κs. search needs) (λ c. c .whole-of .ensures ∙ ap wholeFrom (c .before .in-cell .ensures)))

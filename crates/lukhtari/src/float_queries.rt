@@ -1,0 +1,63 @@
+// Doses and slopes by float.
+ghost use mathlib.Core.Path.{_≡_};
+ghost use Rattle.evaluate.specs.Evaluate.{dose, slopeAlong};
+ghost use Rattle.float_query.specs.Floats.{floatsAt, byFloat};
+ghost use Rattle.float_query.specs.Answers.{outcomeOfFloat};
+ghost use Rattle.lukhtari.specs.Host.{realValue, realOf, realFrom};
+use crate::Real;
+use evaluate::Derivative;
+use float_query::FloatPosition;
+use float_query::FloatReading;
+use lattice::Shape;
+
+fn real_of(a: FloatReading) -> Real
+    ensures { λ r. ⌜ realValue r ≡ realOf (outcomeOfFloat a) ⌝ }
+{
+    match a {
+        FloatReading::Dose(x) => Real {
+            number: 0,
+            place: 0,
+            value: x,
+        },
+        FloatReading::Slope(x) => Real {
+            number: 0,
+            place: 0,
+            value: x,
+        },
+        FloatReading::Refused(r) => Real {
+            number: r.number,
+            place: r.place,
+            value: 0.0,
+        },
+    }
+}
+
+// Dose at the step nearest to a position in cells.
+#[no_mangle]
+pub extern "C" fn lukhtari_dose_float(
+    shape: Shape,
+    records: &[i32],
+    position: FloatPosition,
+) -> Real
+    ensures { λ r. ⌜ realValue r ≡ realFrom (byFloat shape (now (records .entry)) dose (floatsAt position)) ⌝ }
+{
+    let none = Derivative { order: 0, axis: 0 };
+    real_of(float_query::at_float(shape, records, position, none))
+}
+
+// Slope along an axis at the step nearest to a position in cells.
+#[no_mangle]
+pub extern "C" fn lukhtari_slope_float(
+    shape: Shape,
+    records: &[i32],
+    position: FloatPosition,
+    axis: u32,
+) -> Real
+    ensures { λ r. ⌜ realValue r ≡ realFrom (byFloat shape (now (records .entry)) (slopeAlong axis) (floatsAt position)) ⌝ }
+{
+    let along = Derivative {
+        order: 1,
+        axis: axis,
+    };
+    real_of(float_query::at_float(shape, records, position, along))
+}

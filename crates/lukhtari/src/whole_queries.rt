@@ -1,0 +1,110 @@
+// Doses and slopes in whole numbers, by position and by cell.
+ghost use mathlib.Core.Path.{_≡_};
+ghost use Rattle.cell.specs.Cell.{placeAt};
+ghost use Rattle.evaluate.specs.Evaluate.{dose, slopeAlong};
+ghost use Rattle.query.specs.Queries.{byCell, positionAt, byPosition};
+ghost use Rattle.query.specs.Answers.{outcomeOfReading};
+ghost use Rattle.lukhtari.specs.Host.{wholeFrom};
+use crate::Index;
+use crate::Position;
+use crate::Whole;
+use evaluate::Derivative;
+use lattice::Shape;
+use query::CellQuery;
+use query::Query;
+use query::Reading;
+
+fn whole_of(a: Reading) -> Whole
+    ensures { λ r. ⌜ r ≡ wholeFrom (outcomeOfReading a) ⌝ }
+{
+    match a {
+        Reading::Value(v) => Whole {
+            number: 0,
+            place: 0,
+            value: v,
+        },
+        Reading::Refused(r) => Whole {
+            number: r.number,
+            place: r.place,
+            value: 0,
+        },
+    }
+}
+
+// Dose at a table position.
+#[no_mangle]
+pub extern "C" fn lukhtari_dose(shape: Shape, records: &[i32], position: Position) -> Whole
+    ensures { λ r. ⌜ r ≡ wholeFrom (byPosition shape (now (records .entry)) dose (positionAt (position .at))) ⌝ }
+{
+    let at = position.at;
+    let q = Query {
+        position: at,
+        derivative: Derivative { order: 0, axis: 0 },
+    };
+    whole_of(query::at_position(shape, records, q))
+}
+
+// Slope along an axis at a table position.
+#[no_mangle]
+pub extern "C" fn lukhtari_slope(
+    shape: Shape,
+    records: &[i32],
+    position: Position,
+    axis: u32,
+) -> Whole
+    ensures { λ r. ⌜ r ≡ wholeFrom (byPosition shape (now (records .entry)) (slopeAlong axis) (positionAt (position .at))) ⌝ }
+{
+    let at = position.at;
+    let q = Query {
+        position: at,
+        derivative: Derivative {
+            order: 1,
+            axis: axis,
+        },
+    };
+    whole_of(query::at_position(shape, records, q))
+}
+
+// Dose at the steps u within a cell.
+#[no_mangle]
+pub extern "C" fn lukhtari_dose_in_cell(
+    shape: Shape,
+    records: &[i32],
+    cell: Index,
+    u: Index,
+) -> Whole
+    ensures { λ r. ⌜ r ≡ wholeFrom (byCell shape (now (records .entry)) dose (placeAt (cell .at)) (placeAt (u .at))) ⌝ }
+{
+    let at = cell.at;
+    let step = u.at;
+    let q = CellQuery {
+        cell: at,
+        step: step,
+        derivative: Derivative { order: 0, axis: 0 },
+    };
+    whole_of(query::in_cell(shape, records, q))
+}
+
+// Slope along an axis at the steps u within a cell.
+#[no_mangle]
+pub extern "C" fn lukhtari_slope_in_cell(
+    shape: Shape,
+    records: &[i32],
+    cell: Index,
+    u: Index,
+    axis: u32,
+) -> Whole
+    ensures { λ r. ⌜ r ≡ wholeFrom (byCell shape (now (records .entry)) (slopeAlong axis) (placeAt (cell .at)) (placeAt (u .at))) ⌝ }
+{
+    let at = cell.at;
+    let step = u.at;
+    let q = CellQuery {
+        cell: at,
+        step: step,
+        derivative: Derivative {
+            order: 1,
+            axis: axis,
+        },
+    };
+    whole_of(query::in_cell(shape, records, q))
+}
