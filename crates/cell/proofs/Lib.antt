@@ -1,4 +1,5 @@
 pub mod CellLaws
+pub mod CellsLaws
 pub mod CornerLaws
 pub mod LimitLaws
 pub mod LayoutLaws

@@ -2,16 +2,18 @@
 ghost use mathlib.Core.Path.{_≡_};
 ghost use mathlib.Core.Bool.{true};
 ghost use mathlib.Core.List.{[], _∷_};
-ghost use Prim.Native.Nat.{ℕ, _+_, _*_, _/_, _%_, _^_, _<_, _≤_};
+ghost use Prim.Native.Nat.{ℕ, _+_, _*_, _-_, _/_, _%_, _^_, _<_, _≤_};
 ghost use lib.Dec.{leb, ltb, eqb};
 ghost use lib.IntN.{pos, natAbs};
 ghost use lib.Signed.{nonNeg};
-ghost use lib.ListN.{length};
+ghost use lib.ListN.{length, getD};
 ghost use Rattle.arith.specs.Choice.{pick};
 ghost use Rattle.lattice.specs.Outcome.{refuseUnless, firstOf, passed};
 ghost use Rattle.lattice.specs.Answers.{outcomeOf};
-ghost use Rattle.lattice.specs.Buffer.{at};
+ghost use Rattle.lattice.specs.Buffer.{at, tabulate};
+ghost use Rattle.lattice.specs.Digits.{digit};
 ghost use Rattle.lattice.specs.Shape.{count, orders, entries, size, Shaped};
+ghost use Rattle.cell.specs.Cells.{cellsAlong, Between};
 ghost use Rattle.cell.specs.Cell.{placeAt, cellOutcome, cornersOutcome, Accepted, Laid, Small, startOf, limitOf, limitIn, Limits, recordOutcome};
 use lattice::Check;
 use lattice::Shape;
@@ -116,6 +118,39 @@ pub fn layout_of(s: Shape, cell: [u32; 3]) -> Layout
         base: node * size,
         strides: [size, rows * size, planes * (rows * size)],
     }
+}
+
+// The cells along one axis.
+fn cells_on(n: u32, count: u32, axis: u32) -> u32
+    requires { ⌜ 1 ≤ count ⌝ }
+    ensures { λ r. ⌜ r ≡ pick (ltb axis n) (count - 1) 1 ⌝ }
+{
+    if axis < n { count - 1 } else { 1 }
+}
+
+// The cells along each axis.
+pub fn cells_of(s: Shape) -> [u32; 3]
+    requires { ⌜ Shaped s ⌝ }
+    ensures { λ r. ⌜ r ≡ tabulate 3 (cellsAlong s) ⌝ }
+{
+    let n = s.axes;
+    let x = cells_on(n, s.counts[0], 0);
+    let y = cells_on(n, s.counts[1], 1);
+    let z = cells_on(n, s.counts[2], 2);
+    [x, y, z]
+}
+
+// The indices of cell `i`, x fastest.
+pub fn cell_at(cells: [u32; 3], i: u32) -> [u32; 3]
+    requires { ⌜ Between 1 64 cells ⌝ }
+    ensures { λ r. ⌜ r ≡ tabulate 3 (digit (λ a. getD cells a 0) i) ⌝ }
+{
+    let row = i / cells[0];
+    let plane = row / cells[1];
+    let along_x = i % cells[0];
+    let along_y = row % cells[1];
+    let along_z = plane % cells[2];
+    [along_x, along_y, along_z]
 }
 
 // The limits of the entries of a record.

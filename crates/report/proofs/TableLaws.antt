@@ -15,15 +15,22 @@ use Rattle.lattice.specs.Shape.{count, ordersOf, nodes, entries, size, axesOutc
 use Rattle.lattice.specs.Records.{sampleLimit, limitOutcome}
 use Rattle.lattice.proofs.OutcomeLaws.{first-passed, passes}
 use Rattle.lattice.proofs.ShapeLaws.{shaped, pow-range}
+use Rattle.cell.specs.Cell.{placeAt, Accepted}
+use Rattle.cell.specs.Cells.{cellCount, cellAt}
+use Rattle.cell.proofs.CellsLaws.{cells-few, cell-accepted}
 use Rattle.estimate.specs.Estimate.{recordsOf, estimateOutcome}
 use Rattle.estimate.proofs.CallLaws.{estimated}
 use Rattle.table_file.specs.File.{Header, countOf, nodesOf}
 use Rattle.text.specs.Lines.{cellLine}
-use Rattle.report.specs.Report.{heldNodes, withDegree, cellCount, cellAt, lineIn, cellLines}
+use Rattle.report.specs.Report.{heldNodes, withDegree, lineIn, cellLines}
 use Rattle.report.specs.Parts.{HeldTable, lineFrom, linesFrom}
 use Rattle.report.proofs.DoseLaws.{dose-same}
-use Rattle.report.proofs.CellsLaws.{any-degree, cells-few, cell-accepted}
 use Rattle.report.proofs.LineLaws.{joined-same}
+
+-- the cells of a table do not depend on the degree
+pub any-degree : (h : Header) (d e : ℕ) (cell : List ℕ) → Accepted (withDegree h d) (placeAt cell) → Accepted (withDegree h e) (placeAt cell)
+unfolding count
+any-degree h d e cell k = record { used = k .used; unused = k .unused }
 
 module _ (h : Header) (xs : List ℤ) (held : HeldTable h xs) where
   pub nodes-are : (d : ℕ) → nodes (withDegree h d) ≡ length xs
@@ -58,12 +65,14 @@ module _ (h : Header) (xs : List ℤ) (held : HeldTable h xs) where
   pub cubic-shaped : Shaped (withDegree h 3)
   cubic-shaped = estimated (withDegree h 3) xs 4096 cubic-taken .shape
 
-  pub few-cells : cellCount h ≤ heldNodes
-  few-cells = le-trans (cells-few h 3 cubic-shaped) (le-trans (le-of-eq (nodes-are 3)) (held .few))
+  pub few-cells : cellCount (withDegree h 3) ≤ heldNodes
+  few-cells = le-trans (cells-few (withDegree h 3) cubic-shaped) (le-trans (le-of-eq (nodes-are 3)) (held .few))
 
   -- the lines
   pub lines-are : linesFrom h (recordsOf (withDegree h 3) xs) (recordsOf (withDegree h 5) xs) ≡ cellLines h xs
   unfolding cellLines lineFrom lineIn
-  lines-are = joined-same (cellCount h) _ _ (λ i.
-      let here = cell-accepted h 3 cubic-shaped i in
-      ap₂ (cellLine (cellAt h i)) (dose-same (withDegree h 3) xs 4096 cubic-taken (cellAt h i) here) (dose-same (withDegree h 5) xs 13824 quintic-taken (cellAt h i) (any-degree h 3 5 (cellAt h i) here)))
+  lines-are = joined-same (cellCount (withDegree h 3)) _ _ (λ i.
+      let cell = cellAt (withDegree h 3) i in
+      let here = cell-accepted (withDegree h 3) cubic-shaped i in
+      ap₂ (cellLine cell) (dose-same (withDegree h 3) xs 4096 cubic-taken cell here)
+      (dose-same (withDegree h 5) xs 13824 quintic-taken cell (any-degree h 3 5 cell here)))

@@ -1,24 +1,20 @@
 -- What the inner functions give and ask for. The promises of `report` mention none of this.
 use mathlib.Core.Path.{_≡_}
-use Prim.Native.Nat.{ℕ, _≤_, _<_}
+use Prim.Native.Nat.{ℕ, _≤_}
 use mathlib.Core.List.{List}
 use lib.IntN.{ℤ}
-use lib.ListN.{length, getD}
+use lib.ListN.{length}
 use Rattle.lattice.specs.declared.Shape.{Shape}
 use Rattle.lattice.specs.Outcome.{done}
 use Rattle.lattice.specs.Shape.{size, shapeOutcome}
 use Rattle.lattice.specs.Axes.{Place}
 use Rattle.lattice.specs.Records.{recordsField}
 use Rattle.cell.specs.Cell.{placeAt, Accepted, cornersOutcome}
+use Rattle.cell.specs.Cells.{cellCount, cellAt}
 use Rattle.evaluate.specs.Evaluate.{dose, askAt, answer}
 use Rattle.table_file.specs.File.{Header, PermittedTable}
 use Rattle.text.specs.Lines.{cellLine}
-use Rattle.report.specs.Report.{middle, withDegree, heldNodes, joined, cellCount, cellAt}
-
--- three indices or counts
-pub record Between (low high : ℕ) (xs : List ℕ) : Type 0 where
-  pub least : (a : ℕ) → a < 3 → low ≤ getD xs a 0
-  pub most : (a : ℕ) → a < 3 → getD xs a 0 ≤ high
+use Rattle.report.specs.Report.{middle, withDegree, heldNodes, joined}
 
 -- records that refuse no cell
 pub record Answers (s : Shape) (rs : List ℤ) : Type 0 where
@@ -34,7 +30,7 @@ unfoldable pub lineFrom : Header → List ℤ → List ℤ → List ℕ → List
 lineFrom h cubic quintic cell = cellLine cell (doseFrom (withDegree h 3) cubic cell) (doseFrom (withDegree h 5) quintic cell)
 
 abbrev pub linesFrom : Header → List ℤ → List ℤ → List ℕ
-linesFrom h cubic quintic = joined (cellCount h) (λ i. lineFrom h cubic quintic (cellAt h i))
+linesFrom h cubic quintic = joined (cellCount (withDegree h 3)) (λ i. lineFrom h cubic quintic (cellAt (withDegree h 3) i))
 
 -- the longest line: three indices of two digits, two numbers of ten digits and a sign
 abbrev pub lineLimit : ℕ

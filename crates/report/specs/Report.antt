@@ -1,5 +1,5 @@
 -- The program's text for its whole input: one line for each cell of the table, x fastest, or the line of a refusal.
-use Prim.Native.Nat.{ℕ, zero, suc, _-_}
+use Prim.Native.Nat.{ℕ, zero, suc}
 use mathlib.Core.List.{List, [], _++_}
 use lib.Dec.{leb, ltb}
 use lib.IntN.{ℤ}
@@ -8,13 +8,12 @@ use Rattle.arith.specs.Choice.{pick}
 use Rattle.lattice.specs.declared.Shape.{Shape}
 use Rattle.lattice.specs.Shape.{shapeOf}
 use Rattle.lattice.specs.Outcome.{Outcome, done, refused, refuseUnless, first}
-use Rattle.lattice.specs.Buffer.{tabulate}
-use Rattle.lattice.specs.Digits.{span, digit}
 use Rattle.lattice.specs.Axes.{Place}
 use Rattle.cell.specs.Cell.{placeAt}
+use Rattle.cell.specs.Cells.{cellCount, cellAt}
 use Rattle.estimate.specs.Estimate.{tableRecords}
 use Rattle.evaluate.specs.Evaluate.{dose, askAt, answer}
-use Rattle.table_file.specs.File.{Header, countOf, samplesIn, readOutcome}
+use Rattle.table_file.specs.File.{Header, samplesIn, readOutcome}
 use Rattle.text.specs.Lines.{cellLine, refusedLine}
 
 -- the program holds 512 nodes and 4,096 bytes
@@ -24,20 +23,7 @@ heldNodes = 512
 abbrev pub heldBytes : ℕ
 heldBytes = 4096
 
--- ---- the cells of a table
-
--- along a used axis one less than the nodes, along an unused one 1
-unfoldable pub cellsAlong : Header → ℕ → ℕ
-cellsAlong h a = pick (ltb a (h .axes)) (countOf h a - 1) 1
-
-unfoldable pub cellCount : Header → ℕ
-cellCount h = span 3 (cellsAlong h)
-
--- the three indices of cell i, x fastest
-unfoldable pub cellAt : Header → ℕ → List ℕ
-cellAt h i = tabulate 3 (digit (cellsAlong h) i)
-
--- ---- its line
+-- ---- the line of a cell
 
 -- in-cell step 128 of each used axis
 unfoldable pub middle : ℕ → Place
@@ -61,8 +47,9 @@ unfoldable pub joined : ℕ → (ℕ → List ℕ) → List ℕ
 joined zero f = []
 joined (suc n) f = joined n f ++ f n
 
+-- for each cell, which both degrees have alike
 unfoldable pub cellLines : Header → List ℤ → List ℕ
-cellLines h samples = joined (cellCount h) (λ i. lineIn h samples (cellAt h i))
+cellLines h samples = joined (cellCount (withDegree h 3)) (λ i. lineIn h samples (cellAt (withDegree h 3) i))
 
 -- a longer input is refused 9 before anything else
 unfoldable pub inputOutcome : List ℕ → Outcome Header

@@ -9,10 +9,11 @@ ghost use Rattle.lattice.specs.Digits.{digit};
 ghost use Rattle.lattice.specs.Outcome.{done};
 ghost use Rattle.estimate.specs.Estimate.{recordsOf, estimateOutcome};
 ghost use Rattle.cell.specs.Cell.{placeAt, Accepted};
+ghost use Rattle.cell.specs.Cells.{Between, cellCount};
 ghost use Rattle.table_file.specs.File.{header};
 ghost use Rattle.text.specs.Lines.{Put};
-ghost use Rattle.report.specs.Report.{heldNodes, cellsAlong, cellCount, middle, withDegree, cellLines, reportText};
-ghost use Rattle.report.specs.Parts.{Between, Answers, HeldTable, doseFrom, lineFrom, linesFrom, lineLimit};
+ghost use Rattle.report.specs.Report.{heldNodes, middle, withDegree, cellLines, reportText};
+ghost use Rattle.report.specs.Parts.{Answers, HeldTable, doseFrom, lineFrom, linesFrom, lineLimit};
 use evaluate::Derivative;
 use query::CellQuery;
 use query::Reading;
@@ -77,42 +78,19 @@ fn put_line(
     text::put_cell_line(out, at, cell, a, b)
 }
 
-// The cells along each axis.
-fn cells_of(axes: u32, counts: [u32; 3]) -> [u32; 3]
-    requires { ⌜ Between 1 64 counts ⌝ }
-    ensures { λ r. ⌜ r ≡ tabulate 3 (cellsAlong (header axes counts)) ⌝ }
-{
-    let x = on_axis(axes, 0, counts[0] - 1, 1);
-    let y = on_axis(axes, 1, counts[1] - 1, 1);
-    let z = on_axis(axes, 2, counts[2] - 1, 1);
-    [x, y, z]
-}
-
-// The indices of cell `i`, x fastest.
-fn cell_at(cells: [u32; 3], i: u32) -> [u32; 3]
-    requires { ⌜ Between 1 64 cells ⌝ }
-    ensures { λ r. ⌜ r ≡ tabulate 3 (digit (λ a. getD cells a 0) i) ⌝ }
-{
-    let row = i / cells[0];
-    let plane = row / cells[1];
-    let along_x = i % cells[0];
-    let along_y = row % cells[1];
-    let along_z = plane % cells[2];
-    [along_x, along_y, along_z]
-}
-
 // Puts the lines of all cells at the front of `out`, and gives their length.
 fn put_lines(axes: u32, counts: [u32; 3], cubic: &[i32], quintic: &[i32], out: &mut [u8]) -> usize
     requires { ⌜ Answers (withDegree (header axes counts) 3) (now cubic) × Answers (withDegree (header axes counts) 5) (now quintic) ⌝ }
-    requires { ⌜ (cellCount (header axes counts) ≤ heldNodes) × (heldNodes * lineLimit ≤ length (now out)) ⌝ }
+    requires { ⌜ (cellCount (withDegree (header axes counts) 3) ≤ heldNodes) × (heldNodes * lineLimit ≤ length (now out)) ⌝ }
     ensures { λ r. ⌜ Put (now (out .entry)) 0 (linesFrom (header axes counts) (now (cubic .entry)) (now (quintic .entry))) (now (out .exit)) r × (r ≤ heldNodes * lineLimit) ⌝ }
 {
-    let cells = cells_of(axes, counts);
+    // The cells are the same for both degrees.
+    let cells = cell::cells_of(lattice::shape_of(axes, 3, counts));
     let total = cells[0] * (cells[1] * cells[2]);
     let mut at: usize = 0;
     let mut i: u32 = 0;
     while i < total {
-        let cell = cell_at(cells, i);
+        let cell = cell::cell_at(cells, i);
         at = put_line(axes, counts, cubic, quintic, cell, out, at);
         i += 1;
     }

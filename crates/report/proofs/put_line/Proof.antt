@@ -12,7 +12,7 @@ use Rattle.table_file.specs.File.{header}
 use Rattle.text.specs.Lines.{cellLine}
 use Rattle.text.proofs.LineLaws.{put-as}
 use Rattle.report.specs.Parts.{lineFrom, lineLimit}
-use Rattle.report.proofs.CellsLaws.{any-degree}
+use Rattle.report.proofs.TableLaws.{any-degree}
 use Rattle.report.proofs.LineLaws.{line-short}
 use borrow.Author.Needs.{needs}
 use Rattle.report.proofs.put_line.Statement.{statement}

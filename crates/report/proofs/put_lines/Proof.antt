@@ -8,21 +8,24 @@ use lib.Dec.{lit<}
 use lib.IntN.{ℤ}
 use lib.ListN.{getD}
 use denote.Ref.{now}
+use Rattle.lattice.specs.declared.Shape.{Shape}
+use Rattle.lattice.specs.Buffer.{tabulate}
 use Rattle.lattice.specs.Shape.{Shaped}
 use Rattle.lattice.proofs.ShapeLaws.{shaped}
-use Rattle.table_file.specs.File.{Header, header}
+use Rattle.table_file.specs.File.{header}
 use Rattle.text.specs.Lines.{Put}
 use Rattle.text.proofs.LineLaws.{put-as, put-length}
-use Rattle.report.specs.Report.{cellCount, cellAt, withDegree, joined}
-use Rattle.report.specs.Parts.{Between, lineFrom, lineLimit}
-use Rattle.report.proofs.CellsLaws.{counts-between, cells-between, cell-accepted, cell-between, cell-is, total-is}
+use Rattle.cell.specs.Cells.{cellsAlong, cellCount, cellAt, Between}
+use Rattle.cell.proofs.CellsLaws.{cells-between, cell-accepted, cell-between, cell-is, total-is}
+use Rattle.report.specs.Report.{withDegree, joined}
+use Rattle.report.specs.Parts.{lineFrom, lineLimit}
 use Rattle.report.proofs.LineLaws.{lines-none, lines-more}
 use borrow.Author.Needs.{needs}
 use Rattle.report.proofs.put_lines.Statement.{statement}
 use Rattle.report.proofs.put_lines.Tie as tie
 
 abbrev lineAt : ℕ → List ℕ → List ℤ → List ℤ → ℕ → List ℕ
-lineAt axes counts cubic quintic i = lineFrom (header axes counts) cubic quintic (cellAt (header axes counts) i)
+lineAt axes counts cubic quintic i = lineFrom (header axes counts) cubic quintic (cellAt (withDegree (header axes counts) 3) i)
 
 abbrev Inv-loop : tie.InvT-loop
 Inv-loop axes counts cubic quintic out₀ cells total at₀ i₀ out at i =
@@ -32,44 +35,50 @@ abbrev μ-loop : tie.MeasureT-loop
 μ-loop axes counts cubic quintic out₀ cells total at₀ i₀ out at i = total - i
 
 -- the table's shape and its cells
-abbrev table : tie.Start Inv-loop μ-loop → Header
-table s = header (s .args .axes) (s .args .counts)
+abbrev table : tie.Start Inv-loop μ-loop → Shape
+table s = withDegree (header (s .args .axes) (s .args .counts)) 3
 
-shape : (s : tie.Start Inv-loop μ-loop) → Shaped (withDegree (table s) 3)
-shape s = shaped (withDegree (table s) 3) (s .pre .0 .0 .shape)
+shape : (s : tie.Start Inv-loop μ-loop) → Shaped (table s)
+shape s = shaped (table s) (s .pre .0 .0 .shape)
 
 abbrev cells : tie.After-cells-of Inv-loop μ-loop → List ℕ
 cells c = c .cells-of .result
 
+abbrev start : tie.After-cells-of Inv-loop μ-loop → tie.Start Inv-loop μ-loop
+start c = c .before .before .before
+
+cells-are : (c : tie.After-cells-of Inv-loop μ-loop) → cells c ≡ tabulate 3 (cellsAlong (table (start c)))
+cells-are c = c .cells-of .ensures ∙ ap (λ (s : Shape). tabulate 3 (cellsAlong s)) (c .before .shape-of .ensures)
+
 between : (c : tie.After-cells-of Inv-loop μ-loop) → Between 1 64 (cells c)
-between c = rw (c .cells-of .ensures) (cells-between (table (c .before .before)) 3 (shape (c .before .before)))
+between c = rw (cells-are c) (cells-between (table (start c)) (shape (start c)))
 
 few : (c : tie.After-cells-of Inv-loop μ-loop) → getD (cells c) 0 0 * (getD (cells c) 1 0 * getD (cells c) 2 0) ≤ 512
-few c = omega (arith, total-is (table (c .before .before)) (cells c) (c .cells-of .ensures), c .before .before .pre .1 .0)
+few c = omega (arith, total-is (table (start c)) (cells c) (cells-are c), start c .pre .1 .0)
 
 -- the cell of a turn
 abbrev first : tie.After-cell-at Inv-loop μ-loop → tie.After-cells-of Inv-loop μ-loop
 first c = c .before .before .before
 
-cell : (c : tie.After-cell-at Inv-loop μ-loop) → c .cell-at .result ≡ cellAt (table (first c .before .before)) (c .before .before .loop .i)
-cell c = c .cell-at .ensures ∙ cell-is (table (first c .before .before)) (cells (first c)) (c .before .before .loop .i) (first c .cells-of .ensures)
+cell : (c : tie.After-cell-at Inv-loop μ-loop) → c .cell-at .result ≡ cellAt (table (start (first c))) (c .before .before .loop .i)
+cell c = c .cell-at .ensures ∙ cell-is (table (start (first c))) (cells (first c)) (c .before .before .loop .i) (cells-are (first c))
 
 mul-total : tie.Need-mul-total Inv-loop μ-loop
 mul-total c = let b = between c in let h : getD (cells c) 1 0 * getD (cells c) 2 0 ≤ 64 * 64 = mul-le-mul (b .most 1 (lit< tt)) (b .most 2 (lit< tt)) in omega arith
 
 loop-holds : tie.Need-loop-holds Inv-loop μ-loop
-loop-holds c = let a = c .before .before .args in (omega arith, omega arith, lines-none (lineAt (a .axes) (a .counts) (now (a .cubic)) (now (a .quintic))) (now (a .out)))
+loop-holds c = let a = start c .args in (omega arith, omega arith, lines-none (lineAt (a .axes) (a .counts) (now (a .cubic)) (now (a .quintic))) (now (a .out)))
 
 put-line-requires : tie.Need-put-line-requires Inv-loop μ-loop
 put-line-requires c κs =
     let f = first (c .before) in
-    let s = f .before .before in
+    let s = start f in
     let l = c .before .before .before .loop in
     let t = few f in (
       s .pre .0,
       (
-        rw (cell (c .before)) (cell-accepted (table s) 3 (shape s) (l .i)),
-        rw (cell (c .before)) (cell-between (table s) 3 (shape s) (l .i)),
+        rw (cell (c .before)) (cell-accepted (table s) (shape s) (l .i)),
+        rw (cell (c .before)) (cell-between (table s) (shape s) (l .i)),
         omega (arith, put-length (l .inv .2), s .pre .1 .1, l .inv .1, c .before .before .loop-test .taken),
       ),
     )
@@ -82,7 +91,7 @@ loop-again c =
     let p = c .before .before .put-line in
     let d = c .before .before .before .before in
     let l = d .before .before .loop in
-    let a = first d .before .before .args in
+    let a = start (first d) .args in
     let e = ap (lineFrom (header (a .axes) (a .counts)) (now (a .cubic)) (now (a .quintic))) (cell d) in (
       omega arith,
       omega (arith, p .ensures .1, l .inv .1),
@@ -93,9 +102,9 @@ returns : tie.Need-returns Inv-loop μ-loop
 returns c =
     let l = c .before .loop in
     let f = c .before .before in
-    let s = f .before .before in
+    let s = start f in
     let a = s .args in
-    let t = total-is (table s) (cells f) (f .cells-of .ensures) in
+    let t = total-is (table s) (cells f) (cells-are f) in
     let e : l .i ≡ cellCount (table s) = omega (arith, l .inv .0, c .loop-test .left) in
     (rw e at (l .inv .2), omega (arith, l .inv .1, few f))
 
@@ -105,7 +114,8 @@ put-lines-spec =
     (tie.spec
     Inv-loop
     μ-loop
-    (λ c κs. counts-between (table (c .before)) 3 (shape (c .before)))
+    (λ c κs. search needs)
+    (λ c κs. rw (c .shape-of .ensures) (shape (c .before .before)))
     (λ c. search needs)
     (λ c. search needs)
     (λ c. search needs)

@@ -1,11 +1,11 @@
--- `cell_at` meets its contract: three digits.
+-- `cell::cell_at` meets its contract: three digits.
 use mathlib.Core.Path.{refl}
 use lib.Dec.{lit<}
 use Rattle.lattice.specs.Buffer.{tabulate}
 use Rattle.lattice.specs.Digits.{digit}
 use borrow.Author.Needs.{needs}
-use Rattle.report.proofs.cell_at.Statement.{statement}
-use Rattle.report.proofs.cell_at.Tie as tie
+use Rattle.cell.proofs.cell_at.Statement.{statement}
+use Rattle.cell.proofs.cell_at.Tie as tie
 
 returns : tie.Need-returns
 unfolding tabulate digit
