@@ -1,4 +1,5 @@
--- The size of an integer, in ℕ, where `omega` reads it: of a sum, a product, a negation; from bounds on both sides; and that a number fits its width.
+-- The size of an integer, in ℕ, where `omega` reads it: of a sum, a product, a negation; from bounds on both sides; and that a number fits
+-- its width.
 use mathlib.Core.Path.{_≡_, refl, sym, subst}
 use mathlib.Core.Bool.{Bool, true, false, cond}
 use Prim.Native.Nat.{ℕ, zero, suc, _+_, _*_, _-_, _^_, _≤_, _<_}
@@ -44,7 +45,8 @@ abs-mul (negsuc a) (negsuc b) = refl
 
 -- a product of two bounded numbers
 pub abs-mul-le : (x y : ℤ) {A B : ℕ} → natAbs x ≤ A → natAbs y ≤ B → natAbs (x *ℤ y) ≤ A * B
-abs-mul-le x y {A} {B} h k = subst (λ (n : ℕ). n ≤ A * B) (sym (abs-mul x y)) (le-trans (mul-le-mul-right (natAbs y) h) (mul-le-mul-left A k))
+abs-mul-le x y {A} {B} h k =
+    subst (λ (n : ℕ). n ≤ A * B) (sym (abs-mul x y)) (le-trans (mul-le-mul-right (natAbs y) h) (mul-le-mul-left A k))
 
 -- ---- bounds on both sides
 abs-lo : (B n : ℕ) → T (leZ (negℤ (pos B)) (negsuc n)) → suc n ≤ B

@@ -6,7 +6,8 @@ use lib.IntN.{ℤ, pos, negsuc, negℤ, sucℤ, predℤ, one, _+ℤ_, _-ℤ_, _*
 -- swap of the middle two of four
 pub +ℤ-swap4 : (p q r s : ℤ) → (p +ℤ q) +ℤ (r +ℤ s) ≡ (p +ℤ r) +ℤ (q +ℤ s)
 +ℤ-swap4 p q r s =
-    +ℤ-assoc p q (r +ℤ s) ∙ ap (λ t. p +ℤ t) (sym (+ℤ-assoc q r s) ∙ ap (λ t. t +ℤ s) (+ℤ-comm q r) ∙ +ℤ-assoc r q s) ∙ sym (+ℤ-assoc p r (q +ℤ s))
+    +ℤ-assoc p q (r +ℤ s) ∙ ap (λ t. p +ℤ t) (sym (+ℤ-assoc q r s) ∙ ap (λ t. t +ℤ s) (+ℤ-comm q r) ∙ +ℤ-assoc r q s)
+    ∙ sym (+ℤ-assoc p r (q +ℤ s))
 
 -- swap of the last two of three
 pub +ℤ-swap3 : (p q r : ℤ) → (p +ℤ q) +ℤ r ≡ (p +ℤ r) +ℤ q
@@ -23,8 +24,10 @@ ind P z s p (negsuc (suc n)) = p (negsuc n) (ind P z s p (negsuc n))
 pub +ℤ-*ℤ : (k l m : ℤ) → (k +ℤ l) *ℤ m ≡ k *ℤ m +ℤ l *ℤ m
 +ℤ-*ℤ k l m = ind (λ k. (k +ℤ l) *ℤ m ≡ k *ℤ m +ℤ l *ℤ m)
     (ap (λ t. t *ℤ m) (+ℤ-idl l) ∙ sym (ap (λ t. t +ℤ l *ℤ m) (zero-*ℤ m) ∙ +ℤ-idl (l *ℤ m)))
-    (λ k h. ap (λ t. t *ℤ m) (sucℤ-+ℤ k l) ∙ sucℤ-*ℤ (k +ℤ l) m ∙ ap (λ t. t +ℤ m) h ∙ +ℤ-swap3 (k *ℤ m) (l *ℤ m) m ∙ ap (λ t. t +ℤ l *ℤ m) (sym (sucℤ-*ℤ k m)))
-    (λ k h. ap (λ t. t *ℤ m) (predℤ-+ℤ k l) ∙ predℤ-*ℤ (k +ℤ l) m ∙ ap (λ t. t -ℤ m) h ∙ +ℤ-swap3 (k *ℤ m) (l *ℤ m) (negℤ m) ∙ ap (λ t. t +ℤ l *ℤ m) (sym (predℤ-*ℤ k m)))
+    (λ k h. ap (λ t. t *ℤ m) (sucℤ-+ℤ k l) ∙ sucℤ-*ℤ (k +ℤ l) m ∙ ap (λ t. t +ℤ m) h ∙ +ℤ-swap3 (k *ℤ m) (l *ℤ m) m
+    ∙ ap (λ t. t +ℤ l *ℤ m) (sym (sucℤ-*ℤ k m)))
+    (λ k h. ap (λ t. t *ℤ m) (predℤ-+ℤ k l) ∙ predℤ-*ℤ (k +ℤ l) m ∙ ap (λ t. t -ℤ m) h ∙ +ℤ-swap3 (k *ℤ m) (l *ℤ m) (negℤ m)
+    ∙ ap (λ t. t +ℤ l *ℤ m) (sym (predℤ-*ℤ k m)))
     k
 
 -- the left distributive law

@@ -1,5 +1,5 @@
--- Linear facts over ℤ, handed to `omega`. An expression is a difference of two naturals, read off it; an order or an equation of two expressions is an order or an
--- equation of naturals, in the atoms `pz x` and `nz x` of the variables x.
+-- Linear facts over ℤ, handed to `omega`. An expression is a difference of two naturals, read off it; an order or an equation of two
+-- expressions is an order or an equation of naturals, in the atoms `pz x` and `nz x` of the variables x.
 use mathlib.Core.Path.{_≡_, sym, _∙_, ap, ap₂, subst}
 use mathlib.Core.List.{List, [], _∷_}
 use Prim.Native.Nat.{ℕ, suc, _+_, _*_, _-_, _≤_, _<_}
@@ -9,7 +9,7 @@ use lib.Signed.{_≤ℤ_, _<ℤ_}
 use Rattle.arith.proofs.Laws.{+ℤ-swap4}
 use Rattle.arith.proofs.Ring.{E, var, con, _⊞_, _⊠_, ⊟_, _↑_, den, nth}
 use Rattle.arith.specs.Int.{_^ℤ_}
-use Rattle.arith.proofs.Quote.{Quoted, quotes, ring! }
+use Rattle.arith.proofs.Quote.{Quoted, Sides, quotes, ring! }
 use Rattle.arith.proofs.Order.{subℕ-pos, le-elim, le-intro, lt-elim, lt-intro, pos-inj}
 
 -- the two parts of a number: x = pz x − nz x, one of them 0
@@ -35,10 +35,11 @@ is : (x : ℤ) (p n : ℕ) → Diff x p n → x ≡ pos p -ℤ pos n
 is x p n d = sym (+ℤ-negℤ-cancel x (pos n)) ∙ ap (λ t. t -ℤ pos n) d
 
 diff-neg : (x : ℤ) (p n : ℕ) → Diff x p n → Diff (negℤ x) n p
-diff-neg x p n d = ap (λ t. negℤ x +ℤ t) (sym d) ∙ ring! (x ∷ pos n ∷ []) {x = negℤ x +ℤ (x +ℤ pos n)} {y = pos n} (search quotes depth 40) (search quotes depth 40) tt
+diff-neg x p n d = ap (λ t. negℤ x +ℤ t) (sym d)
+    ∙ ring! (x ∷ pos n ∷ []) {x = negℤ x +ℤ (x +ℤ pos n)} {y = pos n} (search quotes depth 40) tt
 
 mul-law : (a b c d : ℤ) → (a -ℤ b) *ℤ (c -ℤ d) +ℤ (a *ℤ d +ℤ b *ℤ c) ≡ a *ℤ c +ℤ b *ℤ d
-mul-law a b c d = ring! (a ∷ b ∷ c ∷ d ∷ []) (search quotes depth 40) (search quotes depth 40) tt
+mul-law a b c d = ring! (a ∷ b ∷ c ∷ d ∷ []) (search quotes depth 40) tt
 
 diff-mul : (x y : ℤ) (p n q m : ℕ) → Diff x p n → Diff y q m → Diff (x *ℤ y) (p * q + n * m) (p * m + n * q)
 diff-mul x y p n q m d f = ap (λ t. t +ℤ pos (p * m + n * q)) (ap₂ _*ℤ_ (is x p n d) (is y q m f)) ∙ mul-law (pos p) (pos n) (pos q) (pos m)
@@ -76,50 +77,52 @@ diff-q ρ q = subst (λ x. Diff x (posE (q .e) ρ) (negE (q .e) ρ)) (q .ok) (di
 fwd : (a b : ℤ) (p n q m k : ℕ) → Diff a p n → Diff b q m → b ≡ a +ℤ pos k → p + m + k ≡ q + n
 fwd a b p n q m k d f e = pos-inj
     (ap (λ t. t +ℤ pos m +ℤ pos k) (sym d)
-    ∙ ring! (a ∷ pos n ∷ pos m ∷ pos k ∷ []) {y = a +ℤ pos k +ℤ pos m +ℤ pos n} (search quotes depth 40) (search quotes depth 40) tt
+    ∙ ring! (a ∷ pos n ∷ pos m ∷ pos k ∷ []) {y = a +ℤ pos k +ℤ pos m +ℤ pos n} (search quotes depth 40) tt
     ∙ ap (λ t. t +ℤ pos m +ℤ pos n) (sym e)
     ∙ ap (λ t. t +ℤ pos n) f)
 
 bwd : (a b : ℤ) (p n q m k : ℕ) → Diff a p n → Diff b q m → p + m + k ≡ q + n → b ≡ a +ℤ pos k
 bwd a b p n q m k d f e =
-    ring! (b ∷ pos n ∷ pos m ∷ []) {y = (b +ℤ pos m) +ℤ pos n -ℤ pos n -ℤ pos m} (search quotes depth 40) (search quotes depth 40) tt
+    ring! (b ∷ pos n ∷ pos m ∷ []) {y = (b +ℤ pos m) +ℤ pos n -ℤ pos n -ℤ pos m} (search quotes depth 40) tt
     ∙ ap (λ t. t +ℤ pos n -ℤ pos n -ℤ pos m) f
     ∙ ap (λ (i : ℕ). pos i -ℤ pos n -ℤ pos m) (sym e)
     ∙ ap (λ t. t +ℤ pos m +ℤ pos k -ℤ pos n -ℤ pos m) (sym d)
-    ∙ ring! (a ∷ pos n ∷ pos m ∷ pos k ∷ []) {x = a +ℤ pos n +ℤ pos m +ℤ pos k -ℤ pos n -ℤ pos m} {y = a +ℤ pos k} (search quotes depth 40) (search quotes depth 40) tt
+    ∙ ring! (a ∷ pos n ∷ pos m ∷ pos k ∷ []) {x = a +ℤ pos n +ℤ pos m +ℤ pos k -ℤ pos n -ℤ pos m} {y = a +ℤ pos k} (search quotes depth 40) tt
 
-pub le→ℕ : (ρ : List ℤ) {a b : ℤ} (qa : Quoted ρ a) (qb : Quoted ρ b) → a ≤ℤ b → posE (qa .e) ρ + negE (qb .e) ρ ≤ posE (qb .e) ρ + negE (qa .e) ρ
-le→ℕ ρ {a} {b} qa qb h =
-    let g = le-elim h in
-    omega (arith, fwd a b (posE (qa .e) ρ) (negE (qa .e) ρ) (posE (qb .e) ρ) (negE (qb .e) ρ) (g .0) (diff-q ρ qa) (diff-q ρ qb) (g .1))
+-- ---- an order or an equation of two expressions, and of naturals
+module _ (ρ : List ℤ) {a b : ℤ} (s : Sides ρ a b) where
+  abbrev p : ℕ
+  p = posE (s .left .e) ρ
 
-pub ℕ→le : (ρ : List ℤ) {a b : ℤ} (qa : Quoted ρ a) (qb : Quoted ρ b) → posE (qa .e) ρ + negE (qb .e) ρ ≤ posE (qb .e) ρ + negE (qa .e) ρ → a ≤ℤ b
-ℕ→le ρ {a} {b} qa qb h = go (posE (qa .e) ρ) (negE (qa .e) ρ) (posE (qb .e) ρ) (negE (qb .e) ρ) (diff-q ρ qa) (diff-q ρ qb) h
-  where
-    go : (p n q m : ℕ) → Diff a p n → Diff b q m → p + m ≤ q + n → a ≤ℤ b
-    go p n q m d f h = le-intro (q + n - (p + m)) (bwd a b p n q m (q + n - (p + m)) d f (omega arith))
+  abbrev n : ℕ
+  n = negE (s .left .e) ρ
 
--- ---- an equation
-pub eq→ℕ : (ρ : List ℤ) {a b : ℤ} (qa : Quoted ρ a) (qb : Quoted ρ b) → a ≡ b → posE (qa .e) ρ + negE (qb .e) ρ ≡ posE (qb .e) ρ + negE (qa .e) ρ
-eq→ℕ ρ {a} {b} qa qb h = go (posE (qa .e) ρ) (negE (qa .e) ρ) (posE (qb .e) ρ) (negE (qb .e) ρ) (diff-q ρ qa) (diff-q ρ qb)
-  where
-    go : (p n q m : ℕ) → Diff a p n → Diff b q m → p + m ≡ q + n
-    go p n q m d f = let e = fwd a b p n q m 0 d f (sym h ∙ sym (+ℤ-idr a)) in omega arith
+  abbrev q : ℕ
+  q = posE (s .right .e) ρ
 
-pub ℕ→eq : (ρ : List ℤ) {a b : ℤ} (qa : Quoted ρ a) (qb : Quoted ρ b) → posE (qa .e) ρ + negE (qb .e) ρ ≡ posE (qb .e) ρ + negE (qa .e) ρ → a ≡ b
-ℕ→eq ρ {a} {b} qa qb h = go (posE (qa .e) ρ) (negE (qa .e) ρ) (posE (qb .e) ρ) (negE (qb .e) ρ) (diff-q ρ qa) (diff-q ρ qb) h
-  where
-    go : (p n q m : ℕ) → Diff a p n → Diff b q m → p + m ≡ q + n → a ≡ b
-    go p n q m d f h = sym (bwd a b p n q m 0 d f (omega arith) ∙ +ℤ-idr a)
+  abbrev m : ℕ
+  m = negE (s .right .e) ρ
 
--- ---- the strict order
-pub lt→ℕ : (ρ : List ℤ) {a b : ℤ} (qa : Quoted ρ a) (qb : Quoted ρ b) → a <ℤ b → posE (qa .e) ρ + negE (qb .e) ρ < posE (qb .e) ρ + negE (qa .e) ρ
-lt→ℕ ρ {a} {b} qa qb h =
-    let g = lt-elim h in
-    omega (arith, fwd a b (posE (qa .e) ρ) (negE (qa .e) ρ) (posE (qb .e) ρ) (negE (qb .e) ρ) (suc (g .0)) (diff-q ρ qa) (diff-q ρ qb) (g .1))
+  down : (k : ℕ) → b ≡ a +ℤ pos k → p + m + k ≡ q + n
+  down k = fwd a b p n q m k (diff-q ρ (s .left)) (diff-q ρ (s .right))
 
-pub ℕ→lt : (ρ : List ℤ) {a b : ℤ} (qa : Quoted ρ a) (qb : Quoted ρ b) → posE (qa .e) ρ + negE (qb .e) ρ < posE (qb .e) ρ + negE (qa .e) ρ → a <ℤ b
-ℕ→lt ρ {a} {b} qa qb h = go (posE (qa .e) ρ) (negE (qa .e) ρ) (posE (qb .e) ρ) (negE (qb .e) ρ) (diff-q ρ qa) (diff-q ρ qb) h
-  where
-    go : (p n q m : ℕ) → Diff a p n → Diff b q m → p + m < q + n → a <ℤ b
-    go p n q m d f h = lt-intro (q + n - suc (p + m)) (bwd a b p n q m (suc (q + n - suc (p + m))) d f (omega arith))
+  up : (k : ℕ) → p + m + k ≡ q + n → b ≡ a +ℤ pos k
+  up k = bwd a b p n q m k (diff-q ρ (s .left)) (diff-q ρ (s .right))
+
+  pub le→ℕ : a ≤ℤ b → p + m ≤ q + n
+  le→ℕ h = let g = le-elim h in omega (arith, down (g .0) (g .1))
+
+  pub ℕ→le : p + m ≤ q + n → a ≤ℤ b
+  ℕ→le h = le-intro (q + n - (p + m)) (up (q + n - (p + m)) (omega arith))
+
+  pub eq→ℕ : a ≡ b → p + m ≡ q + n
+  eq→ℕ h = omega (arith, down 0 (sym h ∙ sym (+ℤ-idr a)))
+
+  pub ℕ→eq : p + m ≡ q + n → a ≡ b
+  ℕ→eq h = sym (up 0 (omega arith) ∙ +ℤ-idr a)
+
+  pub lt→ℕ : a <ℤ b → p + m < q + n
+  lt→ℕ h = let g = lt-elim h in omega (arith, down (suc (g .0)) (g .1))
+
+  pub ℕ→lt : p + m < q + n → a <ℤ b
+  ℕ→lt h = lt-intro (q + n - suc (p + m)) (up (suc (q + n - suc (p + m))) (omega arith))

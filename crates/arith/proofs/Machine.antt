@@ -1,5 +1,7 @@
--- What the machine's signed arithmetic leaves to an author. A signed local holds bits, so a need speaks of `toZ w (ofZ w ..)` around each number.
--- `Size u` finds the plain number v that u stands for, a bound on its size, and what is left to show: one order of natural numbers for each step, for `omega`.
+-- What the machine's signed arithmetic leaves to an author. A signed local holds bits, so a need speaks of `toZ w (ofZ w ..)` around each
+-- number.
+-- `Size u` finds the plain number v that u stands for, a bound on its size, and what is left to show: one order of natural numbers for each
+-- step, for `omega`.
 --     fits? (search (sizes, sized ..)) (omega arith)       that a sum, a difference or a product fits
 --     value? (search (sizes, sized ..)) (omega arith)      that u is v
 use mathlib.Core.Path.{_≡_, refl, sym, _∙_, ap, ap₂, subst}
@@ -43,7 +45,8 @@ pub ok-mul : (a b : ℤ) (x : Size a) (y : Size b) → x .Ob × y .Ob → natAbs
 ok-mul a b x y t = abs-mul-le (x .v) (y .v) (x .ok (t .0)) (y .ok (t .1))
 
 pub is-bits : (w : Width) (a : ℤ) (x : Size a) → x .Ob × (x .B < 2 ^ hbits w) → toZ w (ofZ w a) ≡ x .v
-is-bits w a x t = ap (λ z. toZ w (ofZ w z)) (x .is (t .0)) ∙ toZ-ofZ {w = w} (sfits-abs {w = w} (x .v) (lt-of-le-of-lt (x .ok (t .0)) (t .1)))
+is-bits w a x t = ap (λ z. toZ w (ofZ w z)) (x .is (t .0))
+    ∙ toZ-ofZ {w = w} (sfits-abs {w = w} (x .v) (lt-of-le-of-lt (x .ok (t .0)) (t .1)))
 
 pub ok-bits : (w : Width) (a : ℤ) (x : Size a) → x .Ob × (x .B < 2 ^ hbits w) → natAbs (x .v) ≤ x .B
 ok-bits w a x t = x .ok (t .0)

@@ -1,5 +1,5 @@
--- Quoting found by `search`: `Quoted ρ x` is an expression that denotes x. `ring! search-x search-y tt`.
---
+-- Quoting found by `search`: `Quoted ρ x` is an expression that denotes x, `Sides ρ x y` one for each of x and y.
+-- `ring! ρ (search quotes depth 40) tt` proves x ≡ y.
 use mathlib.Core.Path.{_≡_, refl, sym, _∙_, ap, ap₂}
 use mathlib.Core.List.{List, _∷_}
 use Prim.Native.Nat.{ℕ, suc, _+_, _*_}
@@ -75,5 +75,10 @@ module _ {ρ : List ℤ} where
 
 pub ruleset quotes = (tt, v-here, v-there, q-var, q-pos-add, q-pos-mul, q-pos, q-negsuc, q-neg, q-pow, q-mul, q-add)
 
-pub ring! : (ρ : List ℤ) {x y : ℤ} (a : Quoted ρ x) (b : Quoted ρ y) → Same (a .e) (b .e) → x ≡ y
-ring! ρ a b t = sym (a .ok) ∙ ring (a .e) (b .e) ρ t ∙ b .ok
+-- the two sides of an equation or an order
+pub record Sides (ρ : List ℤ) (x y : ℤ) : Type 0 where
+  pub left : Quoted ρ x
+  pub right : Quoted ρ y
+
+pub ring! : (ρ : List ℤ) {x y : ℤ} (q : Sides ρ x y) → Same (q .left .e) (q .right .e) → x ≡ y
+ring! ρ q t = sym (q .left .ok) ∙ ring (q .left .e) (q .right .e) ρ t ∙ q .right .ok

@@ -154,7 +154,8 @@ ev-⊗ (p ▹ p′) q [] =
 ev-⊗ (p ▹ p′) q (x ∷ ρ) =
     ev-⊕ (under (λ r. p ⊗ r) q) (mk (lit (pos zero)) (p′ ⊗ q)) (x ∷ ρ)
     ∙ ap₂ _+ℤ_ (ev-under (λ r. p ⊗ r) (ev p ρ) x ρ (λ r. ev-⊗ p r ρ) q)
-    (ev-mk (lit (pos zero)) (p′ ⊗ q) (x ∷ ρ) ∙ +ℤ-idl (x *ℤ ev (p′ ⊗ q) (x ∷ ρ)) ∙ ap (λ t. x *ℤ t) (ev-⊗ p′ q (x ∷ ρ)) ∙ sym (*ℤ-assoc x (ev p′ (x ∷ ρ)) (ev q (x ∷ ρ))))
+    (ev-mk (lit (pos zero)) (p′ ⊗ q) (x ∷ ρ) ∙ +ℤ-idl (x *ℤ ev (p′ ⊗ q) (x ∷ ρ)) ∙ ap (λ t. x *ℤ t) (ev-⊗ p′ q (x ∷ ρ))
+    ∙ sym (*ℤ-assoc x (ev p′ (x ∷ ρ)) (ev q (x ∷ ρ))))
     ∙ sym (+ℤ-*ℤ (ev p ρ) (x *ℤ ev p′ (x ∷ ρ)) (ev q (x ∷ ρ)))
 
 ev-power : (p : P) (n : ℕ) (ρ : List ℤ) → ev (power p n) ρ ≡ ev p ρ ^ℤ n

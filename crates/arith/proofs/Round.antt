@@ -1,4 +1,5 @@
--- Division of ℤ by a positive natural, rounded down and to the nearest with halves up: what characterises each, that it is unique, and what it gives of a multiple.
+-- Division of ℤ by a positive natural, rounded down and to the nearest with halves up: what characterises each, that it is unique, and what
+-- it gives of a multiple.
 use mathlib.Core.Path.{_≡_, refl, sym, _∙_, ap, ap₂, subst}
 use mathlib.Core.List.{[], _∷_}
 use mathlib.Core.Logic.{_⊎_, inl, inr}
@@ -16,7 +17,7 @@ use Rattle.arith.proofs.Abs.{abs-mul, abs-add, abs≤}
 use Rattle.arith.proofs.Linear.{eq→ℕ, le→ℕ, lt→ℕ, ℕ→le, ℕ→lt}
 
 shift : (A B r : ℤ) → A ≡ B +ℤ r → negℤ B ≡ negℤ A +ℤ r
-shift A B r e = rw e (ring! (B ∷ r ∷ []) (search quotes depth 40) (search quotes depth 40) tt)
+shift A B r e = rw e (ring! (B ∷ r ∷ []) (search quotes depth 40) tt)
 
 -- z = m q + r with r < m
 pub record Floor (z : ℤ) (m : ℕ) (q : ℤ) : Type 0 where
@@ -34,9 +35,10 @@ floor-is (negsuc a) m h = record {
 
 one-way : (q p : ℤ) (m r s k : ℕ) → p ≡ q +ℤ pos k → pos m *ℤ q +ℤ pos r ≡ pos m *ℤ p +ℤ pos s → r ≡ m * k + s
 one-way q p m r s k e f = pos-inj
-    (ring! (q ∷ pos m ∷ pos r ∷ []) {y = (pos m *ℤ q +ℤ pos r) -ℤ pos m *ℤ q} (search quotes depth 40) (search quotes depth 40) tt
+    (ring! (q ∷ pos m ∷ pos r ∷ []) {y = (pos m *ℤ q +ℤ pos r) -ℤ pos m *ℤ q} (search quotes depth 40) tt
     ∙ ap (λ t. t -ℤ pos m *ℤ q) (f ∙ ap (λ t. pos m *ℤ t +ℤ pos s) e)
-    ∙ ring! (q ∷ pos m ∷ pos k ∷ pos s ∷ []) {x = (pos m *ℤ (q +ℤ pos k) +ℤ pos s) -ℤ pos m *ℤ q} {y = pos m *ℤ pos k +ℤ pos s} (search quotes depth 40) (search quotes depth 40) tt)
+    ∙ ring! (q ∷ pos m ∷ pos k ∷ pos s ∷ []) {x = (pos m *ℤ (q +ℤ pos k) +ℤ pos s) -ℤ pos m *ℤ q} {y = pos m *ℤ pos k +ℤ pos s}
+    (search quotes depth 40) tt)
 
 no-step : (m r s k : ℕ) → r < m → r ≡ m * k + s → k ≡ 0
 no-step m r s zero h e = refl
@@ -45,7 +47,9 @@ no-step m r s (suc k) h e = omega arith
 one-way′ : {z q p : ℤ} {m : ℕ} → Floor z m q → Floor z m p → q ≤ℤ p → q ≡ p
 one-way′ {z} {q} {p} {m} f g h =
     let k = le-elim h in
-    sym (k .1 ∙ ap (λ (n : ℕ). q +ℤ pos n) (no-step m (f .rest) (g .rest) (k .0) (f .below) (one-way q p m (f .rest) (g .rest) (k .0) (k .1) (sym (f .is) ∙ g .is))) ∙ +ℤ-idr q)
+    sym (k .1 ∙ ap (λ (n : ℕ). q +ℤ pos n)
+    (no-step m (f .rest) (g .rest) (k .0) (f .below) (one-way q p m (f .rest) (g .rest) (k .0) (k .1) (sym (f .is) ∙ g .is)))
+    ∙ +ℤ-idr q)
 
 -- the quotient is the only one
 pub floor-unique : {z q p : ℤ} {m : ℕ} → Floor z m q → Floor z m p → q ≡ p
@@ -61,23 +65,25 @@ pub record Nearest (x : ℤ) (y : ℕ) (q : ℤ) : Type 0 where
   pub upto : (pos 2 *ℤ (q *ℤ pos y -ℤ x)) ≤ℤ pos y
 
 nf : (x y q g : ℤ) → pos 2 *ℤ x +ℤ (pos 2 *ℤ (q *ℤ y -ℤ x) +ℤ g) ≡ (pos 2 *ℤ y) *ℤ q +ℤ g
-nf x y q g = ring! (x ∷ y ∷ q ∷ g ∷ []) (search quotes depth 40) (search quotes depth 40) tt
+nf x y q g = ring! (x ∷ y ∷ q ∷ g ∷ []) (search quotes depth 40) tt
 
 fn : (x y q r : ℤ) → pos 2 *ℤ x +ℤ y ≡ (pos 2 *ℤ y) *ℤ q +ℤ r → y ≡ pos 2 *ℤ (q *ℤ y -ℤ x) +ℤ r
 fn x y q r e =
-    ring! (x ∷ y ∷ []) {y = (pos 2 *ℤ x +ℤ y) -ℤ pos 2 *ℤ x} (search quotes depth 40) (search quotes depth 40) tt
+    ring! (x ∷ y ∷ []) {y = (pos 2 *ℤ x +ℤ y) -ℤ pos 2 *ℤ x} (search quotes depth 40) tt
     ∙ ap (λ t. t -ℤ pos 2 *ℤ x) e
-    ∙ ring! (x ∷ y ∷ q ∷ r ∷ []) {x = ((pos 2 *ℤ y) *ℤ q +ℤ r) -ℤ pos 2 *ℤ x} (search quotes depth 40) (search quotes depth 40) tt
+    ∙ ring! (x ∷ y ∷ q ∷ r ∷ []) {x = ((pos 2 *ℤ y) *ℤ q +ℤ r) -ℤ pos 2 *ℤ x} (search quotes depth 40) tt
 
 under-two : (y w g : ℤ) → negℤ y <ℤ w → y ≡ w +ℤ g → g <ℤ (pos 2 *ℤ y)
 under-two y w g h e =
     let ρ = y ∷ w ∷ g ∷ [] in
-    ℕ→lt ρ (search quotes depth 40) (search quotes depth 40) (omega (arith, lt→ℕ ρ (search quotes depth 40) (search quotes depth 40) h, eq→ℕ ρ (search quotes depth 40) (search quotes depth 40) e))
+    ℕ→lt ρ (search quotes depth 40)
+    (omega (arith, lt→ℕ ρ (search quotes depth 40) h, eq→ℕ ρ (search quotes depth 40) e))
 
 over-minus : (y w g : ℤ) → g <ℤ (pos 2 *ℤ y) → y ≡ w +ℤ g → negℤ y <ℤ w
 over-minus y w g h e =
     let ρ = y ∷ w ∷ g ∷ [] in
-    ℕ→lt ρ (search quotes depth 40) (search quotes depth 40) (omega (arith, lt→ℕ ρ (search quotes depth 40) (search quotes depth 40) h, eq→ℕ ρ (search quotes depth 40) (search quotes depth 40) e))
+    ℕ→lt ρ (search quotes depth 40)
+    (omega (arith, lt→ℕ ρ (search quotes depth 40) h, eq→ℕ ρ (search quotes depth 40) e))
 
 near→floor : (x : ℤ) (y : ℕ) (q : ℤ) → Nearest x y q → Floor (pos 2 *ℤ x +ℤ pos y) (2 * y) q
 near→floor x y q h =
@@ -109,14 +115,20 @@ round-unique x y q h n = floor-unique (near→floor x y q n) (floor-is (pos 2 *�
 -- exact where y divides x
 pub round-exact : (q : ℤ) (y : ℕ) → 0 < y → roundHalfUp (q *ℤ pos y) y ≡ q
 round-exact q y h = sym (round-unique (q *ℤ pos y) y q h
-    (floor→near (q *ℤ pos y) y q (record { rest = y; below = omega arith; is = ring! (q ∷ pos y ∷ []) (search quotes depth 40) (search quotes depth 40) tt })))
+    (floor→near (q *ℤ pos y) y q
+    (record { rest = y; below = omega arith; is = ring! (q ∷ pos y ∷ []) (search quotes depth 40) tt })))
 
 -- ---- a common factor goes out
 pub floor-scale : (z : ℤ) (k m : ℕ) → 0 < k → 0 < m → floorDiv (pos k *ℤ z) (k * m) ≡ floorDiv z m
 floor-scale z k m h l =
     let f = floor-is z m l in
     floor-unique (floor-is (pos k *ℤ z) (k * m) (pos-mul k m h l))
-    (record { rest = k * f .rest; below = scaled k (f .rest) m h (f .below); is = ap (λ t. pos k *ℤ t) (f .is) ∙ out (pos k) (pos m) (floorDiv z m) (pos (f .rest)) })
+    (record {
+      rest = k * f .rest;
+      below = scaled k (f .rest) m h (f .below);
+      is = ap (λ t. pos k *ℤ t) (f .is)
+          ∙ out (pos k) (pos m) (floorDiv z m) (pos (f .rest));
+    })
   where
     pos-mul : (k m : ℕ) → 0 < k → 0 < m → 0 < k * m
     pos-mul (suc k) (suc m) h l = omega arith
@@ -127,7 +139,7 @@ floor-scale z k m h l =
     scaled k r m h l = mul-lt-mul-of-pos-left l h
 
     out : (k m q r : ℤ) → k *ℤ (m *ℤ q +ℤ r) ≡ k *ℤ m *ℤ q +ℤ k *ℤ r
-    out k m q r = ring! (k ∷ m ∷ q ∷ r ∷ []) (search quotes depth 40) (search quotes depth 40) tt
+    out k m q r = ring! (k ∷ m ∷ q ∷ r ∷ []) (search quotes depth 40) tt
 
 -- by an even number: half of it added, and rounded down
 pub round-half : (x : ℤ) (h : ℕ) → 0 < h → roundHalfUp x (2 * h) ≡ floorDiv (x +ℤ pos h) (2 * h)
@@ -135,7 +147,7 @@ unfolding roundHalfUp
 round-half x h l = ap (λ t. floorDiv t (2 * (2 * h))) (twice x (pos h)) ∙ floor-scale (x +ℤ pos h) 2 (2 * h) (omega arith) (omega arith)
   where
     twice : (x h : ℤ) → pos 2 *ℤ x +ℤ pos 2 *ℤ h ≡ pos 2 *ℤ (x +ℤ h)
-    twice x h = ring! (x ∷ h ∷ []) (search quotes depth 40) (search quotes depth 40) tt
+    twice x h = ring! (x ∷ h ∷ []) (search quotes depth 40) tt
 
 -- a common factor of both parts of a quotient goes out
 round-common : (k : ℕ) (x : ℤ) (y : ℕ) → 0 < k → 0 < y → roundHalfUp (pos k *ℤ x) (k * y) ≡ roundHalfUp x y
@@ -151,7 +163,7 @@ round-common k x y h l =
     twice y l = omega arith
 
     out : (k x y : ℤ) → pos 2 *ℤ (k *ℤ x) +ℤ k *ℤ y ≡ k *ℤ (pos 2 *ℤ x +ℤ y)
-    out k x y = ring! (k ∷ x ∷ y ∷ []) (search quotes depth 40) (search quotes depth 40) tt
+    out k x y = ring! (k ∷ x ∷ y ∷ []) (search quotes depth 40) tt
 
 -- ---- multiples, and their quotients
 
@@ -166,7 +178,11 @@ module _ (d : ℕ) (some : 0 < d) where
 
   quotient : (z : ℤ) → natAbs z % d ≡ 0 → (q : ℤ) × (z ≡ pos d *ℤ q)
   quotient (pos a) h = (pos (a / d), ap pos (omega (arith, div-add-mod a d)))
-  quotient (negsuc a) h = (negℤ (pos (suc a / d)), ap (λ (k : ℕ). negℤ (pos k)) (back (suc a) (suc a / d) (suc a % d) (div-add-mod (suc a) d) h) ∙ sym (*ℤ-negℤ (pos d) (pos (suc a / d))))
+  quotient (negsuc a) h = (
+    negℤ (pos (suc a / d)),
+    ap (λ (k : ℕ). negℤ (pos k)) (back (suc a) (suc a / d) (suc a % d) (div-add-mod (suc a) d) h)
+        ∙ sym (*ℤ-negℤ (pos d) (pos (suc a / d))),
+  )
     where
       back : (s q r : ℕ) → d * q + r ≡ s → r ≡ 0 → s ≡ d * q
       back s q r e h = omega arith
@@ -189,14 +205,19 @@ round-same x z y w hy hw e =
     sym (round-common w x y hw hy) ∙ ap₂ roundHalfUp (turn x (pos w) ∙ e ∙ sym (turn z (pos y))) (mul-comm w y) ∙ round-common y z w hy hw
   where
     turn : (x w : ℤ) → w *ℤ x ≡ x *ℤ w
-    turn x w = ring! (x ∷ w ∷ []) (search quotes depth 40) (search quotes depth 40) tt
+    turn x w = ring! (x ∷ w ∷ []) (search quotes depth 40) tt
 
 -- a larger numerator rounds to no less
 less : (p y x z : ℤ) (k : ℕ) → (pos 2 *ℤ ((p +ℤ pos k) *ℤ y -ℤ x)) ≤ℤ y → negℤ y <ℤ (pos 2 *ℤ (p *ℤ y -ℤ z)) → x ≤ℤ z → (pos k *ℤ y) <ℤ y
 less p y x z k u a l =
     let ρ = p ∷ pos k ∷ y ∷ x ∷ z ∷ [] in
-    ℕ→lt ρ (search quotes depth 40) (search quotes depth 40)
-    (omega (arith, le→ℕ ρ (search quotes depth 40) (search quotes depth 40) u, lt→ℕ ρ (search quotes depth 40) (search quotes depth 40) a, le→ℕ ρ (search quotes depth 40) (search quotes depth 40) l))
+    ℕ→lt ρ (search quotes depth 40)
+    (omega (
+      arith,
+      le→ℕ ρ (search quotes depth 40) u,
+      lt→ℕ ρ (search quotes depth 40) a,
+      le→ℕ ρ (search quotes depth 40) l,
+    ))
 
 near-mono : (x z : ℤ) (y : ℕ) (q p : ℤ) → Nearest x y q → Nearest z y p → x ≤ℤ z → (q ≤ℤ p) ⊎ (p ≤ℤ q) → q ≤ℤ p
 near-mono x z y q p f g l (inl a) = a
@@ -210,18 +231,27 @@ near-mono x z y q p f g l (inr a) =
     none (suc k) y h = absurd (omega arith)
 
 pub round-mono : (x z : ℤ) (y : ℕ) → 0 < y → x ≤ℤ z → roundHalfUp x y ≤ℤ roundHalfUp z y
-round-mono x z y h l = near-mono x z y (roundHalfUp x y) (roundHalfUp z y) (round-near x y h) (round-near z y h) l (≤ℤ-total (roundHalfUp x y) (roundHalfUp z y))
+round-mono x z y h l = near-mono x z y (roundHalfUp x y) (roundHalfUp z y) (round-near x y h) (round-near z y h) l
+    (≤ℤ-total (roundHalfUp x y) (roundHalfUp z y))
 
 -- a fraction below a half, whatever its sign
 pub round-small : (x : ℤ) (y : ℕ) → 0 < y → 2 * natAbs x < y → roundHalfUp x y ≡ pos 0
 round-small (pos k) y h l =
     let ρ = pos k ∷ pos y ∷ [] in
     sym (round-unique (pos k) y (pos 0) h
-    (record { above = ℕ→lt ρ (search quotes depth 40) (search quotes depth 40) (omega arith); upto = ℕ→le ρ (search quotes depth 40) (search quotes depth 40) (omega arith) }))
+    (record {
+      above = ℕ→lt ρ (search quotes depth 40) (omega arith);
+      upto =
+          ℕ→le ρ (search quotes depth 40) (omega arith);
+    }))
 round-small (negsuc k) y h l =
     let ρ = negsuc k ∷ pos y ∷ [] in
     sym (round-unique (negsuc k) y (pos 0) h
-    (record { above = ℕ→lt ρ (search quotes depth 40) (search quotes depth 40) (omega arith); upto = ℕ→le ρ (search quotes depth 40) (search quotes depth 40) (omega arith) }))
+    (record {
+      above = ℕ→lt ρ (search quotes depth 40) (omega arith);
+      upto =
+          ℕ→le ρ (search quotes depth 40) (omega arith);
+    }))
 
 -- ---- any rounding that is off by at most half and depends on the quotient alone
 
@@ -247,6 +277,7 @@ sound-size {round} sound x y h =
     omega arith
 
 -- −3/4 is −1, 1/2 is 1, −1/2 is 0, 5/2 is 3, −5/2 is −2
-halves : (roundHalfUp (negsuc 2) 4 ≡ negsuc 0) × (roundHalfUp (pos 1) 2 ≡ pos 1) × (roundHalfUp (negsuc 0) 2 ≡ pos 0) × (roundHalfUp (pos 5) 2 ≡ pos 3) × (roundHalfUp (negsuc 4) 2 ≡ negsuc 1)
+halves : (roundHalfUp (negsuc 2) 4 ≡ negsuc 0) × (roundHalfUp (pos 1) 2 ≡ pos 1) × (roundHalfUp (negsuc 0) 2 ≡ pos 0)
+    × (roundHalfUp (pos 5) 2 ≡ pos 3) × (roundHalfUp (negsuc 4) 2 ≡ negsuc 1)
 unfolding roundHalfUp
 halves = (refl, refl, refl, refl, refl)

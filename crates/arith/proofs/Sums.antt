@@ -94,19 +94,20 @@ module _ (m : ℕ) (m2 : 2 ≤ m) (m3 : m ≤ 3) where
   pub sum-ends : (f : ℕ → ℤ) → sum (2 * m) f ≡ sum m f +ℤ sum m (λ o. f (m + o))
   unfolding sum
   sum-ends = by-m (λ m. (f : ℕ → ℤ) → sum (2 * m) f ≡ sum m f +ℤ sum m (λ o. f (m + o)))
-      (λ f. ring! (f 0 ∷ f 1 ∷ f 2 ∷ f 3 ∷ []) (search quotes depth 40) (search quotes depth 40) tt)
-      (λ f. ring! (f 0 ∷ f 1 ∷ f 2 ∷ f 3 ∷ f 4 ∷ f 5 ∷ []) (search quotes depth 40) (search quotes depth 40) tt) m m2 m3
+      (λ f. ring! (f 0 ∷ f 1 ∷ f 2 ∷ f 3 ∷ []) (search quotes depth 40) tt)
+      (λ f. ring! (f 0 ∷ f 1 ∷ f 2 ∷ f 3 ∷ f 4 ∷ f 5 ∷ []) (search quotes depth 40) tt) m m2 m3
 
   -- the high end counted from its end
   pub sum-halves : (f : ℕ → ℤ) → sum (2 * m) f ≡ sum m f +ℤ sum m (λ k. f (2 * m - 1 - k))
   unfolding sum
   sum-halves = by-m (λ m. (f : ℕ → ℤ) → sum (2 * m) f ≡ sum m f +ℤ sum m (λ k. f (2 * m - 1 - k)))
-      (λ f. ring! (f 0 ∷ f 1 ∷ f 2 ∷ f 3 ∷ []) (search quotes depth 40) (search quotes depth 40) tt)
-      (λ f. ring! (f 0 ∷ f 1 ∷ f 2 ∷ f 3 ∷ f 4 ∷ f 5 ∷ []) (search quotes depth 40) (search quotes depth 40) tt) m m2 m3
+      (λ f. ring! (f 0 ∷ f 1 ∷ f 2 ∷ f 3 ∷ []) (search quotes depth 40) tt)
+      (λ f. ring! (f 0 ∷ f 1 ∷ f 2 ∷ f 3 ∷ f 4 ∷ f 5 ∷ []) (search quotes depth 40) tt) m m2 m3
 
   pub total-ends : (f : ℕ → ℕ) → total (2 * m) f ≡ total m f + total m (λ o. f (m + o))
   unfolding total
-  total-ends = by-m (λ m. (f : ℕ → ℕ) → total (2 * m) f ≡ total m f + total m (λ o. f (m + o))) (λ f. omega arith) (λ f. omega arith) m m2 m3
+  total-ends = by-m (λ m. (f : ℕ → ℕ) → total (2 * m) f ≡ total m f + total m (λ o. f (m + o))) (λ f. omega arith)
+      (λ f. omega arith) m m2 m3
 
 -- three numbers of which there are m, the others nothing
 module _ (m : ℕ) (m2 : 2 ≤ m) (m3 : m ≤ 3) where
@@ -128,17 +129,20 @@ abs-sum zero f = le-refl 0
 abs-sum (suc n) f = le-trans (abs-add (sum n f) (f n)) (add-le-add (abs-sum n f) (le-refl (natAbs (f n))))
 
 -- numbers within B, each times its factor, sum to no more than B times the sizes of the factors
-pub abs-weighted : (n : ℕ) (k x : ℕ → ℤ) (B : ℕ) → ((i : ℕ) → i < n → natAbs (x i) ≤ B) → natAbs (sum n (λ i. k i *ℤ x i)) ≤ total n (λ i. natAbs (k i)) * B
+pub abs-weighted : (n : ℕ) (k x : ℕ → ℤ) (B : ℕ) → ((i : ℕ) → i < n → natAbs (x i) ≤ B)
+    → natAbs (sum n (λ i. k i *ℤ x i)) ≤ total n (λ i. natAbs (k i)) * B
 abs-weighted n k x B h =
     le-trans (abs-sum n (λ i. k i *ℤ x i))
-    (le-trans (total-mono n (λ i. natAbs (k i *ℤ x i)) (λ i. natAbs (k i) * B) (λ i l. le-trans (le-of-eq (abs-mul (k i) (x i))) (mul-le-mul-left (natAbs (k i)) (h i l))))
+    (le-trans (total-mono n (λ i. natAbs (k i *ℤ x i)) (λ i. natAbs (k i) * B)
+    (λ i l. le-trans (le-of-eq (abs-mul (k i) (x i))) (mul-le-mul-left (natAbs (k i)) (h i l))))
     (le-of-eq (total-right n (λ i. natAbs (k i)) B)))
 
 -- numbers within B times a measure of their own, each times its factor
 module _ (n : ℕ) (k x : ℕ → ℤ) (g : ℕ → ℕ) (B : ℕ) (h : (i : ℕ) → i < n → natAbs (x i) ≤ B * g i) where
   pub graded-total : total n (λ i. natAbs (k i) * natAbs (x i)) ≤ total n (λ i. natAbs (k i) * g i) * B
   graded-total =
-      le-trans (total-mono n (λ i. natAbs (k i) * natAbs (x i)) (λ i. natAbs (k i) * g i * B) (λ i l. le-trans (mul-le-mul-left (natAbs (k i)) (h i l)) (le-of-eq (regroup (natAbs (k i)) B (g i)))))
+      le-trans (total-mono n (λ i. natAbs (k i) * natAbs (x i)) (λ i. natAbs (k i) * g i * B)
+      (λ i l. le-trans (mul-le-mul-left (natAbs (k i)) (h i l)) (le-of-eq (regroup (natAbs (k i)) B (g i)))))
       (le-of-eq (total-right n (λ i. natAbs (k i) * g i) B))
     where
       regroup : (s b w : ℕ) → s * (b * w) ≡ s * w * b
@@ -146,7 +150,9 @@ module _ (n : ℕ) (k x : ℕ → ℤ) (g : ℕ → ℕ) (B : ℕ) (h : (i : ℕ
 
   pub graded-sum : natAbs (sum n (λ i. k i *ℤ x i)) ≤ total n (λ i. natAbs (k i) * g i) * B
   graded-sum =
-      le-trans (abs-sum n (λ i. k i *ℤ x i)) (le-trans (le-of-eq (total-ext n (λ i. natAbs (k i *ℤ x i)) (λ i. natAbs (k i) * natAbs (x i)) (λ i l. abs-mul (k i) (x i)))) graded-total)
+      le-trans (abs-sum n (λ i. k i *ℤ x i))
+      (le-trans (le-of-eq (total-ext n (λ i. natAbs (k i *ℤ x i)) (λ i. natAbs (k i) * natAbs (x i)) (λ i l. abs-mul (k i) (x i))))
+      graded-total)
 
 -- a sum of products whose sizes sum to at most B: so do each product and each shorter sum
 module _ (n : ℕ) (f g : ℕ → ℤ) (B : ℕ) (small : total n (λ j. natAbs (f j) * natAbs (g j)) ≤ B) where

@@ -1,4 +1,5 @@
--- Two cells that contain a point give the same answer there, for every rounding: on each axis the stage depends on the point and not on the cell.
+-- Two cells that contain a point give the same answer there, for every rounding: on each axis the stage depends on the point and not on the
+-- cell.
 use mathlib.Core.Path.{_≡_, ap, _∙_}
 use mathlib.Core.List.{List}
 use Prim.Native.Nat.{ℕ, _+_, _*_, _≤_, _<_}
@@ -28,7 +29,8 @@ module _ (round : Rounding) (q : Ask) (ok : Proper q) (cell step : Place) (insid
   pub agreement : (g : Field) → answerBy round q g ≡ answerBy round (elsewhere q cell step) g
   unfolding answerBy before toEighth toUnit divisorOn
   agreement g =
-      ap (λ (R : Rule). along l (rounded R (8 * divisorOn q l)) (sweep ls (toEighth round q) (inEighths g)) origin) (stage-same l (ok .last))
+      ap (λ (R : Rule). along l (rounded R (8 * divisorOn q l)) (sweep ls (toEighth round q) (inEighths g)) origin)
+      (stage-same l (ok .last))
       ∙ ap (λ (f : Field). along l (toUnit round (elsewhere q cell step) l) f origin)
       (sweep-rules ls (toEighth round q) (toEighth round (elsewhere q cell step)) (inEighths g)
       (each-before q Same (λ a k n. ap (λ (R : Rule). rounded R (divisorOn q a)) (stage-same a k))))

@@ -1,4 +1,5 @@
--- A query reads the corner records of its cell and nothing else of the table: each of its tests, and its answer, is the same for records with the same corners.
+-- A query reads the corner records of its cell and nothing else of the table: each of its tests, and its answer, is the same for records
+-- with the same corners.
 use mathlib.Core.Path.{_≡_, sym, ap, _∙_}
 use mathlib.Core.List.{List}
 use Prim.Native.Nat.{ℕ, _*_, _^_, _<_}
@@ -32,7 +33,8 @@ module _ (s : Shape) (want : Want) (q : Query) (rs ts : List ℤ) (h : SameCorne
     corners-same =
         firstOf-same (2 ^ s .axes * entries s) _ _
         (λ i l. let p = cornerPlace s (cellRead s q) i in
-        ap (λ (z : ℤ). refuseUnless (leb (natAbs z) (entryLimit (orders s) (s .axes) p)) 5 (entryIndex s p)) (h .same p (corner-inside s ok (cellRead s q) here i l)))
+        ap (λ (z : ℤ). refuseUnless (leb (natAbs z) (entryLimit (orders s) (s .axes) p)) 5 (entryIndex s p))
+        (h .same p (corner-inside s ok (cellRead s q) here i l)))
 
     reading-same : reading s rs want (cellRead s q) (stepRead s q) ≡ reading s ts want (cellRead s q) (stepRead s q)
     unfolding reading askAt
@@ -44,7 +46,8 @@ module _ (s : Shape) (want : Want) (q : Query) (rs ts : List ℤ) (h : SameCorne
 pub corners-only : CornersOnly
 corners-only s want q rs ts h =
     by-gate s rs want q
-    ∙ first-after (askedOutcome s rs want) (first (gate s q) (reading s rs want (cellRead s q) (stepRead s q))) (first (gate s q) (reading s ts want (cellRead s q) (stepRead s q)))
+    ∙ first-after (askedOutcome s rs want) (first (gate s q) (reading s rs want (cellRead s q) (stepRead s q)))
+    (first (gate s q) (reading s ts want (cellRead s q) (stepRead s q)))
     (λ a. first-after (gate s q) (reading s rs want (cellRead s q) (stepRead s q)) (reading s ts want (cellRead s q) (stepRead s q))
     (λ g. let ok = shaped s (asked-parts s rs want a .0) in
     reading-same s want q rs ts h ok (gated s ok q g .accepted) (last-used s want (ok .axes-low) (asked-parts s rs want a .1))))

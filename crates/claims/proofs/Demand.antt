@@ -1,4 +1,5 @@
--- The third demand, from what the two calls give: the stages' number from the records of the rules, for an accepted table and a query whose tests are passed.
+-- The third demand, from what the two calls give: the stages' number from the records of the rules, for an accepted table and a query whose
+-- tests are passed.
 use mathlib.Core.Path.{_≡_, refl, sym, ap, subst, _∙_}
 use mathlib.Core.List.{List}
 use mathlib.Core.Option.{none, some}
@@ -27,7 +28,8 @@ use Rattle.claims.specs.Third.{Query, queried, cellRead, stepRead, Reads
 use Rattle.claims.proofs.General.{rejoined}
 use Rattle.claims.proofs.Distance.{Proper, distance}
 use Rattle.claims.proofs.Agree.{agreement}
-use Rattle.claims.proofs.Lent.{lent, reading-is, block-local}
+use Rattle.estimated.proofs.Estimated.{lent, reading-is}
+use Rattle.claims.proofs.Block.{block-local}
 use Rattle.claims.proofs.Gates.{gate, by-gate, gated, gate-passes, gate-same, step-same}
 
 -- ---- a slope along a used axis
@@ -64,7 +66,8 @@ module _ (s : Shape) (xs old : List ℤ) (taken : AcceptedTable s xs old) where
   known = estimated s xs (length old) taken
 
   -- the tests of the query, then what it reads
-  both-is : (want : Want) (q : Query) → bothCalls s xs old want q ≡ first (askedOutcome s (recordsOf s xs) want) (first (gate s q) (readHere s xs want q))
+  both-is : (want : Want) (q : Query)
+      → bothCalls s xs old want q ≡ first (askedOutcome s (recordsOf s xs) want) (first (gate s q) (readHere s xs want q))
   unfolding bothCalls
   both-is want q =
       first-passed (estimateOutcome s xs (length old)) (queried s _ want q) taken
@@ -75,16 +78,20 @@ module _ (s : Shape) (xs old : List ℤ) (taken : AcceptedTable s xs old) where
   unfolding askedOutcome
   asked-is want =
       first-passed (shapeOutcome s) _ (known .passed)
-      ∙ first-passed (refuseUnless (eqb (length (recordsOf s xs)) (size s)) 4 0) (wantOutcome s want) (passes _ 4 0 (eq-eqb _ _ (records-length s xs)))
+      ∙ first-passed (refuseUnless (eqb (length (recordsOf s xs)) (size s)) 4 0) (wantOutcome s want)
+      (passes _ 4 0 (eq-eqb _ _ (records-length s xs)))
 
   askable-passes : (want : Want) → Askable s want → askedOutcome s (recordsOf s xs) want ≡ done tt
   askable-passes want a = asked-passes s (recordsOf s xs) want (records-length s xs) (known .passed) (want-passes s want a)
 
   -- what a query whose tests are passed reads
-  read-is : (want : Want) (q : Query) → Askable s want → gate s q ≡ done tt → readHere s xs want q ≡ done (answer (asked s want q) (tableRecords s xs))
-  read-is want q a h = reading-is s xs (length old) known (cellRead s q) (gated s (known .shape) q h .accepted) want (stepRead s q) (used-last s want (known .shape .axes-low) a)
+  read-is : (want : Want) (q : Query) → Askable s want → gate s q ≡ done tt
+      → readHere s xs want q ≡ done (answer (asked s want q) (tableRecords s xs))
+  read-is want q a h = reading-is s xs (length old) known (cellRead s q) (gated s (known .shape) q h .accepted) want (stepRead s q)
+      (used-last s want (known .shape .axes-low) a)
 
-  both-done : (want : Want) (q : Query) → Askable s want → gate s q ≡ done tt → bothCalls s xs old want q ≡ done (answer (asked s want q) (tableRecords s xs))
+  both-done : (want : Want) (q : Query) → Askable s want → gate s q ≡ done tt
+      → bothCalls s xs old want q ≡ done (answer (asked s want q) (tableRecords s xs))
   both-done want q a h =
       both-is want q ∙ first-passed (askedOutcome s (recordsOf s xs) want) (first (gate s q) (readHere s xs want q)) (askable-passes want a)
       ∙ first-passed (gate s q) (readHere s xs want q) h ∙ read-is want q a h
@@ -100,7 +107,8 @@ taken : (s : Shape) (xs old : List ℤ) (want : Want) (q : Query) (v : ℤ) → 
 unfolding bothCalls
 taken s xs old want q v h =
     let t = first-done (estimateOutcome s xs (length old)) (queried s _ want q) v h .0 in
-    let f = first-done (askedOutcome s (recordsOf s xs) want) (first (gate s q) (readHere s xs want q)) v (sym (both-is s xs old t want q) ∙ h) in
+    let f = first-done (askedOutcome s (recordsOf s xs) want) (first (gate s q) (readHere s xs want q)) v
+    (sym (both-is s xs old t want q) ∙ h) in
     let g = first-done (gate s q) (readHere s xs want q) v (f .1) in
     let a = asked-known s (recordsOf s xs) want (f .0) in
     record { table = t; can = a; passed = g .0; is = done-same v _ (sym (g .1) ∙ read-is s xs old t want q a (g .0)) }
@@ -128,7 +136,8 @@ module _ (s : Shape) (xs old : List ℤ) (want : Want) (q : Query) where
   pub third-distance : Distance s xs want q (bothCalls s xs old want q)
   unfolding askAt
   third-distance v h =
-      subst (λ z. WithinDistance (allowedDistance want (s .axes)) z (exactSum (asked s want q) (tableRecords s xs)) (exactDivisor (asked s want q)))
+      subst (λ z. WithinDistance (allowedDistance want (s .axes)) z (exactSum (asked s want q) (tableRecords s xs))
+      (exactDivisor (asked s want q)))
       (sym (taken s xs old want q v h .is)) (distance roundHalfUp half-up-sound (asked s want q) (is-proper v h) (tableRecords s xs))
 
   pub third-agreement : Agreement s xs want q (bothCalls s xs old want q)
@@ -136,23 +145,30 @@ module _ (s : Shape) (xs old : List ℤ) (want : Want) (q : Query) where
   third-agreement new r p v w c d h k =
       taken s xs old want q v h .is
       ∙ agreement roundHalfUp (asked s want q) (is-proper v h) (cellRead s r) (stepRead s r) (d .upto)
-      (λ a l. pos-inj (rejoined (p a) (steps * cellRead s q a) (stepRead s q a) (c .is a l) ∙ sym (rejoined (p a) (steps * cellRead s r a) (stepRead s r a) (d .is a l)))) (tableRecords s xs)
+      (λ a l. pos-inj (rejoined (p a) (steps * cellRead s q a) (stepRead s q a) (c .is a l)
+      ∙ sym (rejoined (p a) (steps * cellRead s r a) (stepRead s r a) (d .is a l)))) (tableRecords s xs)
       ∙ sym (taken s xs new want r w k .is)
 
   pub third-locality : Locality s xs old want q (bothCalls s xs old want q)
   third-locality counts ys new t u same e =
       both-is s xs old t want q
-      ∙ ap (λ (c : Check). first c (first (gate s q) (readHere s xs want q))) (asked-is s xs old t want ∙ want-same s counts want ∙ sym (asked-is r ys new u want))
+      ∙ ap (λ (c : Check). first c (first (gate s q) (readHere s xs want q)))
+      (asked-is s xs old t want ∙ want-same s counts want ∙ sym (asked-is r ys new u want))
       ∙ ap (λ (c : Check). first (askedOutcome r (recordsOf r ys) want) (first c (readHere s xs want q))) gates
-      ∙ first-after (askedOutcome r (recordsOf r ys) want) (first (gate r q) (readHere s xs want q)) (first (gate r q) (readHere r ys want q))
+      ∙ first-after (askedOutcome r (recordsOf r ys) want) (first (gate r q) (readHere s xs want q))
+      (first (gate r q) (readHere r ys want q))
       (λ f. first-after (gate r q) (readHere s xs want q) (readHere r ys want q)
       (λ g. let a = asked-known r (recordsOf r ys) want f in
-      let h : Askable s want = asked-known s (recordsOf s xs) want (asked-is s xs old t want ∙ want-same s counts want ∙ sym (asked-is r ys new u want) ∙ f) in
+      let h : Askable s want = asked-known s (recordsOf s xs) want
+      (asked-is s xs old t want ∙ want-same s counts want ∙ sym (asked-is r ys new u want) ∙ f) in
       let p = gates ∙ g in
       read-is s xs old t want q h p
-      ∙ ap done (block-local s xs (length old) (known s xs old t) (cellRead s q) (gated s (known s xs old t .shape) q p .accepted) counts ys same want (stepRead s q) (used-last s want (known s xs old t .shape .axes-low) h)
+      ∙ ap done (block-local s xs (cellRead s q)
+      (gated s (known s xs old t .shape) q p .accepted) counts ys same want (stepRead s q)
+      (used-last s want (known s xs old t .shape .axes-low) h)
       ∙ ap (λ (c : Place). answer (askAt r want c (stepRead s q)) (tableRecords r ys)) (sym e)
-      ∙ ap (λ (i : Place). answer (askAt r want (cellRead r q) i) (tableRecords r ys)) (sym (step-same s (known s xs old t .shape) counts (known r ys new u .shape) q e)))
+      ∙ ap (λ (i : Place). answer (askAt r want (cellRead r q) i) (tableRecords r ys))
+      (sym (step-same s (known s xs old t .shape) counts (known r ys new u .shape) q e)))
       ∙ sym (read-is r ys new u want q a g)))
       ∙ sym (both-is r ys new u want q)
     where
@@ -204,5 +220,6 @@ module _ (s : Shape) (xs old : List ℤ) (want : Want) (q : Query) where
   both-asked t = sym (first-passed (estimateOutcome s xs (length old)) (queried s (take (size s) (estimateWrites s xs old)) want q) t)
 
   -- what the two calls give, told as a float or as a whole number
-  pub claimed-told : (told : Outcome FloatValue) → told ≡ inFloat want (bothCalls s xs old want q) → (outcome : Outcome ℤ) → told ≡ inFloat want outcome → Claimed s xs old want q outcome
+  pub claimed-told : (told : Outcome FloatValue) → told ≡ inFloat want (bothCalls s xs old want q) → (outcome : Outcome ℤ)
+      → told ≡ inFloat want outcome → Claimed s xs old want q outcome
   claimed-told told e outcome h = rw (same-held want outcome (bothCalls s xs old want q) (sym h ∙ e)) (third-demand s xs old want q)

@@ -1,4 +1,5 @@
--- How far the rounded stages are from the exact value, for every rounding that is off by at most half: each stage adds its own half and carries the errors before it.
+-- How far the rounded stages are from the exact value, for every rounding that is off by at most half: each stage adds its own half and
+-- carries the errors before it.
 use mathlib.Core.Path.{_≡_, refl, sym, ap, _∙_}
 use mathlib.Core.List.{List, [], _∷_}
 use Prim.Native.Nat.{ℕ, zero, suc, _+_, _*_, _-_, _^_, _≤_, _<_}
@@ -40,14 +41,16 @@ module _ {R : Rule} (L : Linear R) (c p e : ℤ) (G E : ℕ → ℤ) (j : ℕ) w
   apart : ℕ → ℤ
   apart t = c *ℤ (G t *ℤ p -ℤ e *ℤ E t)
 
-  summed : (n : ℕ) (b g x : ℕ → ℤ) → sum n (λ t. b t *ℤ (c *ℤ (g t *ℤ p -ℤ e *ℤ x t))) ≡ c *ℤ (sum n (λ t. b t *ℤ g t) *ℤ p -ℤ e *ℤ sum n (λ t. b t *ℤ x t))
+  summed : (n : ℕ) (b g x : ℕ → ℤ)
+      → sum n (λ t. b t *ℤ (c *ℤ (g t *ℤ p -ℤ e *ℤ x t))) ≡ c *ℤ (sum n (λ t. b t *ℤ g t) *ℤ p -ℤ e *ℤ sum n (λ t. b t *ℤ x t))
   unfolding sum
-  summed zero b g x = ring! (c ∷ p ∷ e ∷ []) (search quotes depth 40) (search quotes depth 40) tt
+  summed zero b g x = ring! (c ∷ p ∷ e ∷ []) (record { left = search quotes depth 40; right = search quotes depth 40 }) tt
   summed (suc n) b g x =
-      ap (λ z. z +ℤ b n *ℤ (c *ℤ (g n *ℤ p -ℤ e *ℤ x n))) (summed n b g x) ∙ one (sum n (λ t. b t *ℤ g t)) (sum n (λ t. b t *ℤ x t)) (b n) (g n) (x n)
+      ap (λ z. z +ℤ b n *ℤ (c *ℤ (g n *ℤ p -ℤ e *ℤ x n))) (summed n b g x)
+      ∙ one (sum n (λ t. b t *ℤ g t)) (sum n (λ t. b t *ℤ x t)) (b n) (g n) (x n)
     where
       one : (s t b g x : ℤ) → c *ℤ (s *ℤ p -ℤ e *ℤ t) +ℤ b *ℤ (c *ℤ (g *ℤ p -ℤ e *ℤ x)) ≡ c *ℤ ((s +ℤ b *ℤ g) *ℤ p -ℤ e *ℤ (t +ℤ b *ℤ x))
-      one s t b g x = ring! (c ∷ p ∷ e ∷ s ∷ t ∷ b ∷ g ∷ x ∷ []) (search quotes depth 40 fits 4000) (search quotes depth 40 fits 4000) tt
+      one s t b g x = ring! (c ∷ p ∷ e ∷ s ∷ t ∷ b ∷ g ∷ x ∷ []) (search quotes depth 40 fits 4000) tt
 
   linear-apart : R apart j ≡ c *ℤ (R G j *ℤ p -ℤ e *ℤ R E j)
   unfolding apart
@@ -57,7 +60,8 @@ module _ {R : Rule} (L : Linear R) (c p e : ℤ) (G E : ℕ → ℤ) (j : ℕ) w
       ∙ ap (λ z. c *ℤ (R G j *ℤ p -ℤ e *ℤ z)) (sym (L .is E j))
 
 -- x is the rounding's error, y the stage of the errors before, z both
-arithmetic : (x y z H P Q A R g D : ℕ) → 2 * x ≤ H → 2 * Q * y ≤ R * (A * P) → 4 * R ≤ g * D → z ≤ x * P + y → 2 * (4 * Q) * z ≤ 4 * Q * (H * P) + g * D * (A * P)
+arithmetic : (x y z H P Q A R g D : ℕ) → 2 * x ≤ H → 2 * Q * y ≤ R * (A * P) → 4 * R ≤ g * D → z ≤ x * P + y
+    → 2 * (4 * Q) * z ≤ 4 * Q * (H * P) + g * D * (A * P)
 arithmetic x y z H P Q A R g D hx hy hR hz =
     let f = mul-le-mul-left (4 * Q * P) hx in
     let h = mul-le-mul-right (A * P) hR in
@@ -65,13 +69,15 @@ arithmetic x y z H P Q A R g D hx hy hR hz =
     omega arith
 
 -- G in eighths stands for E, which is over P, and is off by at most A / (2Q) eighths; the sum of the stage of G is divided by H
-module _ (round : Rounding) (sound : Sound round) (k m N c u H P Q A : ℕ) (smooth : Smooth k m) (m2 : 2 ≤ m) (m3 : m ≤ 3) (hu : u ≤ N) (hH : 0 < H) (G E : ℕ → ℤ)
+module _ (round : Rounding) (sound : Sound round) (k m N c u H P Q A : ℕ) (smooth : Smooth k m) (m2 : 2 ≤ m) (m3 : m ≤ 3) (hu : u ≤ N)
+    (hH : 0 < H) (G E : ℕ → ℤ)
     (near : (t : ℕ) → 2 * Q * natAbs (G t *ℤ pos P -ℤ pos 8 *ℤ E t) ≤ A * P) (j : ℕ) where
   stage-near : 2 * (4 * Q) * natAbs (round (stageSum k m N c u G j) H *ℤ pos (H * P) -ℤ pos 8 *ℤ stageSum k m N c u E j)
       ≤ 4 * Q * (H * P) + gain k * divisor k m N * (A * P)
   unfolding reach stage-linear apart
   stage-near =
-      arithmetic (natAbs (r *ℤ pos H -ℤ S)) (natAbs (S *ℤ pos P -ℤ pos 8 *ℤ X)) (natAbs (r *ℤ pos (H * P) -ℤ pos 8 *ℤ X)) H P Q A (reach k m N u) (gain k) (divisor k m N)
+      arithmetic (natAbs (r *ℤ pos H -ℤ S)) (natAbs (S *ℤ pos P -ℤ pos 8 *ℤ X)) (natAbs (r *ℤ pos (H * P) -ℤ pos 8 *ℤ X)) H P Q A
+      (reach k m N u) (gain k) (divisor k m N)
       (sound .nearly S H hH) carried (reach-gain k m N u smooth m2 m3 hu) both
     where
       S : ℤ
@@ -87,7 +93,7 @@ module _ (round : Rounding) (sound : Sound round) (k m N c u H P Q A : ℕ) (smo
       L = stage-linear k m N c u
 
       split : (r H P S X : ℤ) → r *ℤ (H *ℤ P) -ℤ pos 8 *ℤ X ≡ (r *ℤ H -ℤ S) *ℤ P +ℤ (S *ℤ P -ℤ pos 8 *ℤ X)
-      split r H P S X = ring! (r ∷ H ∷ P ∷ S ∷ X ∷ []) (search quotes depth 40) (search quotes depth 40) tt
+      split r H P S X = ring! (r ∷ H ∷ P ∷ S ∷ X ∷ []) (search quotes depth 40) tt
 
       both : natAbs (r *ℤ pos (H * P) -ℤ pos 8 *ℤ X) ≤ natAbs (r *ℤ pos H -ℤ S) * P + natAbs (S *ℤ pos P -ℤ pos 8 *ℤ X)
       both =
@@ -98,8 +104,12 @@ module _ (round : Rounding) (sound : Sound round) (k m N c u H P Q A : ℕ) (smo
 
       carried : 2 * Q * natAbs (S *ℤ pos P -ℤ pos 8 *ℤ X) ≤ reach k m N u * (A * P)
       carried =
-          le-trans (le-of-eq (sym (ap natAbs (linear-apart L (pos (2 * Q)) (pos P) (pos 8) G E j) ∙ abs-mul (pos (2 * Q)) (S *ℤ pos P -ℤ pos 8 *ℤ X))))
-          (linear-size L (apart L (pos (2 * Q)) (pos P) (pos 8) G E j) j (A * P) (λ t l. le-trans (le-of-eq (abs-mul (pos (2 * Q)) (G (L .place j t) *ℤ pos P -ℤ pos 8 *ℤ E (L .place j t)))) (near (L .place j t))))
+          le-trans
+          (le-of-eq (sym (ap natAbs (linear-apart L (pos (2 * Q)) (pos P) (pos 8) G E j)
+          ∙ abs-mul (pos (2 * Q)) (S *ℤ pos P -ℤ pos 8 *ℤ X))))
+          (linear-size L (apart L (pos (2 * Q)) (pos P) (pos 8) G E j) j (A * P)
+          (λ t l. le-trans (le-of-eq (abs-mul (pos (2 * Q)) (G (L .place j t) *ℤ pos P -ℤ pos 8 *ℤ E (L .place j t))))
+          (near (L .place j t))))
 
 -- ---- all stages
 
@@ -122,21 +132,25 @@ module _ (round : Rounding) (sound : Sound round) (q : Ask) (ok : Proper q) (g :
   abbrev scale : List ℕ → ℕ
   scale ls = times ls (divisorOn q)
 
-  stages-near : (ls : List ℕ) → Each Plain ls → (p : Place) → 2 * 4 ^ length ls * natAbs (got ls p *ℤ pos (scale ls) -ℤ pos 8 *ℤ exact ls p) ≤ error (length ls) * scale ls
+  stages-near : (ls : List ℕ) → Each Plain ls → (p : Place)
+      → 2 * 4 ^ length ls * natAbs (got ls p *ℤ pos (scale ls) -ℤ pos 8 *ℤ exact ls p) ≤ error (length ls) * scale ls
   unfolding sweep times inEighths error toEighth stageOn divisorOn gain
   stages-near [] h p = le-trans (le-of-eq (ap (λ (z : ℤ). 2 * 1 * natAbs z) (start (g p)))) (omega arith)
     where
       start : (z : ℤ) → pos 8 *ℤ z *ℤ pos 1 -ℤ pos 8 *ℤ z ≡ pos 0
-      start z = ring! (z ∷ []) (search quotes depth 40) (search quotes depth 40) tt
+      start z = ring! (z ∷ []) (record { left = search quotes depth 40; right = search quotes depth 40 }) tt
   stages-near (a ∷ ls) h p =
-      next (4 ^ length ls) (4 ^ suc (length ls)) (divisor k (q .m) (q .N a)) (scale ls) (error (length ls)) (gain k) (natAbs (got (a ∷ ls) p *ℤ pos (scale (a ∷ ls)) -ℤ pos 8 *ℤ exact (a ∷ ls) p)) (pow-suc 4 (length ls)) (ap gain (h .0 .0))
-      (stage-near round sound k (q .m) (q .N a) (q .cell a) (q .step a) (divisor k (q .m) (q .N a)) (scale ls) (4 ^ length ls) (error (length ls)) (order-smooth (q .want) a (q .m)) (ok .m-low) (ok .m-high) (h .0 .1) (divisor-some k (q .m) (q .N a) (ok .some a))
+      next (4 ^ length ls) (4 ^ suc (length ls)) (divisor k (q .m) (q .N a)) (scale ls) (error (length ls)) (gain k)
+      (natAbs (got (a ∷ ls) p *ℤ pos (scale (a ∷ ls)) -ℤ pos 8 *ℤ exact (a ∷ ls) p)) (pow-suc 4 (length ls)) (ap gain (h .0 .0))
+      (stage-near round sound k (q .m) (q .N a) (q .cell a) (q .step a) (divisor k (q .m) (q .N a)) (scale ls) (4 ^ length ls)
+      (error (length ls)) (order-smooth (q .want) a (q .m)) (ok .m-low) (ok .m-high) (h .0 .1) (divisor-some k (q .m) (q .N a) (ok .some a))
       (λ t. got ls (put a t p)) (λ t. exact ls (put a t p)) (λ t. stages-near ls (h .1) (put a t p)) (p a))
     where
       k : ℕ
       k = orderOn (q .want) a
 
-      next : (Q R H P A w z : ℕ) → R ≡ Q * 4 → w ≡ 5 → 2 * (4 * Q) * z ≤ 4 * Q * (H * P) + w * H * (A * P) → 2 * R * z ≤ (R + 5 * A) * (H * P)
+      next : (Q R H P A w z : ℕ) → R ≡ Q * 4 → w ≡ 5 → 2 * (4 * Q) * z ≤ 4 * Q * (H * P) + w * H * (A * P)
+          → 2 * R * z ≤ (R + 5 * A) * (H * P)
       next Q R H P A w z e f h = rw e (let i = rw f at h in omega arith)
 
   -- ---- the last stage
@@ -148,9 +162,13 @@ module _ (round : Rounding) (sound : Sound round) (q : Ask) (ok : Proper q) (g :
       ≤ (32 * 4 ^ length (before q) + gain (orderOn (q .want) (lastAxis (q .n) (q .want))) * error (length (before q))) * exactDivisor q
   unfolding answerBy toUnit stageOn divisorOn before exactDivisor times
   answer-near =
-      finish (4 ^ length (before q)) D P (error (length (before q))) (gain k) (exactDivisor q) v X (exactSum q g) (times-order (last-first (q .n) l (ok .last)) (divisorOn q)) (exact-last q l (ok .last) g)
-      (stage-near round sound k (q .m) (q .N l) (q .cell l) (q .step l) (8 * D) P (4 ^ length (before q)) (error (length (before q))) (order-smooth (q .want) l (q .m)) (ok .m-low) (ok .m-high) (ok .inside l (ok .last)) (more D (divisor-some k (q .m) (q .N l) (ok .some l)))
-      (λ t. got (before q) (put l t origin)) (λ t. exact (before q) (put l t origin)) (λ t. stages-near (before q) plain (put l t origin)) 0)
+      finish (4 ^ length (before q)) D P (error (length (before q))) (gain k) (exactDivisor q) v X (exactSum q g)
+      (times-order (last-first (q .n) l (ok .last)) (divisorOn q)) (exact-last q l (ok .last) g)
+      (stage-near round sound k (q .m) (q .N l) (q .cell l) (q .step l) (8 * D) P (4 ^ length (before q)) (error (length (before q)))
+      (order-smooth (q .want) l (q .m)) (ok .m-low) (ok .m-high) (ok .inside l (ok .last))
+      (more D (divisor-some k (q .m) (q .N l) (ok .some l)))
+      (λ t. got (before q) (put l t origin)) (λ t. exact (before q) (put l t origin))
+      (λ t. stages-near (before q) plain (put l t origin)) 0)
     where
       l : ℕ
       l = lastAxis (q .n) (q .want)
@@ -174,11 +192,14 @@ module _ (round : Rounding) (sound : Sound round) (q : Ask) (ok : Proper q) (g :
       more D h = omega arith
 
       eight : (v D P X : ℤ) → v *ℤ (pos 8 *ℤ D *ℤ P) -ℤ pos 8 *ℤ X ≡ pos 8 *ℤ (v *ℤ (D *ℤ P) -ℤ X)
-      eight v D P X = ring! (v ∷ D ∷ P ∷ X ∷ []) (search quotes depth 40) (search quotes depth 40) tt
+      eight v D P X = ring! (v ∷ D ∷ P ∷ X ∷ []) (search quotes depth 40) tt
 
-      finish : (Q D P A w C : ℕ) (v X Y : ℤ) → C ≡ D * P → Y ≡ X → 2 * (4 * Q) * natAbs (v *ℤ pos (8 * D * P) -ℤ pos 8 *ℤ X) ≤ 4 * Q * (8 * D * P) + w * D * (A * P)
+      finish : (Q D P A w C : ℕ) (v X Y : ℤ) → C ≡ D * P → Y ≡ X
+          → 2 * (4 * Q) * natAbs (v *ℤ pos (8 * D * P) -ℤ pos 8 *ℤ X) ≤ 4 * Q * (8 * D * P) + w * D * (A * P)
           → 64 * Q * natAbs (v *ℤ pos C -ℤ Y) ≤ (32 * Q + w * A) * C
-      finish Q D P A w C v X Y e f h = rw (e, f) (let i = ap natAbs (eight v (pos D) (pos P) X) ∙ abs-mul (pos 8) (v *ℤ pos (D * P) -ℤ X) in let j = rw i at h in omega arith)
+      finish Q D P A w C v X Y e f h =
+          rw (e, f) (let i = ap natAbs (eight v (pos D) (pos P) X) ∙ abs-mul (pos 8) (v *ℤ pos (D * P) -ℤ X) in let j = rw i at h in
+          omega arith)
 
 -- ---- the distances
 
@@ -193,14 +214,16 @@ last-gain n dose = refl
 last-gain n (slopeAlong l) = ap gain (order-slope l n)
 
 abbrev Sums : Want → ℕ → Type 0
-Sums w n = (v x : ℤ) (C : ℕ) → 64 * 4 ^ (n - 1) * natAbs (v *ℤ pos C -ℤ x) ≤ (32 * 4 ^ (n - 1) + lastGain w * error (n - 1)) * C → WithinDistance (allowedDistance w n) v x C
+Sums w n = (v x : ℤ) (C : ℕ) → 64 * 4 ^ (n - 1) * natAbs (v *ℤ pos C -ℤ x) ≤ (32 * 4 ^ (n - 1) + lastGain w * error (n - 1)) * C
+    → WithinDistance (allowedDistance w n) v x C
 
 distances : (w : Want) (n : ℕ) → 1 ≤ n → n ≤ 3 → Sums w n
 unfolding allowedDistance lastGain error
 distances dose = by-n (Sums dose) (λ v x C h. omega arith) (λ v x C h. omega arith) (λ v x C h. omega arith)
 distances (slopeAlong l) = by-n (Sums (slopeAlong l)) (λ v x C h. omega arith) (λ v x C h. omega arith) (λ v x C h. omega arith)
 
-pub distance : (round : Rounding) → Sound round → (q : Ask) → Proper q → (g : Field) → WithinDistance (allowedDistance (q .want) (q .n)) (answerBy round q g) (exactSum q g) (exactDivisor q)
+pub distance : (round : Rounding) → Sound round → (q : Ask) → Proper q → (g : Field)
+    → WithinDistance (allowedDistance (q .want) (q .n)) (answerBy round q g) (exactSum q g) (exactDivisor q)
 unfolding before
 distance round sound q ok g =
     distances (q .want) (q .n) (let h = ok .last in omega arith) (ok .n-high) (answerBy round q g) (exactSum q g) (exactDivisor q)

@@ -25,7 +25,17 @@ use Rattle.claims.specs.Pinned.{answerFrom, notZero, sparse, among, numb
 
 -- all definitions that the rows compute with, opened together
 opened : Unit {0}
-unfolding answerFrom notZero sparse among numbered limits leftOver distances only flat fileWith allowedDistance readCheck twoOutcome nothingAfter oneOutcome countOutcome nodesIn countIn complete fileOf sectionTwo sectionOne bytesOfAll bytesOf numberAt unsignedOf placeAt byCell testedOutcome stepsOutcome recordsFrom coefficientsOf coefficientsFrom backInto firstStage exactly answerTo bothCalls queried cellRead stepRead byPosition positionStep positionCell cellOf positionOutcome positionAt reading askAt askedOutcome wantOutcome answerBy before inEighths toUnit toEighth stageOn exactDivisor divisorOn exactSum sumOver weightOn lastAxis orderOn estimateWrites estimateOutcome recordsOf tableRecords records estimate byOrder right left coefficientsOutcome requestOutcome numbersOutcome coefficientList backOutcome possibleOutcome entryAllowed entryList doubledEntry coefficientsField cornerNumbers coefficients cellOutcome cornersOutcome entryOutcome cornerEntries cornerPlace stageSum divisor weightAt weight forward backward solved share mirrored multiplier limitOutcome entryLimit totalOrder entryPlace recordsField entryIndex entryNumber samplesField nodeNumber without axes sweep put shapeOutcome countsOutcome countAllowed degreeOutcome axesOutcome size entries nodes ordersOf count digit span number tabulate firstOf pick times product total sum roundHalfUp
+unfolding answerFrom notZero sparse among numbered limits leftOver distances only flat fileWith allowedDistance readCheck twoOutcome
+    nothingAfter oneOutcome countOutcome nodesIn countIn complete fileOf sectionTwo sectionOne bytesOfAll bytesOf numberAt unsignedOf
+    placeAt byCell testedOutcome stepsOutcome recordsFrom coefficientsOf coefficientsFrom backInto firstStage exactly answerTo bothCalls
+    queried cellRead stepRead byPosition positionStep positionCell cellOf positionOutcome positionAt reading askAt askedOutcome wantOutcome
+    answerBy before inEighths toUnit toEighth stageOn exactDivisor divisorOn exactSum sumOver weightOn lastAxis orderOn estimateWrites
+    estimateOutcome recordsOf tableRecords records estimate byOrder right left coefficientsOutcome requestOutcome numbersOutcome
+    coefficientList backOutcome possibleOutcome entryAllowed entryList doubledEntry coefficientsField cornerNumbers coefficients
+    cellOutcome cornersOutcome entryOutcome cornerEntries cornerPlace stageSum divisor weightAt weight forward backward solved share
+    mirrored multiplier limitOutcome entryLimit totalOrder entryPlace recordsField entryIndex entryNumber samplesField nodeNumber without
+    axes sweep put shapeOutcome countsOutcome countAllowed degreeOutcome axesOutcome size entries nodes ordersOf count digit span number
+    tabulate firstOf pick times product total sum roundHalfUp
 opened = tt
 
 pub examples : AllRows table

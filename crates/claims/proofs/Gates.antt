@@ -1,4 +1,5 @@
--- The tests of 14, 10 and 11 of the three kinds of query: what they say of the query's point and of the cell that it reads, and where they are passed.
+-- The tests of 14, 10 and 11 of the three kinds of query: what they say of the query's point and of the cell that it reads, and where they
+-- are passed.
 use mathlib.Core.Path.{_≡_, refl, sym, ap, _∙_}
 use mathlib.Core.Bool.{Bool, true, _&&_}
 use mathlib.Core.List.{List}
@@ -38,15 +39,19 @@ gate s (atPosition p) = firstOf 3 (positionOutcome s (positionAt p))
 gate s (inCell cell u) = first (cellOutcome s (placeAt cell)) (stepsOutcome s (placeAt u))
 gate s (atFloats x) = firstOf 3 (floatOutcome s x)
 
-pub by-gate : (s : Shape) (rs : List ℤ) (want : Want) (q : Query) → queried s rs want q ≡ first (askedOutcome s rs want) (first (gate s q) (reading s rs want (cellRead s q) (stepRead s q)))
+pub by-gate : (s : Shape) (rs : List ℤ) (want : Want) (q : Query)
+    → queried s rs want q ≡ first (askedOutcome s rs want) (first (gate s q) (reading s rs want (cellRead s q) (stepRead s q)))
 unfolding queried gate cellRead stepRead byCell testedOutcome byPosition byFloat
 by-gate s rs want (atPosition p) = refl
-by-gate s rs want (inCell cell u) = first-assoc (askedOutcome s rs want) (first (cellOutcome s (placeAt cell)) (stepsOutcome s (placeAt u))) (reading s rs want (placeAt cell) (placeAt u))
+by-gate s rs want (inCell cell u) =
+    first-assoc (askedOutcome s rs want) (first (cellOutcome s (placeAt cell)) (stepsOutcome s (placeAt u)))
+    (reading s rs want (placeAt cell) (placeAt u))
 by-gate s rs want (atFloats x) = refl
 
 -- ---- a cell and u
 
-cell-reads : (s : Shape) (cell u : Place) → Accepted s cell → OnUsed (s .axes) (λ a i. i ≤ steps) u → Point s (λ a. pos (steps * cell a + u a)) × Contains s cell u (λ a. pos (steps * cell a + u a))
+cell-reads : (s : Shape) (cell u : Place) → Accepted s cell → OnUsed (s .axes) (λ a i. i ≤ steps) u
+    → Point s (λ a. pos (steps * cell a + u a)) × Contains s cell u (λ a. pos (steps * cell a + u a))
 cell-reads s cell u h k = (
   record {
     low = λ a l. nn-pos (steps * cell a + u a);
@@ -119,19 +124,24 @@ module _ (s : Shape) (ok : Shaped s) (p : Position) where
       upto = λ a l. inside a l .2;
     }
       where
-        inside : (a : ℕ) → a < s .axes → (positionCell s p a + 2 ≤ count s a) × (steps * positionCell s p a ≤ natAbs (p a)) × (positionStep s p a ≤ steps)
+        inside : (a : ℕ) → a < s .axes → (positionCell s p a + 2 ≤ count s a) × (steps * positionCell s p a ≤ natAbs (p a))
+            × (positionStep s p a ≤ steps)
         inside a l = in-cell (count s a) (natAbs (p a)) (ok .used a l) (whole (p a) (last a) (h .low a l) (h .high a l) .1)
 
-        is : (a : ℕ) → p a ≡ pos (natAbs (p a)) → steps * positionCell s p a ≤ natAbs (p a) → p a -ℤ pos (steps * positionCell s p a) ≡ pos (positionStep s p a)
+        is : (a : ℕ) → p a ≡ pos (natAbs (p a)) → steps * positionCell s p a ≤ natAbs (p a)
+            → p a -ℤ pos (steps * positionCell s p a) ≡ pos (positionStep s p a)
         is a e k =
             let f : natAbs (p a) ≡ steps * positionCell s p a + positionStep s p a = omega arith in
             ap (λ (z : ℤ). z -ℤ pos (steps * positionCell s p a)) (e ∙ ap pos f) ∙ less (steps * positionCell s p a) (positionStep s p a)
 
 -- ---- floats
 
-floats-pass : (s : Shape) (x : ℕ → Float) → ((a : ℕ) → a < 3 → finite (x a) ≡ true) → firstOf 3 (positionOutcome s (stepsOf x)) ≡ done tt → firstOf 3 (floatOutcome s x) ≡ done tt
+floats-pass : (s : Shape) (x : ℕ → Float) → ((a : ℕ) → a < 3 → finite (x a) ≡ true) → firstOf 3 (positionOutcome s (stepsOf x)) ≡ done tt
+    → firstOf 3 (floatOutcome s x) ≡ done tt
 unfolding floatOutcome
-floats-pass s x f h = firstOf-passes 3 (floatOutcome s x) (λ a l. first-passed (refuseUnless (finite (x a)) 10 a) (positionOutcome s (stepsOf x) a) (passes (finite (x a)) 10 a (f a l)) ∙ firstOf-each 3 (positionOutcome s (stepsOf x)) h a l)
+floats-pass s x f h = firstOf-passes 3 (floatOutcome s x)
+    (λ a l. first-passed (refuseUnless (finite (x a)) 10 a) (positionOutcome s (stepsOf x) a) (passes (finite (x a)) 10 a (f a l))
+    ∙ firstOf-each 3 (positionOutcome s (stepsOf x)) h a l)
 
 float-positions : (s : Shape) (x : ℕ → Float) → firstOf 3 (floatOutcome s x) ≡ done tt → firstOf 3 (positionOutcome s (stepsOf x)) ≡ done tt
 unfolding floatOutcome
@@ -154,14 +164,17 @@ module _ (s : Shape) (ok : Shaped s) where
       let r = cell-reads s (placeAt cell) (placeAt u) k (steps-known s u (ok .axes-high) (f .1)) in
       record { point = r .0; accepted = k; contains = r .1 }
   gated (atFloats x) h =
-      let k = point-known s ok (stepsOf x) (λ a l. pick-false (ltb a 3) (step steps (x a)) (pos 0) (le-ltb a 3 l)) (float-positions s x h) in
+      let k = point-known s ok (stepsOf x) (λ a l. pick-false (ltb a 3) (step steps (x a)) (pos 0) (le-ltb a 3 l))
+      (float-positions s x h) in
       record { point = k; accepted = position-cell s ok (stepsOf x) k; contains = position-contains s ok (stepsOf x) k }
 
   -- every step of the table, and every accepted cell with every u, passes
   pub gate-passes : (q : Query) → Inside s q → gate s q ≡ done tt
   unfolding gate Inside
   gate-passes (atPosition xs) h = point-passes s ok (positionAt xs) h
-  gate-passes (inCell cell u) h = first-passed (cellOutcome s (placeAt cell)) (stepsOutcome s (placeAt u)) (cell-passes s (placeAt cell) (h .0 .used) (λ a l. h .0 .unused a)) ∙ steps-pass s (placeAt u) (h .1)
+  gate-passes (inCell cell u) h =
+      first-passed (cellOutcome s (placeAt cell)) (stepsOutcome s (placeAt u))
+      (cell-passes s (placeAt cell) (h .0 .used) (λ a l. h .0 .unused a)) ∙ steps-pass s (placeAt u) (h .1)
   gate-passes (atFloats x) h = floats-pass s x (h .0) (point-passes s ok (stepsOf x) (h .1))
 
 -- ---- a query that reads the same cell in a table of another size
@@ -187,7 +200,8 @@ module _ (s : Shape) (ok : Shaped s) (counts : List ℕ) (sized : Shaped (recoun
 
       go : Dec (a < s .axes) → leb P (steps * (count s a - 1)) ≡ leb P (steps * (count t a - 1))
       go (yes k) =
-          leb-same P (steps * (count s a - 1)) P (steps * (count t a - 1)) (fits (count s a) (count t a) P (ok .used a k) (sized .used a k) here)
+          leb-same P (steps * (count s a - 1)) P (steps * (count t a - 1))
+          (fits (count s a) (count t a) P (ok .used a k) (sized .used a k) here)
           (fits (count t a) (count s a) P (sized .used a k) (ok .used a k) (sym here))
       go (no k) = let n : s .axes ≤ a = omega (arith, k) in rw (ok .unused a l n, sized .unused a l n) refl
 
@@ -199,18 +213,24 @@ module _ (s : Shape) (ok : Shaped s) (counts : List ℕ) (sized : Shaped (recoun
       upper : (n d c : ℕ) → (NearCell n c (c + 1) → c + 1 < d) → c + 2 ≤ n → c + 2 ≤ d
       upper n d c f h = let k = f (record { low = omega arith; high = omega arith; there = omega arith }) in omega arith
 
-      go : (a : ℕ) → Dec (a < s .axes) → pick (ltb a (s .axes)) (leb (cell a + 2) (count s a)) (eqb (cell a) 0) ≡ pick (ltb a (s .axes)) (leb (cell a + 2) (count t a)) (eqb (cell a) 0)
+      go : (a : ℕ) → Dec (a < s .axes)
+          → pick (ltb a (s .axes)) (leb (cell a + 2) (count s a)) (eqb (cell a) 0) ≡ pick (ltb a (s .axes)) (leb (cell a + 2) (count t a))
+          (eqb (cell a) 0)
       go a (yes k) =
           ap (λ (b : Bool). pick (ltb a (s .axes)) b (eqb (cell a) 0))
-          (leb-same (cell a + 2) (count s a) (cell a + 2) (count t a) (upper (count s a) (count t a) (cell a) (same .there a k (cell a + 1))) (upper (count t a) (count s a) (cell a) (same .back a k (cell a + 1))))
+          (leb-same (cell a + 2) (count s a) (cell a + 2) (count t a)
+          (upper (count s a) (count t a) (cell a) (same .there a k (cell a + 1)))
+          (upper (count t a) (count s a) (cell a) (same .back a k (cell a + 1))))
       go a (no k) = let e = le-ltb a (s .axes) (omega (arith, k)) in pick-false _ _ _ e ∙ sym (pick-false _ _ _ e)
 
   pub gate-same : (q : Query) (xs ys : List ℤ) → AgreeOnBlock s t (cellRead s q) xs ys → cellRead t q ≡ cellRead s q → gate s q ≡ gate t q
   unfolding gate cellRead floatOutcome stepsOutcome
-  gate-same (atPosition p) xs ys same e = firstOf-same 3 (positionOutcome s (positionAt p)) (positionOutcome t (positionAt p)) (positions-same (positionAt p) e)
+  gate-same (atPosition p) xs ys same e =
+      firstOf-same 3 (positionOutcome s (positionAt p)) (positionOutcome t (positionAt p)) (positions-same (positionAt p) e)
   gate-same (inCell cell u) xs ys same e = ap (λ (o : Check). first o (stepsOutcome s (placeAt u))) (cells-same (placeAt cell) xs ys same)
   gate-same (atFloats x) xs ys same e =
-      firstOf-same 3 (floatOutcome s x) (floatOutcome t x) (λ a l. ap (first (refuseUnless (finite (x a)) 10 a)) (positions-same (stepsOf x) e a l))
+      firstOf-same 3 (floatOutcome s x) (floatOutcome t x)
+      (λ a l. ap (first (refuseUnless (finite (x a)) 10 a)) (positions-same (stepsOf x) e a l))
 
   pub step-same : (q : Query) → cellRead t q ≡ cellRead s q → stepRead t q ≡ stepRead s q
   unfolding cellRead stepRead positionStep

@@ -14,13 +14,13 @@ pub less : (c u : ℕ) → pos (c + u) -ℤ pos c ≡ pos u
 less c u = go (pos c) (pos u)
   where
     go : (c u : ℤ) → c +ℤ u -ℤ c ≡ u
-    go c u = ring! (c ∷ u ∷ []) (search quotes depth 40) (search quotes depth 40) tt
+    go c u = ring! (c ∷ u ∷ []) (search quotes depth 40) tt
 
 pub rejoined : (z : ℤ) (c u : ℕ) → z -ℤ pos c ≡ pos u → pos (c + u) ≡ z
 rejoined z c u e = ap (λ x. pos c +ℤ x) (sym e) ∙ go (pos c) z
   where
     go : (c z : ℤ) → c +ℤ (z -ℤ c) ≡ z
-    go c z = ring! (c ∷ z ∷ []) (search quotes depth 40) (search quotes depth 40) tt
+    go c z = ring! (c ∷ z ∷ []) (search quotes depth 40) tt
 
 pub le-pos : {a b : ℕ} → a ≤ b → pos a ≤ℤ pos b
 le-pos {a} {b} h = leZ-yes (le→leb a b h)

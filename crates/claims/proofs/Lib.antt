@@ -2,7 +2,7 @@ pub mod General
 pub mod Exact
 pub mod Distance
 pub mod Agree
-pub mod Lent
+pub mod Block
 pub mod Gates
 pub mod Demand
 pub mod Corners

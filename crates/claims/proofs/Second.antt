@@ -1,4 +1,5 @@
--- The second demand: from records within their limits, so from those that estimation wrote; and back, from what is known of permitted corner records.
+-- The second demand: from records within their limits, so from those that estimation wrote; and back, from what is known of permitted
+-- corner records.
 use mathlib.Core.Path.{_≡_, refl, sym, ap, subst, _∙_}
 use mathlib.Core.List.{List}
 use mathlib.Core.Logic.{_↔_}
@@ -29,7 +30,7 @@ use Rattle.estimate.specs.Estimate.{Estimable, tableRecords, recordsOf}
 use Rattle.estimate.proofs.CallLaws.{estimated, records-length}
 use Rattle.claims.specs.Third.{AcceptedTable}
 use Rattle.claims.specs.Second.{Converts, Asked, FromEstimates, Measured, FromRecords, BackAsked, CornersOf, ConvertsBack, Back, SecondDemand}
-use Rattle.claims.proofs.Lent.{lent, field-same, field-within}
+use Rattle.estimated.proofs.Estimated.{lent, field-same, field-within}
 
 -- ---- forward
 
@@ -46,7 +47,8 @@ from-records s rs cell out m a = record { taken = taken; written = written; with
         ∙ cell-passes s (placeAt cell) (a .here .used) (λ i l k. a .here .unused i k))
         ∙ corners-pass s rs (placeAt cell) (m .within) (shaped s (m .shape)) (a .here)
 
-    written : coefficientsWrites s rs (placeAt cell) out ≡ overwrite (coefficientList (orders s) (s .axes) (placeAt cell) (recordsField s rs)) out
+    written : coefficientsWrites s rs (placeAt cell) out ≡ overwrite
+        (coefficientList (orders s) (s .axes) (placeAt cell) (recordsField s rs)) out
     written = sym (when-done (overwrite (coefficientList (orders s) (s .axes) (placeAt cell) (recordsField s rs)) out) out taken)
 
 module _ (s : Shape) (xs old : List ℤ) (cell : List ℕ) (out : List ℤ) (taken : AcceptedTable s xs old) (a : Asked s cell out) where
@@ -54,13 +56,15 @@ module _ (s : Shape) (xs old : List ℤ) (cell : List ℕ) (out : List ℤ) (tak
   known = estimated s xs (length old) taken
 
   -- at the corners the records that estimation wrote are those of the rules
-  corner-same : (i : ℕ) → i < coefficientCount (orders s) (s .axes) → recordsField s (recordsOf s xs) (cornerPlace s (placeAt cell) i) ≡ tableRecords s xs (cornerPlace s (placeAt cell) i)
+  corner-same : (i : ℕ) → i < coefficientCount (orders s) (s .axes)
+      → recordsField s (recordsOf s xs) (cornerPlace s (placeAt cell) i) ≡ tableRecords s xs (cornerPlace s (placeAt cell) i)
   unfolding entries
   corner-same i l =
       field-same s xs (length old) known (placeAt cell) (a .here) (cornerPlace s (placeAt cell) i)
       (corner-inside s (known .shape) (placeAt cell) (a .here) i (subst (λ (k : ℕ). i < k) (count-split (orders s) (s .axes)) l))
 
-  list-is : coefficientList (orders s) (s .axes) (placeAt cell) (recordsField s (recordsOf s xs)) ≡ coefficientList (orders s) (s .axes) (placeAt cell) (tableRecords s xs)
+  list-is : coefficientList (orders s) (s .axes) (placeAt cell) (recordsField s (recordsOf s xs)) ≡ coefficientList (orders s) (s .axes)
+      (placeAt cell) (tableRecords s xs)
   unfolding coefficientList
   list-is =
       tabulate-same (coefficientCount (orders s) (s .axes)) _ _
@@ -69,14 +73,20 @@ module _ (s : Shape) (xs old : List ℤ) (cell : List ℕ) (out : List ℤ) (tak
       let d = digits-in (s .axes) (2 * orders s) K (omega arith) l in
       let p = digit (λ b. 2 * orders s) K in
       let g = tableRecords s xs in
-      cell-same s (known .shape) (placeAt cell) (a .here) (recordsField s (recordsOf s xs)) (λ i. g (cornerPlace s (placeAt cell) i)) corner-same p d
+      cell-same s (known .shape) (placeAt cell) (a .here) (recordsField s (recordsOf s xs))
+      (λ i. g (cornerPlace s (placeAt cell) i)) corner-same p d
       ∙ sym (cell-same s (known .shape) (placeAt cell) (a .here) g (λ i. g (cornerPlace s (placeAt cell) i)) (λ i q. refl) p d))
 
   estimates : Converts s (recordsOf s xs) (tableRecords s xs) cell out
   estimates =
       let c =
       from-records s (recordsOf s xs) cell out
-      (record { shape = known .passed; many = records-length s xs; within = field-within s xs (length old) known (placeAt cell) (a .here) }) a in
+      (record {
+        shape = known .passed;
+        many = records-length s xs;
+        within =
+            field-within s xs (length old) known (placeAt cell) (a .here);
+      }) a in
       record {
         taken = c .taken;
         written = c .written ∙ ap (λ (l : List ℤ). overwrite l out) list-is;
@@ -84,7 +94,8 @@ module _ (s : Shape) (xs old : List ℤ) (cell : List ℕ) (out : List ℤ) (tak
       }
 
 from-estimates : FromEstimates
-from-estimates s xs old cell out taken a = subst (λ (rs : List ℤ). Converts s rs (tableRecords s xs) cell out) (sym (lent s xs old taken)) (estimates s xs old cell out taken a)
+from-estimates s xs old cell out taken a =
+    subst (λ (rs : List ℤ). Converts s rs (tableRecords s xs) cell out) (sym (lent s xs old taken)) (estimates s xs old cell out taken a)
 
 -- ---- back
 

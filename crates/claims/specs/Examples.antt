@@ -47,7 +47,8 @@ backFrom = backInto 216
 -- along x, in eighths
 unfoldable pub firstStage : Table → List ℤ → Outcome (List ℤ)
 firstStage t p =
-    done (along 0 (toEighth roundHalfUp (asked (t .shape) dose (atPosition p)) 0) (inEighths (tableRecords (t .shape) (t .samples))) origin ∷ [])
+    done (along 0 (toEighth roundHalfUp (asked (t .shape) dose (atPosition p)) 0)
+    (inEighths (tableRecords (t .shape) (t .samples))) origin ∷ [])
 
 -- the exact value in ten-thousandths, and what is left
 unfoldable pub exactly : Table → Want → List ℤ → Outcome (List ℤ)

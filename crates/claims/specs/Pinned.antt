@@ -63,7 +63,8 @@ leftOver t want p v =
 -- the distances allowed on one, two and three axes
 unfoldable pub distances : Want → List ℤ
 distances want =
-    pos (allowedDistance want 1 .top) ∷ pos (allowedDistance want 1 .bottom) ∷ pos (allowedDistance want 2 .top) ∷ pos (allowedDistance want 2 .bottom)
+    pos (allowedDistance want 1 .top) ∷ pos (allowedDistance want 1 .bottom) ∷ pos (allowedDistance want 2 .top) ∷ pos
+    (allowedDistance want 2 .bottom)
     ∷ pos (allowedDistance want 3 .top) ∷ pos (allowedDistance want 3 .bottom) ∷ []
 
 -- ---- tables

@@ -1,4 +1,5 @@
--- The second demand: coefficients exactly as in the paper, from estimates or from measured slopes; back gives the corner records that have given
+-- The second demand: coefficients exactly as in the paper, from estimates or from measured slopes; back gives the corner records that have
+-- given
 -- coefficients, and refuses 13 if and only if no permitted ones have them.
 use mathlib.Core.Path.{_≡_}
 use mathlib.Core.List.{List}
@@ -19,11 +20,13 @@ use Rattle.claims.specs.Third.{AcceptedTable}
 
 -- ---- forward
 
--- the coefficients call, lent the records rs: it is not refused, and `out` then holds the coefficients of the numbers g, each within 2^30, and its old tail
+-- the coefficients call, lent the records rs: it is not refused, and `out` then holds the coefficients of the numbers g, each within 2^30,
+-- and its old tail
 pub record Converts (s : Shape) (rs : List ℤ) (g : Field) (cell : List ℕ) (out : List ℤ) : Type 0 where
   pub taken : coefficientsOutcome s rs (placeAt cell) (length out) ≡ done tt
   pub written : coefficientsWrites s rs (placeAt cell) out ≡ overwrite (coefficientList (orders s) (s .axes) (placeAt cell) g) out
-  pub within : (K : ℕ) → K < coefficientCount (orders s) (s .axes) → natAbs (at (coefficientList (orders s) (s .axes) (placeAt cell) g) K) ≤ 2 ^ 30
+  pub within : (K : ℕ) → K < coefficientCount (orders s) (s .axes)
+      → natAbs (at (coefficientList (orders s) (s .axes) (placeAt cell) g) K) ≤ 2 ^ 30
 
 -- an accepted cell, and a slice long enough
 pub record Asked (s : Shape) (cell : List ℕ) (out : List ℤ) : Type 0 where
@@ -40,11 +43,13 @@ FromEstimates =
 pub record Measured (s : Shape) (rs : List ℤ) (cell : List ℕ) : Type 0 where
   pub shape : shapeOutcome s ≡ done tt
   pub many : length rs ≡ size s
-  pub within : (p : Place) → InCorners (orders s) (s .axes) (placeAt cell) p → natAbs (recordsField s rs p) ≤ entryLimit (orders s) (s .axes) p
+  pub within : (p : Place) → InCorners (orders s) (s .axes) (placeAt cell) p
+      → natAbs (recordsField s rs p) ≤ entryLimit (orders s) (s .axes) p
 
 -- from measured slopes
 abbrev pub FromRecords : Type 0
-FromRecords = (s : Shape) (rs : List ℤ) (cell : List ℕ) (out : List ℤ) → Measured s rs cell → Asked s cell out → Converts s rs (recordsField s rs) cell out
+FromRecords = (s : Shape) (rs : List ℤ) (cell : List ℕ) (out : List ℤ) → Measured s rs cell → Asked s cell out
+    → Converts s rs (recordsField s rs) cell out
 
 -- ---- back
 

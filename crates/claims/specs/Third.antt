@@ -1,4 +1,5 @@
--- The third demand, in the words of document 01, "Terms of the third demand": estimation, and then a query that is lent the records that it wrote.
+-- The third demand, in the words of document 01, "Terms of the third demand": estimation, and then a query that is lent the records that it
+-- wrote.
 use mathlib.Core.Path.{_≡_}
 use mathlib.Core.Bool.{true}
 use mathlib.Core.List.{List}
@@ -102,10 +103,12 @@ WithinDistance f v x y = f .bottom * natAbs (v *ℤ pos y -ℤ x) ≤ f .top * y
 abbrev pub asked : Shape → Want → Query → Ask
 asked s want q = askAt s want (cellRead s q) (stepRead s q)
 
--- a number that is given lies near the exact interpolant: the exact value at the cell that the query reads, from the records that the rules under Estimates give
+-- a number that is given lies near the exact interpolant: the exact value at the cell that the query reads, from the records that the rules
+-- under Estimates give
 abbrev pub Distance : Shape → List ℤ → Want → Query → Outcome ℤ → Type 0
 Distance s xs want q given =
-    (v : ℤ) → given ≡ done v → WithinDistance (allowedDistance want (s .axes)) v (exactSum (asked s want q) (tableRecords s xs)) (exactDivisor (asked s want q))
+    (v : ℤ) → given ≡ done v → WithinDistance (allowedDistance want (s .axes)) v (exactSum (asked s want q) (tableRecords s xs))
+    (exactDivisor (asked s want q))
 
 -- ---- agreement
 
@@ -132,7 +135,8 @@ InBlock s cell = OnUsed (s .axes) (λ a i. NearCell (count s a) (cell a) i)
 abbrev pub recounted : Shape → List ℕ → Shape
 recounted s counts = shapeOf (s .axes) (s .degree) counts
 
--- two tables agree on the block of a cell: on each axis both have the same of its nodes, and each of these nodes has the same sample in both
+-- two tables agree on the block of a cell: on each axis both have the same of its nodes, and each of these nodes has the same sample in
+-- both
 pub record AgreeOnBlock (s t : Shape) (cell : Place) (xs ys : List ℤ) : Type 0 where
   pub there : (a : ℕ) → a < s .axes → (i : ℕ) → NearCell (count s a) (cell a) i → i < count t a
   pub back : (a : ℕ) → a < s .axes → (i : ℕ) → NearCell (count t a) (cell a) i → i < count s a

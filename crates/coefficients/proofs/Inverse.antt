@@ -93,7 +93,7 @@ module _ (m n : ℕ) (m2 : 2 ≤ m) (m3 : m ≤ 3) where
 -- ---- on lists
 
 two-cancel : (a b : ℤ) → pos 2 *ℤ a ≡ pos 2 *ℤ b → a ≡ b
-two-cancel a b h = ℕ→eq (a ∷ b ∷ []) (search quotes) (search quotes) (omega (arith, eq→ℕ (a ∷ b ∷ []) {a = pos 2 *ℤ a} {b = pos 2 *ℤ b} (search quotes) (search quotes) h))
+two-cancel a b h = ℕ→eq (a ∷ b ∷ []) (search quotes) (omega (arith, eq→ℕ (a ∷ b ∷ []) {a = pos 2 *ℤ a} {b = pos 2 *ℤ b} (search quotes) h))
 
 cancel : (n : ℕ) (a b : ℤ) → pos 2 ^ℤ n *ℤ a ≡ pos 2 ^ℤ n *ℤ b → a ≡ b
 cancel zero a b h = sym (pos-one-*ℤ a) ∙ h ∙ pos-one-*ℤ b

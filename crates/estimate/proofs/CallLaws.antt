@@ -49,13 +49,15 @@ unfolding recordsOf
 records-length s xs = length-tabulate (size s) (λ i. tableRecords s xs (entryPlace s i))
 
 -- an entry is read back at its place
-pub read-back : (s : Shape) (xs : List ℤ) (p : Place) → s .axes ≤ 3 → InTable s (λ a. p a / orders s) → ((a : ℕ) → s .axes ≤ a → p a ≡ 0) → recordsField s (recordsOf s xs) p ≡ tableRecords s xs p
+pub read-back : (s : Shape) (xs : List ℤ) (p : Place) → s .axes ≤ 3 → InTable s (λ a. p a / orders s) → ((a : ℕ) → s .axes ≤ a → p a ≡ 0)
+    → recordsField s (recordsOf s xs) p ≡ tableRecords s xs p
 unfolding recordsField recordsOf
 read-back s xs p l here none =
     getD-tabulate (size s) (λ i. tableRecords s xs (entryPlace s i)) (entryIndex s p) (pos 0) (index-below s p here none)
     ∙ ap (tableRecords s xs) (place-back s p here none l)
 
 -- an entry of total order q lies within ±32768·2^q
-pub entry-limit : (s : Shape) (xs : List ℤ) (room : ℕ) → Estimable s xs room → (p : Place) → natAbs (tableRecords s xs p) ≤ entryLimit (orders s) (s .axes) p
+pub entry-limit : (s : Shape) (xs : List ℤ) (room : ℕ) → Estimable s xs room → (p : Place)
+    → natAbs (tableRecords s xs p) ≤ entryLimit (orders s) (s .axes) p
 unfolding entryLimit tableRecords samplesField
 entry-limit s xs room ok p = limits sampleLimit (orders s) (s .axes) (count s) (samplesField s xs) (λ q. ok .small _) p

@@ -1,4 +1,5 @@
--- An entry of the records by its node and its orders: it is what the passes along z, y and x give. An unused axis is one with a single order,
+-- An entry of the records by its node and its orders: it is what the passes along z, y and x give. An unused axis is one with a single
+-- order,
 -- and the order of axes does not matter.
 use mathlib.Core.Path.{_≡_, refl, sym, ap, subst, _∙_, fun-ext}
 use mathlib.Core.Logic.{⊎-elim}
@@ -53,25 +54,30 @@ module _ (s : Shape) where
     unfolding records
     on-used =
         sweep-rules (axes (s .axes)) rules (λ a. estimate (orders s) (count s a)) g
-        (each-axes (s .axes) (λ a. rules a ≡ estimate (orders s) (count s a)) (λ a i. ap (λ (m : ℕ). estimate m (count s a)) (orders-used a i)))
+        (each-axes (s .axes) (λ a. rules a ≡ estimate (orders s) (count s a))
+        (λ a i. ap (λ (m : ℕ). estimate m (count s a)) (orders-used a i)))
 
     on-all : (k : ℕ) → s .axes ≤ k → sweep (axes k) rules g ≡ records (orders s) (s .axes) (count s) g
     unfolding sweep axes
-    on-all zero l = let e : s .axes ≡ 0 = omega arith in subst (λ (k : ℕ). sweep (axes k) rules g ≡ records (orders s) (s .axes) (count s) g) e on-used
+    on-all zero l = let e : s .axes ≡ 0 = omega arith in
+        subst (λ (k : ℕ). sweep (axes k) rules g ≡ records (orders s) (s .axes) (count s) g) e on-used
     on-all (suc k) l =
         ⊎-elim (λ (e : s .axes ≡ suc k). subst (λ (k : ℕ). sweep (axes k) rules g ≡ records (orders s) (s .axes) (count s) g) e on-used)
-        (λ (h : s .axes < suc k). ap (λ (m : ℕ). along k (estimate m (count s k)) (sweep (axes k) rules g)) (orders-unused k (omega arith)) ∙ single k (count s k) (sweep (axes k) rules g) ∙ on-all k (omega arith))
+        (λ (h : s .axes < suc k). ap (λ (m : ℕ). along k (estimate m (count s k)) (sweep (axes k) rules g)) (orders-unused k (omega arith))
+        ∙ single k (count s k) (sweep (axes k) rules g) ∙ on-all k (omega arith))
         (eq-or-lt-of-le l)
 
   -- x last
   reversed : Reordered (axes 3) (0 ∷ 1 ∷ 2 ∷ [])
   unfolding axes
-  reversed = andThen (under (swapped (apart 0 1 (lit< tt)))) (andThen (swapped (apart 0 2 (lit< tt))) (under (swapped (apart 1 2 (lit< tt)))))
+  reversed = andThen (under (swapped (apart 0 1 (lit< tt))))
+      (andThen (swapped (apart 0 2 (lit< tt))) (under (swapped (apart 1 2 (lit< tt)))))
     where
       apart : (a b : ℕ) → a < b → b ≡ a → ⊥
       apart a b l e = omega arith
 
-  pub x-last : s .axes ≤ 3 → (xs : List ℤ) → tableRecords s xs ≡ along 0 (rules 0) (along 1 (rules 1) (along 2 (rules 2) (samplesField s xs)))
+  pub x-last : s .axes ≤ 3 → (xs : List ℤ)
+      → tableRecords s xs ≡ along 0 (rules 0) (along 1 (rules 1) (along 2 (rules 2) (samplesField s xs)))
   unfolding tableRecords sweep
   x-last l xs = sym (on-all (samplesField s xs) 3 l) ∙ sweep-order reversed rules (λ a. linear a) (samplesField s xs)
     where
@@ -95,7 +101,8 @@ module _ (s : Shape) (xs : List ℤ) where
 
   -- the definition
   defined : s .axes ≤ 3 → (p : Place)
-      → tableRecords s xs p ≡ along-x (p 0 % ordersOn s 0) (p 1 % ordersOn s 1) (p 2 % ordersOn s 2) (p 0 / ordersOn s 0) (p 1 / ordersOn s 1) (p 2 / ordersOn s 2)
+      → tableRecords s xs p ≡ along-x (p 0 % ordersOn s 0) (p 1 % ordersOn s 1) (p 2 % ordersOn s 2) (p 0 / ordersOn s 0)
+      (p 1 / ordersOn s 1) (p 2 / ordersOn s 2)
   unfolding samplesField estimate put pick sample along-z along-y along-x
   defined l p =
       ap (λ (f : Field). f p) (x-last s l xs)
@@ -108,19 +115,40 @@ module _ (s : Shape) (xs : List ℤ) where
   module _ (some : (a : ℕ) → 0 < ordersOn s a) where
     passed-z : (x y z c : ℕ) → c < g .mz → rowZ g xs y z (g .mz * x + c) ≡ along-z c x y z
     unfolding rowZ grouped rowStart gridOf along-z sample
-    passed-z x y z c l = rw (high-digit (ordersOn s 2) x c l, low-digit (ordersOn s 2) x c l, add-comm (count s 0 * (y + count s 1 * z)) x, add-comm (count s 0 * (y + count s 1 * left z)) x, add-comm (count s 0 * (y + count s 1 * right (count s 2) z)) x)
+    passed-z x y z c l = rw (
+      high-digit (ordersOn s 2) x c l,
+      low-digit (ordersOn s 2) x c l,
+      add-comm (count s 0 * (y + count s 1 * z)) x,
+      add-comm (count s 0 * (y + count s 1 * left z)) x,
+      add-comm (count s 0 * (y + count s 1 * right (count s 2) z)) x,
+    )
 
     passed-y : (x y z h : ℕ) → h < g .my * g .mz → rowYZ g xs y z (g .my * g .mz * x + h) ≡ along-y (h % g .my) (h / g .my) x y z
     unfolding rowYZ grouped gridOf along-y
     passed-y x y z h l =
         let k : h / ordersOn s 1 < ordersOn s 2 = high-below (some 1) l in
-        rw (group-of (some 1) (ordersOn s 2) x h, member-of (ordersOn s 1) (ordersOn s 2) x h, passed-z x (left y) z (h / ordersOn s 1) k, passed-z x y z (h / ordersOn s 1) k, passed-z x (right (count s 1) y) z (h / ordersOn s 1) k)
+        rw (
+          group-of (some 1) (ordersOn s 2) x h,
+          member-of (ordersOn s 1) (ordersOn s 2) x h,
+          passed-z x (left y) z (h / ordersOn s 1) k,
+          passed-z x y z (h / ordersOn s 1) k,
+          passed-z x (right (count s 1) y) z (h / ordersOn s 1) k,
+        )
 
-    passed : (x y z e : ℕ) → x < g .cx → e < recordSize g → rowOf g (rowYZ g xs y z) (recordSize g * x + e) ≡ along-x (e % g .mx) (e / g .mx % g .my) (e / g .mx / g .my) x y z
+    passed : (x y z e : ℕ) → x < g .cx → e < recordSize g
+        → rowOf g (rowYZ g xs y z) (recordSize g * x + e) ≡ along-x (e % g .mx) (e / g .mx % g .my) (e / g .mx / g .my) x y z
     unfolding rowOf grouped gridOf along-x
     passed x y z e i l =
         let k : e / ordersOn s 0 < ordersOn s 1 * ordersOn s 2 = high-below (some 0) l in
-        rw (group-of (some 0) (ordersOn s 1 * ordersOn s 2) x e, member-of (ordersOn s 0) (ordersOn s 1 * ordersOn s 2) x e, lower-at (ordersOn s 1 * ordersOn s 2) x (e / ordersOn s 0) k, upper-at (ordersOn s 1 * ordersOn s 2) x (e / ordersOn s 0) k (count s 0) i, passed-y (left x) y z (e / ordersOn s 0) k, passed-y x y z (e / ordersOn s 0) k, passed-y (right (count s 0) x) y z (e / ordersOn s 0) k)
+        rw (
+          group-of (some 0) (ordersOn s 1 * ordersOn s 2) x e,
+          member-of (ordersOn s 0) (ordersOn s 1 * ordersOn s 2) x e,
+          lower-at (ordersOn s 1 * ordersOn s 2) x (e / ordersOn s 0) k,
+          upper-at (ordersOn s 1 * ordersOn s 2) x (e / ordersOn s 0) k (count s 0) i,
+          passed-y (left x) y z (e / ordersOn s 0) k,
+          passed-y x y z (e / ordersOn s 0) k,
+          passed-y (right (count s 0) x) y z (e / ordersOn s 0) k,
+        )
 
 -- ---- the index of an entry
 
@@ -129,7 +157,8 @@ some-order s = let h = orders-range (s .degree) .0 in omega arith
 
 pub order-count : (s : Shape) (a : ℕ) → OrderCount (ordersOn s a)
 unfolding ordersOn
-order-count s a = on-pick OrderCount (ltb a (s .axes)) (orders s) 1 (λ e. (some-order s, orders-range (s .degree) .1)) (λ e. (omega arith, omega arith))
+order-count s a = on-pick OrderCount (ltb a (s .axes)) (orders s) 1 (λ e. (some-order s, orders-range (s .degree) .1))
+    (λ e. (omega arith, omega arith))
 
 module _ (s : Shape) (ok : Shaped s) where
   orders-some : (a : ℕ) → 0 < ordersOn s a
@@ -160,17 +189,23 @@ module _ (s : Shape) (ok : Shaped s) where
     unfolding entryPlace
     place-is a = rw record-size
 
-    place-on : (a : ℕ) → a < 3 → (entryPlace s i a / ordersOn s a ≡ digit (count s) v a) × (entryPlace s i a % ordersOn s a ≡ digit (ordersOn s) e a)
+    place-on : (a : ℕ) → a < 3 → (entryPlace s i a / ordersOn s a ≡ digit (count s) v a)
+        × (entryPlace s i a % ordersOn s a ≡ digit (ordersOn s) e a)
     unfolding entries
     place-on a l3 = go (decLt a (s .axes))
       where
         o : ℕ
         o = digit (λ b. orders s) e a
 
-        go : Dec (a < s .axes) → (entryPlace s i a / ordersOn s a ≡ digit (count s) v a) × (entryPlace s i a % ordersOn s a ≡ digit (ordersOn s) e a)
+        go : Dec (a < s .axes) → (entryPlace s i a / ordersOn s a ≡ digit (count s) v a)
+            × (entryPlace s i a % ordersOn s a ≡ digit (ordersOn s) e a)
         go (yes k) =
             let h : o < orders s = digit-below (λ b. orders s) e a (some-order s) in
-            rw (place-is a, orders-used s a k) (high-digit (orders s) (digit (count s) v a) o h, low-digit (orders s) (digit (count s) v a) o h ∙ digit-same (λ b. orders s) (ordersOn s) e a (λ b h. sym (orders-used s b (omega arith))))
+            rw (place-is a, orders-used s a k) (
+              high-digit (orders s) (digit (count s) v a) o h,
+              low-digit (orders s) (digit (count s) v a) o h
+                  ∙ digit-same (λ b. orders s) (ordersOn s) e a (λ b h. sym (orders-used s b (omega arith))),
+            )
         go (no k) =
             let u : s .axes ≤ a = omega (arith, k) in
             let n : digit (count s) v a ≡ 0 = omega (arith, digit-below (count s) v a (ok .low a l3), ok .unused a l3 u) in
@@ -179,7 +214,9 @@ module _ (s : Shape) (ok : Shaped s) where
             rw (place-is a, n, d, z, mul-zero (orders s)) (zero-div (ordersOn s a), zero-mod (ordersOn s a))
 
     -- the entry at its index is what the passes give
-    pub entry-is : (xs : List ℤ) → let g : Grid = gridOf s in tableRecords s xs (entryPlace s i) ≡ rowOf g (rowYZ g xs (v / g .cx % g .cy) (v / g .cx / g .cy % g .cz)) (recordSize g * (v % g .cx) + e)
+    pub entry-is : (xs : List ℤ) → let g : Grid = gridOf s in
+        tableRecords s xs (entryPlace s i) ≡ rowOf g (rowYZ g xs (v / g .cx % g .cy) (v / g .cx / g .cy % g .cz))
+        (recordSize g * (v % g .cx) + e)
     unfolding digit gridOf
     entry-is xs =
         let k : e / ordersOn s 0 / ordersOn s 1 < ordersOn s 2 = high-below (orders-some 1) (high-below (orders-some 0) below) in
@@ -188,4 +225,5 @@ module _ (s : Shape) (ok : Shaped s) where
         let z = place-on 2 (lit< tt) in
         defined s xs (ok .axes-high) (entryPlace s i)
         ∙ rw (x .0, y .0, z .0, x .1, y .1, z .1, mod-eq-of-lt k)
-        (sym (passed s xs orders-some (v % count s 0) (v / count s 0 % count s 1) (v / count s 0 / count s 1 % count s 2) e (mod-lt v (ok .low 0 (lit< tt))) below))
+        (sym (passed s xs orders-some (v % count s 0) (v / count s 0 % count s 1) (v / count s 0 / count s 1 % count s 2) e
+        (mod-lt v (ok .low 0 (lit< tt))) below))

@@ -39,17 +39,24 @@ node-of m count j (suc (suc t)) = right count (j / m)
 
 three : (o : ℕ) (l f r : ℤ) → byOrder o l f r ≡ pos 0 +ℤ of-three o 0 *ℤ l +ℤ of-three o 1 *ℤ f +ℤ of-three o 2 *ℤ r
 unfolding byOrder of-three pick3
-three zero l f r = ring! (l ∷ f ∷ r ∷ []) (search quotes depth 40) (search quotes depth 40) tt
-three (suc zero) l f r = ring! (l ∷ f ∷ r ∷ []) (search quotes depth 40) (search quotes depth 40) tt
-three (suc (suc o)) l f r = ring! (l ∷ f ∷ r ∷ []) (search quotes depth 40) (search quotes depth 40) tt
+three zero l f r = ring! (l ∷ f ∷ r ∷ []) (search quotes depth 40) tt
+three (suc zero) l f r = ring! (l ∷ f ∷ r ∷ []) (search quotes depth 40) tt
+three (suc (suc o)) l f r = ring! (l ∷ f ∷ r ∷ []) (search quotes depth 40) tt
 
 pub estimate-linear : (m count : ℕ) → Linear (estimate m count)
 unfolding estimate sum node-of
 estimate-linear m count =
-    record { width = 3; factor = λ j t. of-three (j % m) t; place = node-of m count; is = λ x j. three (j % m) (x (left (j / m))) (x (j / m)) (x (right count (j / m))) }
+    record {
+      width = 3;
+      factor = λ j t. of-three (j % m) t;
+      place = node-of m count;
+      is =
+          λ x j. three (j % m) (x (left (j / m))) (x (j / m)) (x (right count (j / m)));
+    }
 
 -- ---- the order of axes does not matter
-pub estimate-order : (m n : ℕ) (count : ℕ → ℕ) (g : Field) (ls : List ℕ) → Reordered (axes n) ls → records m n count g ≡ sweep ls (λ a. estimate m (count a)) g
+pub estimate-order : (m n : ℕ) (count : ℕ → ℕ) (g : Field) (ls : List ℕ) → Reordered (axes n) ls
+    → records m n count g ≡ sweep ls (λ a. estimate m (count a)) g
 unfolding records
 estimate-order m n count g ls h = sweep-order h (λ a. estimate m (count a)) (λ a. estimate-linear m (count a)) g
 
@@ -68,12 +75,15 @@ order-put m n t p = total-ext n (λ a. put n t p a % m) (λ a. p a % m) (λ a l.
     apart a n l e = omega arith
 
 -- samples within B have entries of total order q within B·2^q
-pub limits : (B m n : ℕ) (count : ℕ → ℕ) (g : Field) → ((p : Place) → natAbs (g p) ≤ B) → (p : Place) → natAbs (records m n count g p) ≤ B * 2 ^ totalOrder m n p
+pub limits : (B m n : ℕ) (count : ℕ → ℕ) (g : Field) → ((p : Place) → natAbs (g p) ≤ B) → (p : Place)
+    → natAbs (records m n count g p) ≤ B * 2 ^ totalOrder m n p
 unfolding records sweep axes totalOrder total estimate-linear
 limits B m zero count g h p = le-trans (h p) (omega arith)
 limits B m (suc n) count g h p =
     le-trans
-    (linear-size L x (p n) (B * 2 ^ totalOrder m n p) (λ t l. subst (λ (q : ℕ). natAbs (x (L .place (p n) t)) ≤ B * 2 ^ q) (order-put m n (L .place (p n) t) p) (limits B m n count g h (put n (L .place (p n) t) p))))
+    (linear-size L x (p n) (B * 2 ^ totalOrder m n p)
+    (λ t l. subst (λ (q : ℕ). natAbs (x (L .place (p n) t)) ≤ B * 2 ^ q) (order-put m n (L .place (p n) t) p)
+    (limits B m n count g h (put n (L .place (p n) t) p))))
     (scaled (p n % m) (totalOrder m n p) (reach (p n % m)))
   where
     L : Linear (estimate m (count n))
@@ -118,23 +128,29 @@ module _ (m n : ℕ) (count p : Place) (inside : (a : ℕ) → a < n → p a / m
 
   estimate-depends : (a : ℕ) → a < n → Depends (estimate m (count a)) (S a) (T a)
   unfolding estimate-linear S T
-  estimate-depends a l = linear-depends (estimate-linear m (count a)) (λ j t e k. (λ i. rw (e .0 l) (near m (count a) (p a) (inside a l) t), λ k. absurd (not-both l k)))
+  estimate-depends a l = linear-depends (estimate-linear m (count a))
+      (λ j t e k. (λ i. rw (e .0 l) (near m (count a) (p a) (inside a l) t), λ k. absurd (not-both l k)))
     where
       not-both : {a : ℕ} → a < n → n ≤ a → ⊥
       not-both l k = omega arith
 
   -- an entry reads the samples at its node and at the neighbours of it on each axis, diagonals included
-  pub entry-local : ((a : ℕ) → n ≤ a → p a ≡ 0) → (g h : Field) → ((q : Place) → OnUsed n (λ a. NextTo (count a) (p a / m)) q → g q ≡ h q) → records m n count g p ≡ records m n count h p
+  pub entry-local : ((a : ℕ) → n ≤ a → p a ≡ 0) → (g h : Field) → ((q : Place) → OnUsed n (λ a. NextTo (count a) (p a / m)) q → g q ≡ h q)
+      → records m n count g p ≡ records m n count h p
   unfolding records S T
   entry-local none g h eq =
-      sweep-local S T (λ a. estimate m (count a)) (axes n) (distinct-axes n) (each-axes n (λ a. Depends (estimate m (count a)) (S a) (T a)) estimate-depends) g h (λ q y. eq q (on-used y)) p
+      sweep-local S T (λ a. estimate m (count a)) (axes n) (distinct-axes n)
+      (each-axes n (λ a. Depends (estimate m (count a)) (S a) (T a)) estimate-depends) g h (λ q y. eq q (on-used y)) p
       (record { done = λ b f. (λ l. refl, none b); left = λ b f. (λ l. absurd (used n b l f), none b) })
 
 -- where a node has an upper neighbour with both counts or with neither, its records are the same
-pub entry-recounted : (m n : ℕ) (count other p : Place) → ((a : ℕ) → a < n → right (count a) (p a / m) ≡ right (other a) (p a / m)) → (g : Field) → records m n count g p ≡ records m n other g p
+pub entry-recounted : (m n : ℕ) (count other p : Place) → ((a : ℕ) → a < n → right (count a) (p a / m) ≡ right (other a) (p a / m))
+    → (g : Field) → records m n count g p ≡ records m n other g p
 unfolding records estimate
 entry-recounted m n count other p same g =
-    sweep-carries (λ a s t. (s ≡ p a) × (t ≡ p a)) (λ a s t. s ≡ t) (λ a. estimate m (count a)) (λ a. estimate m (other a)) (axes n) (distinct-axes n)
-    (each-axes n _ (λ a l x y j k e h. ap (estimate m (count a) x) (e .0) ∙ ap (λ (z : ℕ → ℤ). estimate m (count a) z (p a)) (fun-ext (λ s. h s s refl))
+    sweep-carries (λ a s t. (s ≡ p a) × (t ≡ p a)) (λ a s t. s ≡ t) (λ a. estimate m (count a)) (λ a. estimate m (other a)) (axes n)
+    (distinct-axes n)
+    (each-axes n _ (λ a l x y j k e h. ap (estimate m (count a) x) (e .0)
+    ∙ ap (λ (z : ℕ → ℤ). estimate m (count a) z (p a)) (fun-ext (λ s. h s s refl))
     ∙ ap (λ (r : ℕ). byOrder (p a % m) (y (left (p a / m))) (y (p a / m)) (y r)) (same a l) ∙ sym (ap (estimate m (other a) y) (e .1))))
     g g (λ q r e. ap g (fun-ext e)) p p (record { done = λ b f. (refl, refl); left = λ b f. refl })

@@ -86,7 +86,8 @@ module _ (k x h : ℕ) (l : h < k) where
     where
       go : Dec (x + 1 < n) → upper k (k * n) (k * x + h) ≡ k * right n x + h
       go (yes j) = rw (← high-is n x j) (upper-is k (k * x + h) (k * n) (omega (arith, group-room k (x + 1) n j)) ∙ omega arith)
-      go (no j) = rw (← high-none n x (omega (arith, j))) (upper-none k (k * x + h) (k * n) (let e : n ≡ x + 1 = omega (arith, j) in rw e (omega arith)))
+      go (no j) = rw (← high-none n x (omega (arith, j)))
+          (upper-none k (k * x + h) (k * n) (let e : n ≡ x + 1 = omega (arith, j) in rw e (omega arith)))
 
 -- ---- a pass
 
@@ -103,7 +104,8 @@ unfolding grouped byOrder
 one-pass m e l f r t = rw (e, mod-one t, div-one t) refl
 
 -- what the orders of numbers within B are within
-pass-size : (m : ℕ) (l f r : ℕ → ℤ) {B : ℕ} → ((i : ℕ) → natAbs (l i) ≤ B) → ((i : ℕ) → natAbs (f i) ≤ B) → ((i : ℕ) → natAbs (r i) ≤ B) → (t : ℕ) → natAbs (passOf m l f r t) ≤ 4 * B
+pass-size : (m : ℕ) (l f r : ℕ → ℤ) {B : ℕ} → ((i : ℕ) → natAbs (l i) ≤ B) → ((i : ℕ) → natAbs (f i) ≤ B) → ((i : ℕ) → natAbs (r i) ≤ B)
+    → (t : ℕ) → natAbs (passOf m l f r t) ≤ 4 * B
 unfolding grouped byOrder
 pass-size m l f r {B} a b c t = order (t % m) (l (t / m)) (f (t / m)) (r (t / m)) (a (t / m)) (b (t / m)) (c (t / m))
   where
@@ -135,16 +137,22 @@ module _ (g : Grid) (ok : Grids g) where
 
 row-in : (g : Grid) (xs : List ℤ) (y z : ℕ) → Samples g xs → y < g .cy → z < g .cz → rowStart g y z + g .cx ≤ length xs
 unfolding rowStart
-row-in g xs y z ok h k = rw (ok .whole) (group-room (g .cx) (y + g .cy * z) (g .cy * g .cz) (omega (arith, pair-in (g .cy) z y h (g .cz) k)))
+row-in g xs y z ok h k = rw (ok .whole)
+    (group-room (g .cx) (y + g .cy * z) (g .cy * g .cz) (omega (arith, pair-in (g .cy) z y h (g .cz) k)))
 
 pub row-read : (g : Grid) (xs : List ℤ) (y z : ℕ) → Samples g xs → y < g .cy → z < g .cz → Read xs (rowStart g y z) (g .cx)
-row-read g xs y z ok h k = record { inside = row-in g xs y z ok h k; small = λ t l. le-trans (ok .small (rowStart g y z + t)) (omega arith) }
+row-read g xs y z ok h k =
+    record { inside = row-in g xs y z ok h k; small = λ t l. le-trans (ok .small (rowStart g y z + t)) (omega arith) }
 
 -- what a row, worked off along z, and along z and y, is within
 pub row-z-size : (g : Grid) (xs : List ℤ) (y z t : ℕ) → Samples g xs → natAbs (rowZ g xs y z t) ≤ 131072
 unfolding rowZ
-row-z-size g xs y z t ok = pass-size (g .mz) (since xs (rowStart g y (left z))) (since xs (rowStart g y z)) (since xs (rowStart g y (right (g .cz) z))) (λ i. ok .small _) (λ i. ok .small _) (λ i. ok .small _) t
+row-z-size g xs y z t ok =
+    pass-size (g .mz) (since xs (rowStart g y (left z))) (since xs (rowStart g y z)) (since xs (rowStart g y (right (g .cz) z)))
+    (λ i. ok .small _) (λ i. ok .small _) (λ i. ok .small _) t
 
 pub row-yz-size : (g : Grid) (xs : List ℤ) (y z t : ℕ) → Samples g xs → natAbs (rowYZ g xs y z t) ≤ passLimit
 unfolding rowYZ
-row-yz-size g xs y z t ok = pass-size (g .my) (rowZ g xs (left y) z) (rowZ g xs y z) (rowZ g xs (right (g .cy) y) z) (λ i. row-z-size g xs (left y) z i ok) (λ i. row-z-size g xs y z i ok) (λ i. row-z-size g xs (right (g .cy) y) z i ok) t
+row-yz-size g xs y z t ok =
+    pass-size (g .my) (rowZ g xs (left y) z) (rowZ g xs y z) (rowZ g xs (right (g .cy) y) z) (λ i. row-z-size g xs (left y) z i ok)
+    (λ i. row-z-size g xs y z i ok) (λ i. row-z-size g xs (right (g .cy) y) z i ok) t

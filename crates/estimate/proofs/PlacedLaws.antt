@@ -25,20 +25,23 @@ placed-same k zero h g b e = refl
 placed-same k (suc n) h g b e = rw (placed-same k n h g b (λ t l. e t (omega arith)), e n (omega arith))
 
 -- l stores behind n
-placed-more : (k n l : ℕ) (h g : ℕ → ℤ) (b : List ℤ) → ((t : ℕ) → t < l → g t ≡ h (n + t)) → placed (k + n) l g (placed k n h b) ≡ placed k (n + l) h b
+placed-more : (k n l : ℕ) (h g : ℕ → ℤ) (b : List ℤ) → ((t : ℕ) → t < l → g t ≡ h (n + t))
+    → placed (k + n) l g (placed k n h b) ≡ placed k (n + l) h b
 unfolding placed
 placed-more k n zero h g b e = rw (add-zero n)
 placed-more k n (suc l) h g b e =
     rw (placed-more k n l h g b (λ t i. e t (omega arith)), e l (omega arith), add-suc n l, add-assoc k n l)
 
 -- the same where lists and places have names
-pub placed-next : (k n l p : ℕ) (h g : ℕ → ℤ) (b out next : List ℤ) → p ≡ k + n → out ≡ placed k n h b → next ≡ placed p l g out → ((t : ℕ) → t < l → g t ≡ h (n + t)) → next ≡ placed k (n + l) h b
+pub placed-next : (k n l p : ℕ) (h g : ℕ → ℤ) (b out next : List ℤ) → p ≡ k + n → out ≡ placed k n h b → next ≡ placed p l g out
+    → ((t : ℕ) → t < l → g t ≡ h (n + t)) → next ≡ placed k (n + l) h b
 placed-next k n l p h g b out next at-p inv e same = e ∙ rw (at-p, inv) (placed-more k n l h g b same)
 
 pub placed-off : (k n : ℕ) (h : ℕ → ℤ) (b : List ℤ) (i : ℕ) → ((t : ℕ) → t < n → i ≡ k + t → ⊥) → at (placed k n h b) i ≡ at b i
 unfolding placed
 placed-off k zero h b i apart = refl
-placed-off k (suc n) h b i apart = getD-set-other (placed k n h b) (k + n) i (h n) (pos 0) (apart n (omega arith)) ∙ placed-off k n h b i (λ t l. apart t (omega arith))
+placed-off k (suc n) h b i apart = getD-set-other (placed k n h b) (k + n) i (h n) (pos 0) (apart n (omega arith))
+    ∙ placed-off k n h b i (λ t l. apart t (omega arith))
 
 pub placed-at : (k n : ℕ) (h : ℕ → ℤ) (b : List ℤ) (t : ℕ) → t < n → k + n ≤ length b → at (placed k n h b) (k + t) ≡ h t
 unfolding placed
@@ -93,13 +96,15 @@ module _ {k m : ℕ} {f : ℕ → ℕ → ℤ} {b : List ℤ} {count t p : ℕ} 
     pub stored-room : k + m * count ≤ length b → p + m ≤ length out
     stored-room room = rw stored-length (stored-fits room)
 
-    pub stored-more : {g : ℕ → ℤ} {next : List ℤ} → next ≡ placed p m g out → ((o : ℕ) → o < m → g o ≡ f t o) → Stored k m f b count (t + 1) (p + m) next
+    pub stored-more : {g : ℕ → ℤ} {next : List ℤ} → next ≡ placed p m g out → ((o : ℕ) → o < m → g o ≡ f t o)
+        → Stored k m f b count (t + 1) (p + m) next
     stored-more {g} {next} e same =
         let turn : m * t + m ≡ m * (t + 1) = omega arith in
         record {
           done = omega arith;
           place = omega (arith, s .place);
-          is = rw turn at (placed-next k (m * t) m p (grouped m f) g b out next (s .place) (s .is) e (λ o l. same o l ∙ sym (grouped-at m f t o l)));
+          is = rw turn at (placed-next k (m * t) m p (grouped m f) g b out next (s .place) (s .is) e
+              (λ o l. same o l ∙ sym (grouped-at m f t o l)));
         }
 
 -- what is left of a loop

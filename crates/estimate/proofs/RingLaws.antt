@@ -1,4 +1,5 @@
--- Rows that are worked off along z, where they stand: one is added to the ring, the others stay, and three of them make a row worked off along y.
+-- Rows that are worked off along z, where they stand: one is added to the ring, the others stay, and three of them make a row worked off
+-- along y.
 use mathlib.Core.Path.{_≡_, sym, ap, subst, _∙_}
 use mathlib.Core.Logic.{⊎-elim}
 use mathlib.Core.List.{List}
@@ -21,7 +22,9 @@ use Rattle.estimate.proofs.PassesLaws.{row-read, row-z-high, row-yz-hig
 
 right-top : {count i v : ℕ} → NextTo count i v → v ≤ right count i
 unfolding right
-right-top {count} {i} {v} near = on-pick (λ k. v ≤ k) (ltb (suc i) count) (suc i) i (λ e. omega (arith, near .high)) (λ e. omega (arith, near .there, ltb-false (suc i) count e))
+right-top {count} {i} {v} near =
+    on-pick (λ k. v ≤ k) (ltb (suc i) count) (suc i) i (λ e. omega (arith, near .high))
+    (λ e. omega (arith, near .there, ltb-false (suc i) count e))
 
 -- rows u, y and v stand in a list
 pub record Three (g : Grid) (xs : List ℤ) (u y v z : ℕ) (b : List ℤ) (low mid high : ℕ) : Type 0 where
@@ -42,7 +45,8 @@ module _ {g : Grid} {xs : List ℤ} (ok : Samples g xs) where
   plain e v z i l =
       record {
         inside = rw (e, one-mul (g .cx)) (row-read g xs v z ok i l .inside);
-        same = λ t h. sym (one-pass (g .mz) e (since xs (rowStart g v (left z))) (since xs (rowStart g v z)) (since xs (rowStart g v (right (g .cz) z))) t);
+        same = λ t h. sym (one-pass (g .mz) e (since xs (rowStart g v (left z))) (since xs (rowStart g v z))
+            (since xs (rowStart g v (right (g .cz) z))) t);
       }
 
   -- ---- a row is added to the ring
@@ -61,7 +65,8 @@ module _ {g : Grid} {xs : List ℤ} (ok : Samples g xs) where
         rw e
         (record {
           inside = rw placed-length (s .inside);
-          same = λ t i. placed-off (slot v) w (rowZ g xs v z) b (slot u + t) (λ j k d. apart (sym (high-digit w (u % 3) t i) ∙ ap (λ (n : ℕ). n / w) d ∙ high-digit w (v % 3) j k)) ∙ s .same t i;
+          same = λ t i. placed-off (slot v) w (rowZ g xs v z) b (slot u + t)
+              (λ j k d. apart (sym (high-digit w (u % 3) t i) ∙ ap (λ (n : ℕ). n / w) d ∙ high-digit w (v % 3) j k)) ∙ s .same t i;
         })
       where
         apart : u % 3 ≡ v % 3 → ⊥
@@ -82,27 +87,33 @@ module _ {g : Grid} {xs : List ℤ} (ok : Samples g xs) where
   reads s = (read (s .below), read (s .here), read (s .above))
 
   -- they stand in samples that have no orders along z
-  pub plain-three : (u y v z : ℕ) → u < g .cy → y < g .cy → v < g .cy → z < g .cz → g .mz ≡ 1 → Three g xs u y v z xs (rowStart g u z) (rowStart g y z) (rowStart g v z)
-  plain-three u y v z in-u in-y in-v in-z e = record { below = plain e u z in-u in-z; here = plain e y z in-y in-z; above = plain e v z in-v in-z }
+  pub plain-three : (u y v z : ℕ) → u < g .cy → y < g .cy → v < g .cy → z < g .cz → g .mz ≡ 1
+      → Three g xs u y v z xs (rowStart g u z) (rowStart g y z) (rowStart g v z)
+  plain-three u y v z in-u in-y in-v in-z e =
+      record { below = plain e u z in-u in-z; here = plain e y z in-y in-z; above = plain e v z in-v in-z }
 
   module _ (u y v : ℕ) {z : ℕ} (low-is : u ≡ left y) (high-is : v ≡ right (g .cy) y) where
     -- a pass along y over the three
-    pub made : {low mid high : ℕ} {b next : List ℤ} → Three g xs u y v z b low mid high → (r : List ℤ) → length r ≡ 576 → next ≡ placed 0 (g .my * w) (passOf (g .my) (since b low) (since b mid) (since b high)) r
+    pub made : {low mid high : ℕ} {b next : List ℤ} → Three g xs u y v z b low mid high → (r : List ℤ) → length r ≡ 576
+        → next ≡ placed 0 (g .my * w) (passOf (g .my) (since b low) (since b mid) (since b high)) r
         → (t : ℕ) → t < g .my * w → at next t ≡ rowYZ g xs y z t
     unfolding rowYZ grouped
     made {low} {mid} {high} {b} s r long e t i =
         let q : t / g .my < w = high-below (ok .grid .my .0) i in
         ap (λ (b : List ℤ). at b t) e
-        ∙ placed-front (g .my * w) (passOf (g .my) (since b low) (since b mid) (since b high)) r t i (omega (arith, row-yz-high g (ok .grid)))
+        ∙ placed-front (g .my * w) (passOf (g .my) (since b low) (since b mid) (since b high)) r t i
+        (omega (arith, row-yz-high g (ok .grid)))
         ∙ rw (s .below .same (t / g .my) q, s .here .same (t / g .my) q, s .above .same (t / g .my) q, low-is, high-is)
 
     -- in the ring they stand once the upper one is added
-    module _ (in-y : y < g .cy) (some : g .mz ≡ 1 → ⊥) {b next : List ℤ} (long : length b ≡ 576) (ring : Ring g xs y z b) (e : next ≡ placed (slot v) w (rowZ g xs v z) b) where
+    module _ (in-y : y < g .cy) (some : g .mz ≡ 1 → ⊥) {b next : List ℤ} (long : length b ≡ 576) (ring : Ring g xs y z b)
+        (e : next ≡ placed (slot v) w (rowZ g xs v z) b) where
       stand : (i : ℕ) → NextTo (g .cy) y i → RowStands g xs i z next (slot i)
       stand i near =
           let h = rw (← high-is) at (near-right (g .cy) y in-y) in
           ⊎-elim (λ (d : i ≡ v). rw d (added v z b next long e))
-          (λ (d : i < v). kept v z b next long e i d (omega (arith, h .high, near .low)) (ring some i (near .low) (omega (arith, h .high)) (near .there)))
+          (λ (d : i < v). kept v z b next long e i d (omega (arith, h .high, near .low))
+          (ring some i (near .low) (omega (arith, h .high)) (near .there)))
           (eq-or-lt-of-le (rw high-is (right-top near)))
 
       pub ring-three : Three g xs u y v z next (slot u) (slot y) (slot v)

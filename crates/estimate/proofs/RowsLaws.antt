@@ -20,14 +20,19 @@ use Rattle.estimate.proofs.EntryLaws.{order-count, record-size, entry-i
 
 -- ---- one row
 
-pub row-same : (g : Grid) → Grids g → (row other : ℕ → ℤ) → ((t : ℕ) → t < g .my * (g .mz * g .cx) → row t ≡ other t) → (t : ℕ) → t < rowSize g → rowOf g row t ≡ rowOf g other t
+pub row-same : (g : Grid) → Grids g → (row other : ℕ → ℤ) → ((t : ℕ) → t < g .my * (g .mz * g .cx) → row t ≡ other t) → (t : ℕ)
+    → t < rowSize g → rowOf g row t ≡ rowOf g other t
 unfolding rowOf grouped
 row-same g ok row other same t l =
     let n : ℕ = nodeSize g * g .cx in
     let q : ℕ = t / g .mx in
     let in-q : q < n = high-below (ok .mx .0) (omega arith) in
     let each : (i : ℕ) → i < n → row i ≡ other i = λ i h. same i (omega arith) in
-    rw (each (lower (nodeSize g) q) (lt-of-le-of-lt (lower-low (nodeSize g) q) in-q), each q in-q, each (upper (nodeSize g) n q) (upper-in (nodeSize g) q n in-q))
+    rw (
+      each (lower (nodeSize g) q) (lt-of-le-of-lt (lower-low (nodeSize g) q) in-q),
+      each q in-q,
+      each (upper (nodeSize g) n q) (upper-in (nodeSize g) q n in-q),
+    )
 
 -- one axis: the only row is the samples
 module _ (g : Grid) (xs : List ℤ) (my : g .my ≡ 1) (mz : g .mz ≡ 1) where
@@ -42,7 +47,8 @@ module _ (g : Grid) (xs : List ℤ) (my : g .my ≡ 1) (mz : g .mz ≡ 1) where
   unfolding planesOf planeOf grouped
   line-rows ok t l =
       let p : t < planeSize g = omega (arith, mul-le-mul-left (rowSize g) (ok .y-low)) in
-      rw (div-eq-of-lt p, mod-eq-of-lt p, div-eq-of-lt l, mod-eq-of-lt l) (row-same g ok (at xs) (rowYZ g xs 0 0) (λ i k. sym (line-row i)) t l)
+      rw (div-eq-of-lt p, mod-eq-of-lt p, div-eq-of-lt l, mod-eq-of-lt l)
+      (row-same g ok (at xs) (rowYZ g xs 0 0) (λ i k. sym (line-row i)) t l)
 
 -- ---- the records of the definition
 
@@ -90,13 +96,18 @@ module _ (s : Shape) (ok : Shaped s) (xs : List ℤ) where
       let q : ℕ = c * (i / (r * c)) + j / r in
       let in-y : j / r < c = high-below some-r (mod-lt i (mul-le-mul some-r some-c)) in
       let in-o : j % r < r = mod-lt j some-r in
-      let e : i ≡ r * q + j % r = omega (arith, div-add-mod i (r * c), div-add-mod j r) in
-      (sym (ap (λ (k : ℕ). k / r % c) e ∙ ap (λ (k : ℕ). k % c) (high-digit r q (j % r) in-o) ∙ low-digit c (i / (r * c)) (j / r) in-y), sym (ap (λ (k : ℕ). k % r) e ∙ low-digit r q (j % r) in-o))
+      let e : i ≡ r * q + j % r = omega (arith, div-add-mod i (r * c), div-add-mod j r) in (
+        sym (ap (λ (k : ℕ). k / r % c) e ∙ ap (λ (k : ℕ). k % c) (high-digit r q (j % r) in-o) ∙ low-digit c (i / (r * c)) (j / r) in-y),
+        sym (ap (λ (k : ℕ). k % r) e ∙ low-digit r q (j % r) in-o),
+      )
 
   pub planes-are : (i : ℕ) → i < size s → planesOf g xs i ≡ tableRecords s xs (entryPlace s i)
   unfolding planesOf planeOf grouped
   planes-are i l =
       let y = parts (rowSize g) (g .cy) i row-some (grid .y-low) in
       let x = parts (recordSize g) (g .cx) i record-some (omega (arith, grid .x-low)) in
-      let z : i / planeSize g ≡ i / recordSize g / g .cx / g .cy % g .cz = sym (mod-eq-of-lt (high-below plane-some (rw planes-size l))) ∙ ap (λ (k : ℕ). k % g .cz) (sym (ap (λ (k : ℕ). k / g .cy) (div-div-eq-div-mul i (recordSize g) (g .cx)) ∙ div-div-eq-div-mul i (rowSize g) (g .cy))) in
-      rw (y .0, y .1, z, ← div-div-eq-div-mul i (recordSize g) (g .cx), ← div-add-mod (i % rowSize g) (recordSize g), x .0, x .1) (sym (entry-is s ok i xs))
+      let z : i / planeSize g ≡ i / recordSize g / g .cx / g .cy % g .cz = sym (mod-eq-of-lt (high-below plane-some (rw planes-size l)))
+      ∙ ap (λ (k : ℕ). k % g .cz)
+      (sym (ap (λ (k : ℕ). k / g .cy) (div-div-eq-div-mul i (recordSize g) (g .cx)) ∙ div-div-eq-div-mul i (rowSize g) (g .cy))) in
+      rw (y .0, y .1, z, ← div-div-eq-div-mul i (recordSize g) (g .cx), ← div-add-mod (i % rowSize g) (recordSize g), x .0, x .1)
+      (sym (entry-is s ok i xs))

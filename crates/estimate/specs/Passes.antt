@@ -1,4 +1,5 @@
--- What the inner functions write. A pass takes three rows of numbers, at the lower neighbours, at the nodes and at the upper neighbours, and gives the
+-- What the inner functions write. A pass takes three rows of numbers, at the lower neighbours, at the nodes and at the upper neighbours,
+-- and gives the
 -- orders of each; the order is the fastest digit of the index. The axes are worked off in the order z, y, x.
 -- The promises of `estimate` mention none of this.
 use mathlib.Core.Path.{_≡_}

@@ -74,7 +74,8 @@ module _ (fin : ℕ → Bool) where
       (kept-first _ _ (kept-test (eqb (length rs) (size s)) 4 0 refl) (kept-want s want))
 
   -- and 5
-  kept-reading : (s : Shape) (rs : List ℤ) (want : Want) (cell u : Place) → withTen fin (reading s rs want cell u) ≡ reading s rs want cell u
+  kept-reading : (s : Shape) (rs : List ℤ) (want : Want) (cell u : Place)
+      → withTen fin (reading s rs want cell u) ≡ reading s rs want cell u
   unfolding reading cornersOutcome entryOutcome withTen
   kept-reading s rs want cell u =
       kept-first (cornersOutcome s rs cell) _ (ten-each (cornerEntries s) _ _ (λ i l.
@@ -126,7 +127,8 @@ module _ (s : Shape) (ok : Shaped s) (x : ℕ → Float) (fin : ℕ → Bool) (p
 
       not-finite : finite (x a) ≡ false → withTen fin (positionOutcome s p a) ≡ floatOutcome s x a
       not-finite e =
-          ap (λ (z : ℤ). withTen fin (refuseUnless (within z (last a)) 11 a)) (h .step-is a l ∙ pick-false (finite (x a)) (clamped (step steps (x a))) (negsuc 0) e)
+          ap (λ (z : ℤ). withTen fin (refuseUnless (within z (last a)) 11 a))
+          (h .step-is a l ∙ pick-false (finite (x a)) (clamped (step steps (x a))) (negsuc 0) e)
           ∙ ap (λ (k : ℕ). refused k a) (pick-false (fin a) 11 10 (h .finite-is a l ∙ e))
           ∙ sym (refused-first (positionOutcome s (stepsOf x) a) (ap (λ (t : Bool). refuseUnless t 10 a) e))
 
@@ -140,7 +142,8 @@ module _ (s : Shape) (ok : Shaped s) (x : ℕ → Float) (fin : ℕ → Bool) (p
     where
       go : (a : ℕ) → Dec (a < 3) → p a ≡ stepsOf x a
       go a (yes l) =
-          let f = first-done (refuseUnless (finite (x a)) 10 a) (positionOutcome s (stepsOf x) a) tt (firstOf-each 3 (floatOutcome s x) e a l) in
+          let f = first-done (refuseUnless (finite (x a)) 10 a) (positionOutcome s (stepsOf x) a) tt
+          (firstOf-each 3 (floatOutcome s x) e a l) in
           h .step-is a l ∙ pick-true (finite (x a)) (clamped (step steps (x a))) (negsuc 0) (refuse-done (finite (x a)) 10 a (f .0))
           ∙ clamped-same (step steps (x a)) (last a) (last-low a l)
           (ap (λ (z : ℤ). within z (last a)) (sym (steps-at x a l)) ∙ refuse-done (within (stepsOf x a) (last a)) 11 a (f .1))
@@ -149,12 +152,14 @@ module _ (s : Shape) (ok : Shaped s) (x : ℕ → Float) (fin : ℕ → Bool) (p
 
 -- ---- a whole query
 
-pub by-float : (s : Shape) (rs : List ℤ) (want : Want) (x : ℕ → Float) (fin : ℕ → Bool) (p : Position) → HeldSteps x fin p → withTen fin (byPosition s rs want p) ≡ byFloat s rs want x
+pub by-float : (s : Shape) (rs : List ℤ) (want : Want) (x : ℕ → Float) (fin : ℕ → Bool) (p : Position) → HeldSteps x fin p
+    → withTen fin (byPosition s rs want p) ≡ byFloat s rs want x
 unfolding byFloat byPosition
 by-float s rs want x fin p h =
     ten-first fin (askedOutcome s rs want) (first tested (read p))
     ∙ ap₂ (λ (c : Check) (o : Outcome ℤ). first c o) (kept-asked fin s rs want)
-    (ten-first fin tested (read p) ∙ ap (λ (o : Outcome ℤ). first (withTen fin tested) o) (kept-reading fin s rs want (positionCell s p) (positionStep s p)))
+    (ten-first fin tested (read p)
+    ∙ ap (λ (o : Outcome ℤ). first (withTen fin tested) o) (kept-reading fin s rs want (positionCell s p) (positionStep s p)))
     ∙ first-after (askedOutcome s rs want) (first (withTen fin tested) (read p)) (first (firstOf 3 (floatOutcome s x)) (read (stepsOf x)))
     (λ a. let ok = shaped s (asked-parts s rs want a .0) in
     ap (λ (c : Check). first c (read p)) (tests s ok x fin p h)
@@ -178,17 +183,21 @@ unfolding clamped
 clamped-mag (pos n) = omega arith
 clamped-mag (negsuc n) = omega arith
 
-held-step : (f : FloatStep) (x : Float) → Holds f x → (p : ℤ) → p ≡ heldStep f → toZ w32 (ofZ w32 p) ≡ pick (finite x) (clamped (step steps x)) (negsuc 0)
+held-step : (f : FloatStep) (x : Float) → Holds f x → (p : ℤ) → p ≡ heldStep f
+    → toZ w32 (ofZ w32 p) ≡ pick (finite x) (clamped (step steps x)) (negsuc 0)
 unfolding heldStep
 held-step f x h p e =
     let is = e ∙ ap₂ (λ (b : Bool) (z : ℤ). pick b z (negsuc 0)) (h .finite-is) (h .step-is) in
-    element p (subst (λ (z : ℤ). mag z < 2 ^ 31) (sym is) (on-pick (λ (z : ℤ). mag z < 2 ^ 31) (finite x) (clamped (step steps x)) (negsuc 0) (λ b. clamped-mag (step steps x)) (λ b. lit< tt))) ∙ is
+    element p (subst (λ (z : ℤ). mag z < 2 ^ 31) (sym is)
+    (on-pick (λ (z : ℤ). mag z < 2 ^ 31) (finite x) (clamped (step steps x)) (negsuc 0) (λ b. clamped-mag (step steps x))
+    (λ b. lit< tt))) ∙ is
 
 -- three steps as the code holds them
 abbrev pub held : ℤ → ℤ → ℤ → List ℤ
 held p q r = toZ w32 (ofZ w32 p) ∷ toZ w32 (ofZ w32 q) ∷ toZ w32 (ofZ w32 r) ∷ []
 
-pub three-held : (x : ℕ → Float) (f g h : FloatStep) → Holds f (x 0) → Holds g (x 1) → Holds h (x 2) → (p q r : ℤ) → p ≡ heldStep f → q ≡ heldStep g → r ≡ heldStep h
+pub three-held : (x : ℕ → Float) (f g h : FloatStep) → Holds f (x 0) → Holds g (x 1) → Holds h (x 2) → (p q r : ℤ) → p ≡ heldStep f
+    → q ≡ heldStep g → r ≡ heldStep h
     → HeldSteps x (finiteOn f g h) (positionAt (held p q r))
 unfolding positionAt finiteOn pick
 three-held x f g h i j k p q r u v w =

@@ -1,4 +1,5 @@
--- What float queries promise: the steps are nearest, the answer is that of the query by position at the steps, and its float has exactly this value.
+-- What float queries promise: the steps are nearest, the answer is that of the query by position at the steps, and its float has exactly
+-- this value.
 use mathlib.Core.Path.{_≡_, refl, ap, _∙_}
 use mathlib.Core.Bool.{true}
 use mathlib.Core.List.{List}
@@ -31,10 +32,12 @@ pub float-step : (x : ℕ → Float) (a : ℕ) → a < 3 → Nearest (pos steps 
 float-step x a l = rw (steps-at x a l) (step-nearest steps (x a))
 
 -- finite floats ask what their steps ask
-pub by-float-is : (s : Shape) (rs : List ℤ) (want : Want) (x : ℕ → Float) → ((a : ℕ) → a < 3 → finite (x a) ≡ true) → byFloat s rs want x ≡ byPosition s rs want (stepsOf x)
+pub by-float-is : (s : Shape) (rs : List ℤ) (want : Want) (x : ℕ → Float) → ((a : ℕ) → a < 3 → finite (x a) ≡ true)
+    → byFloat s rs want x ≡ byPosition s rs want (stepsOf x)
 unfolding byFloat byPosition floatOutcome
 by-float-is s rs want x h =
-    ap (λ (o : Check). first (askedOutcome s rs want) (first o (reading s rs want (positionCell s (stepsOf x)) (positionStep s (stepsOf x)))))
+    ap (λ (o : Check). first (askedOutcome s rs want)
+    (first o (reading s rs want (positionCell s (stepsOf x)) (positionStep s (stepsOf x)))))
     (firstOf-same 3 (floatOutcome s x) (positionOutcome s (stepsOf x))
     (λ a l. first-passed (refuseUnless (finite (x a)) 10 a) (positionOutcome s (stepsOf x) a) (passes (finite (x a)) 10 a (h a l))))
 

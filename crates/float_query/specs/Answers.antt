@@ -1,4 +1,5 @@
--- What a float answer says, for each case of `FloatReading`: a dose or a slope, with the whole number that its float equals, or the number and place of the refusal.
+-- What a float answer says, for each case of `FloatReading`: a dose or a slope, with the whole number that its float equals, or the number
+-- and place of the refusal.
 use mathlib.Core.Option.{Option, some}
 use lib.IntN.{ℤ}
 use Rattle.lattice.specs.Outcome.{Outcome, done, refused}

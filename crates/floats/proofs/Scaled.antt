@@ -1,4 +1,5 @@
--- 256 times a finite float, as the machine multiplies: exact, or an infinity where the product is 2^128 or more. So the product has the step of the float (`scaled`).
+-- 256 times a finite float, as the machine multiplies: exact, or an infinity where the product is 2^128 or more. So the product has the
+-- step of the float (`scaled`).
 use mathlib.Core.Path.{_≡_, refl, sym, ap, _∙_, subst}
 use mathlib.Core.Logic.{_⊎_, inl, inr}
 use Prim.Native.Nat.{ℕ, zero, suc, _+_, _-_, _*_, _%_, _^_, _≤_, _<_}
@@ -50,18 +51,23 @@ fits-says s (suc m) e t =
     (ltb→lt (suc m) (2 ^ 24) (and-r a b (and-l (a && b) c abc)), leb→le (down e) (2 ^ 149) (and-r (a && b) c abc))
 
 -- ---- exact below 2^128
-exact-at : (s : Bool) (n d q j : ℕ) → 0 < d → q < 2 ^ 24 → n < 2 ^ 128 * d → n * 2 ^ 149 ≡ q * 2 ^ j * d → HasValue (round binary32 s n d) s n d
+exact-at : (s : Bool) (n d q j : ℕ) → 0 < d → q < 2 ^ 24 → n < 2 ^ 128 * d → n * 2 ^ 149 ≡ q * 2 ^ j * d
+    → HasValue (round binary32 s n d) s n d
 exact-at s n d q j D Q N e =
     round-exact binary32 s n d q j D Q
-    (lt-of-mul-lt-mul-right d (lt-of-le-of-lt (le-of-eq (sym e)) (lt-of-lt-of-le (mul-lt-mul-of-pos-right N (pow-pos 149)) (le-of-eq (mul-right-comm (2 ^ 128) d (2 ^ 149)))))) e
+    (lt-of-mul-lt-mul-right d
+    (lt-of-le-of-lt (le-of-eq (sym e))
+    (lt-of-lt-of-le (mul-lt-mul-of-pos-right N (pow-pos 149)) (le-of-eq (mul-right-comm (2 ^ 128) d (2 ^ 149)))))) e
 
 pow-back : (a b : ℕ) → 2 ^ a ≤ 2 ^ b → a ≤ b
 pow-back a b h = le-of-suc-le-suc (lt-of-not-le (λ (g : suc b ≤ a). not-le-of-lt (pow-lt g) h))
 
-exact : (s : Bool) (m : ℕ) (e : ℤ) → m < 2 ^ 24 → down e ≤ 2 ^ 149 → m * up e * 256 < 2 ^ 128 * down e → HasValue (round binary32 s (m * up e * 256) (down e)) s (m * up e * 256) (down e)
+exact : (s : Bool) (m : ℕ) (e : ℤ) → m < 2 ^ 24 → down e ≤ 2 ^ 149 → m * up e * 256 < 2 ^ 128 * down e
+    → HasValue (round binary32 s (m * up e * 256) (down e)) s (m * up e * 256) (down e)
 exact s m (pos k) M L N =
     exact-at s (m * 2 ^ k * 256) 1 m (k + 157) (zero-lt-suc 0) M N
-    (mul-assoc (m * 2 ^ k) 256 (2 ^ 149) ∙ mul-assoc m (2 ^ k) (2 ^ 157) ∙ ap (λ (x : ℕ). m * x) (sym (pow-add 2 k 157)) ∙ sym (mul-one (m * 2 ^ (k + 157))))
+    (mul-assoc (m * 2 ^ k) 256 (2 ^ 149) ∙ mul-assoc m (2 ^ k) (2 ^ 157) ∙ ap (λ (x : ℕ). m * x) (sym (pow-add 2 k 157))
+    ∙ sym (mul-one (m * 2 ^ (k + 157))))
 exact s m (negsuc k) M L N =
     let j = 157 - suc k in
     exact-at s (m * 1 * 256) (2 ^ suc k) m j (pow-pos (suc k)) M N
@@ -111,7 +117,8 @@ product s m e t =
     subst (λ (v : Float). Product v s n d) (sym (ap (mul binary32 (fin s m e)) scale-is ∙ product-is s m e))
     (go (f .0) (f .1) (ltb n (2 ^ 128 * d)) (ltb→lt n (2 ^ 128 * d)) (nltb→le n (2 ^ 128 * d)))
   where
-    go : m < 2 ^ 24 → down e ≤ 2 ^ 149 → (b : Bool) → (T b → m * up e * 256 < 2 ^ 128 * down e) → (T (not b) → 2 ^ 128 * down e ≤ m * up e * 256)
+    go : m < 2 ^ 24 → down e ≤ 2 ^ 149 → (b : Bool) → (T b → m * up e * 256 < 2 ^ 128 * down e)
+        → (T (not b) → 2 ^ 128 * down e ≤ m * up e * 256)
         → Product (round binary32 s (m * up e * 256) (down e)) s (m * up e * 256) (down e)
     go M L true h k = inl (exact s m e M L (h tt))
     go M L false h k = inr (over s (m * up e * 256) (down e) (down-pos e) (k tt), le-trans (mul-le-mul-right (down e) (lit≤ tt)) (k tt))
@@ -121,7 +128,8 @@ of-product : (v : Float) (s : Bool) (n d : ℕ) → 0 < d → Product v s n d �
 of-product v s n d D (inl h) = held-value v s n d D h
 of-product v s n d D (inr h) = ap nearestHeld (h .0) ∙ sym (clamped-far s n d D (h .1))
 
-pub scaled : (s : Bool) (m : ℕ) (e : ℤ) → T (fits binary32 (fin s m e)) → nearestHeld (mul binary32 (fin s m e) scale) ≡ clamped (step 256 (fin s m e))
+pub scaled : (s : Bool) (m : ℕ) (e : ℤ) → T (fits binary32 (fin s m e))
+    → nearestHeld (mul binary32 (fin s m e) scale) ≡ clamped (step 256 (fin s m e))
 unfolding step
 scaled s m e t =
     of-product (mul binary32 (fin s m e) scale) s (m * up e * 256) (down e) (down-pos e) (product s m e t)

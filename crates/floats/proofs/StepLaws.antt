@@ -1,4 +1,5 @@
--- What the definitions of steps promise: a step is the nearest whole number, halves up; held in 32 bits it passes the same tests of a position.
+-- What the definitions of steps promise: a step is the nearest whole number, halves up; held in 32 bits it passes the same tests of a
+-- position.
 use mathlib.Core.Path.{_≡_, refl, ap, subst}
 use mathlib.Core.Bool.{Bool, true, false, _&&_, false≢true}
 use mathlib.Core.List.{[], _∷_}
@@ -72,11 +73,11 @@ clamped-same (negsuc n) limit h e = absurd (false≢true e)
 -- ---- numbers by sign and size
 pub signed-mul : (s : Bool) (a c : ℕ) → signed s a *ℤ pos c ≡ signed s (a * c)
 signed-mul false a c = refl
-signed-mul true a c = ring! (pos a ∷ pos c ∷ []) {x = negℤ (pos a) *ℤ pos c} {y = negℤ (pos a *ℤ pos c)} (search quotes depth 40) (search quotes depth 40) tt
+signed-mul true a c = ring! (pos a ∷ pos c ∷ []) {x = negℤ (pos a) *ℤ pos c} {y = negℤ (pos a *ℤ pos c)} (search quotes depth 40) tt
 
 pub mul-signed : (c : ℕ) (s : Bool) (a : ℕ) → pos c *ℤ signed s a ≡ signed s (c * a)
 mul-signed c false a = refl
-mul-signed c true a = ring! (pos a ∷ pos c ∷ []) {x = pos c *ℤ negℤ (pos a)} {y = negℤ (pos c *ℤ pos a)} (search quotes depth 40) (search quotes depth 40) tt
+mul-signed c true a = ring! (pos a ∷ pos c ∷ []) {x = pos c *ℤ negℤ (pos a)} {y = negℤ (pos c *ℤ pos a)} (search quotes depth 40) tt
 
 pub abs-signed : (s : Bool) (a : ℕ) → natAbs (signed s a) ≡ a
 abs-signed false a = refl
@@ -87,12 +88,15 @@ pub clamped-far : (s : Bool) (n y : ℕ) → 0 < y → 2 ^ 31 * y ≤ n → clam
 unfolding nearestHeld
 clamped-far false n y h l =
     let ρ = pos n ∷ pos y ∷ [] in
-    let m : (pos 2147483647 *ℤ pos y) ≤ℤ pos n = ℕ→le ρ (search quotes depth 40) (search quotes depth 40) (omega arith) in
-    clamped-high (roundHalfUp (pos n) y) (subst (λ z. z ≤ℤ roundHalfUp (pos n) y) (round-exact (pos 2147483647) y h) (round-mono (pos 2147483647 *ℤ pos y) (pos n) y h m))
+    let m : (pos 2147483647 *ℤ pos y) ≤ℤ pos n = ℕ→le ρ (search quotes depth 40) (omega arith) in
+    clamped-high (roundHalfUp (pos n) y)
+    (subst (λ z. z ≤ℤ roundHalfUp (pos n) y) (round-exact (pos 2147483647) y h) (round-mono (pos 2147483647 *ℤ pos y) (pos n) y h m))
 clamped-far true n y h l =
     let ρ = pos n ∷ pos y ∷ [] in
-    let m : negℤ (pos n) ≤ℤ (negsuc 2147483647 *ℤ pos y) = ℕ→le ρ (search quotes depth 40) (search quotes depth 40) (omega arith) in
-    clamped-low (roundHalfUp (negℤ (pos n)) y) (subst (λ z. roundHalfUp (negℤ (pos n)) y ≤ℤ z) (round-exact (negsuc 2147483647) y h) (round-mono (negℤ (pos n)) (negsuc 2147483647 *ℤ pos y) y h m))
+    let m : negℤ (pos n) ≤ℤ (negsuc 2147483647 *ℤ pos y) = ℕ→le ρ (search quotes depth 40) (omega arith) in
+    clamped-low (roundHalfUp (negℤ (pos n)) y)
+    (subst (λ z. roundHalfUp (negℤ (pos n)) y ≤ℤ z) (round-exact (negsuc 2147483647) y h)
+    (round-mono (negℤ (pos n)) (negsuc 2147483647 *ℤ pos y) y h m))
 
 -- a float that is ±n / d is held as the number nearest to ±n / d
 pub held-value : (v : Float) (s : Bool) (n d : ℕ) → 0 < d → HasValue v s n d → nearestHeld v ≡ clamped (roundHalfUp (signed s n) d)

@@ -50,8 +50,11 @@ whole-zero (fin s m e) f h =
     let a = m * up e in
     let t = taken (eqb (a % down e) 0 && not (s && eqb m 0)) (signed s (a / down e)) (pos 0) h in
     let n : a ≡ 0 = sym (abs-signed s a) ∙ ap natAbs (whole-exact (fin s m e) (pos 0) h .1 ∙ ap pos (zero-mul (down e))) in
-    whole-unique binary32 (fin s m e) (fin false 0 (pos 0)) false 0 f tt
-    (plus s m (no-digits m (up e) n (up-pos e)) (and-true (eqb (a % down e) 0) (not (s && eqb m 0)) (t .0) .1), ap (λ (i : ℕ). i * 1) n ∙ sym (zero-mul (down e))) (refl, refl)
+    whole-unique binary32 (fin s m e) (fin false 0 (pos 0)) false 0 f tt (
+      plus s m (no-digits m (up e) n (up-pos e)) (and-true (eqb (a % down e) 0) (not (s && eqb m 0)) (t .0) .1),
+      ap (λ (i : ℕ). i * 1) n
+          ∙ sym (zero-mul (down e)),
+    ) (refl, refl)
   where
     no-digits : (m u : ℕ) → m * u ≡ 0 → 0 < u → m ≡ 0
     no-digits zero u h p = refl
@@ -86,7 +89,8 @@ of-value (fin t m e) s n h p =
 pub whole-float : (v : ℤ) → natAbs v < 2 ^ 24 → wholeOf (ofInt binary32 v) ≡ some v
 unfolding ofInt
 whole-float (pos n) h = of-value (round binary32 false n 1) false n (round-whole binary32 false n (le-of-lt h)) (λ t. absurd (false≢true t))
-whole-float (negsuc n) h = of-value (round binary32 true (suc n) 1) true (suc n) (round-whole binary32 true (suc n) (le-of-lt h)) (λ t. zero-lt-suc n)
+whole-float (negsuc n) h =
+    of-value (round binary32 true (suc n) 1) true (suc n) (round-whole binary32 true (suc n) (le-of-lt h)) (λ t. zero-lt-suc n)
 
 pub in-float : (v : ℤ) → natAbs v < 2 ^ 24 → T (inFloat binary32 v)
 unfolding inFloat

@@ -1,4 +1,5 @@
--- The step that a float position becomes. A `Float` is nan, an infinity, or finite: `fin s m e`, the number m · 2^e, negative where s is true.
+-- The step that a float position becomes. A `Float` is nan, an infinity, or finite: `fin s m e`, the number m · 2^e, negative where s is
+-- true.
 use Prim.Native.Nat.{ℕ, _*_, min}
 use mathlib.Core.Bool.{Bool, true, false}
 use lib.IntN.{ℤ, pos, negsuc, negℤ, _*ℤ_}

@@ -25,10 +25,10 @@ unit k i = pick (eqb k i) (pos 1) (pos 0)
 
 pub solved-linear : (m : ℕ) (y : ℕ → ℤ) (o : ℕ) → solved m y o ≡ sum 3 (λ k. solved m (unit k) o *ℤ y k)
 unfolding solved sum pick
-solved-linear m y zero = ring! (y 0 ∷ y 1 ∷ y 2 ∷ []) (search quotes depth 40) (search quotes depth 40) tt
-solved-linear m y (suc zero) = ring! (y 0 ∷ y 1 ∷ y 2 ∷ multiplier m 1 0 ∷ []) (search quotes depth 40) (search quotes depth 40) tt
+solved-linear m y zero = ring! (y 0 ∷ y 1 ∷ y 2 ∷ []) (search quotes depth 40) tt
+solved-linear m y (suc zero) = ring! (y 0 ∷ y 1 ∷ y 2 ∷ multiplier m 1 0 ∷ []) (search quotes depth 40) tt
 solved-linear m y (suc (suc o)) =
-    ring! (y 0 ∷ y 1 ∷ y 2 ∷ multiplier m 1 0 ∷ multiplier m 2 0 ∷ multiplier m 2 1 ∷ []) (search quotes depth 40) (search quotes depth 40 fits 4000) tt
+    ring! (y 0 ∷ y 1 ∷ y 2 ∷ multiplier m 1 0 ∷ multiplier m 2 0 ∷ multiplier m 2 1 ∷ []) (record { left = search quotes depth 40; right = search quotes depth 40 fits 4000 }) tt
 
 pub backward-parts : (m : ℕ) (c : ℕ → ℤ) (t : ℕ) (low : Bool)
     → pick low (solved m c t) (mirrored (t - m) (solved m (λ k. c (2 * m - 1 - k)) (t - m)))
@@ -71,20 +71,20 @@ solved-ext m m2 m3 x y o l h =
 solved-table : (m : ℕ) → 2 ≤ m → m ≤ 3 → (o : ℕ) → o < m → (y : ℕ → ℤ) → solved m (λ k. sum m (λ p. multiplier m k p *ℤ y p)) o ≡ pos 2 *ℤ y o
 unfolding solved sum multiplier
 solved-table = by-order (λ m o. (y : ℕ → ℤ) → solved m (λ k. sum m (λ p. multiplier m k p *ℤ y p)) o ≡ pos 2 *ℤ y o)
-    (λ y. ring! (y 0 ∷ y 1 ∷ []) (search quotes depth 40) (search quotes depth 40) tt)
-    (λ y. ring! (y 0 ∷ y 1 ∷ []) (search quotes depth 40) (search quotes depth 40) tt)
-    (λ y. ring! (y 0 ∷ y 1 ∷ y 2 ∷ []) (search quotes depth 40) (search quotes depth 40) tt)
-    (λ y. ring! (y 0 ∷ y 1 ∷ y 2 ∷ []) (search quotes depth 40) (search quotes depth 40) tt)
-    (λ y. ring! (y 0 ∷ y 1 ∷ y 2 ∷ []) (search quotes depth 40 fits 4000) (search quotes depth 40) tt)
+    (λ y. ring! (y 0 ∷ y 1 ∷ []) (search quotes depth 40) tt)
+    (λ y. ring! (y 0 ∷ y 1 ∷ []) (search quotes depth 40) tt)
+    (λ y. ring! (y 0 ∷ y 1 ∷ y 2 ∷ []) (search quotes depth 40) tt)
+    (λ y. ring! (y 0 ∷ y 1 ∷ y 2 ∷ []) (search quotes depth 40) tt)
+    (λ y. ring! (y 0 ∷ y 1 ∷ y 2 ∷ []) (record { left = search quotes depth 40 fits 4000; right = search quotes depth 40 }) tt)
 
 table-solved : (m : ℕ) → 2 ≤ m → m ≤ 3 → (k : ℕ) → k < m → (y : ℕ → ℤ) → sum m (λ o. multiplier m k o *ℤ solved m y o) ≡ pos 2 *ℤ y k
 unfolding solved sum multiplier
 table-solved = by-order (λ m k. (y : ℕ → ℤ) → sum m (λ o. multiplier m k o *ℤ solved m y o) ≡ pos 2 *ℤ y k)
-    (λ y. ring! (y 0 ∷ y 1 ∷ []) (search quotes depth 40) (search quotes depth 40) tt)
-    (λ y. ring! (y 0 ∷ y 1 ∷ []) (search quotes depth 40) (search quotes depth 40) tt)
-    (λ y. ring! (y 0 ∷ y 1 ∷ y 2 ∷ []) (search quotes depth 40) (search quotes depth 40) tt)
-    (λ y. ring! (y 0 ∷ y 1 ∷ y 2 ∷ []) (search quotes depth 40) (search quotes depth 40) tt)
-    (λ y. ring! (y 0 ∷ y 1 ∷ y 2 ∷ []) (search quotes depth 40) (search quotes depth 40) tt)
+    (λ y. ring! (y 0 ∷ y 1 ∷ []) (search quotes depth 40) tt)
+    (λ y. ring! (y 0 ∷ y 1 ∷ []) (search quotes depth 40) tt)
+    (λ y. ring! (y 0 ∷ y 1 ∷ y 2 ∷ []) (search quotes depth 40) tt)
+    (λ y. ring! (y 0 ∷ y 1 ∷ y 2 ∷ []) (search quotes depth 40) tt)
+    (λ y. ring! (y 0 ∷ y 1 ∷ y 2 ∷ []) (search quotes depth 40) tt)
 
 -- ---- both ends
 

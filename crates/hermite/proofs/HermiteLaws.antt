@@ -39,7 +39,7 @@ stage-linear k m N c u = record { width = 2 * m; factor = λ j t. basis k m N u 
     W i = weightAt k m N u i
 
     regroup : (s x w : ℤ) → s *ℤ x *ℤ w ≡ s *ℤ w *ℤ x
-    regroup s x w = ring! (s ∷ x ∷ w ∷ []) (search quotes depth 40) (search quotes depth 40) tt
+    regroup s x w = ring! (s ∷ x ∷ w ∷ []) (search quotes depth 40) tt
 
     by-number : (y : ℕ → ℤ) → sum (2 * m) (λ i. sum (2 * m) (λ t. share m i t *ℤ y t) *ℤ W i) ≡ sum (2 * m) (λ t. basis k m N u t *ℤ y t)
     by-number y =
@@ -172,8 +172,8 @@ weight-mirrored (suc k) a b d i h =
     ∙ turn (pos i *ℤ weight k b a (d - 1) (i - 1)) (pos (d - i) *ℤ weight k b a (d - 1) i)
   where
     less : (k : ℕ) (x y : ℤ) → mirrored k y -ℤ mirrored k x ≡ negℤ (mirrored k (x -ℤ y))
-    less zero x y = ring! (x ∷ y ∷ []) (search quotes depth 40) (search quotes depth 40) tt
-    less (suc zero) x y = ring! (x ∷ y ∷ []) (search quotes depth 40) (search quotes depth 40) tt
+    less zero x y = ring! (x ∷ y ∷ []) (search quotes depth 40) tt
+    less (suc zero) x y = ring! (x ∷ y ∷ []) (search quotes depth 40) tt
     less (suc (suc k)) x y = less k x y
 
     turn : (x y : ℤ) → mirrored k y -ℤ mirrored k x ≡ mirrored (suc k) (x -ℤ y)

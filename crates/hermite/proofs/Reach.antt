@@ -125,12 +125,12 @@ shortfall x y h =
     rejoined x y h = omega arith
 
     less : (x k : ℤ) → x -ℤ (x +ℤ k) ≡ negℤ k
-    less x k = ring! (x ∷ k ∷ []) (search quotes depth 40) (search quotes depth 40) tt
+    less x k = ring! (x ∷ k ∷ []) (search quotes depth 40) tt
 
 -- the quintic D of an end: where a is at most three times b, 12a²b² is the larger part
 quintic-D : (a b : ℤ) → endBasis 1 3 a b 1 ≡ a *ℤ a *ℤ a *ℤ a +ℤ (pos 4 *ℤ (a *ℤ a *ℤ a *ℤ b) -ℤ pos 12 *ℤ (a *ℤ a *ℤ b *ℤ b))
 unfolding endBasis sum multiplier weight
-quintic-D a b = ring! (a ∷ b ∷ []) (search quotes depth 40) (search quotes depth 40) tt
+quintic-D a b = ring! (a ∷ b ∷ []) (search quotes depth 40) tt
 
 near-D : (a b : ℕ) → a ≤ 3 * b → natAbs (endBasis 1 3 (pos a) (pos b) 1) + 4 * (a * a * a * b) ≤ a * a * a * a + 12 * (a * a * b * b)
 near-D a b h =

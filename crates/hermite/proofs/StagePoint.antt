@@ -33,10 +33,10 @@ module _ (c : ℕ) (x : ℕ → ℤ) where
   unfolding forward sum share multiplier mirrored pick
   cubic-table =
       let ρ = cubic 0 ∷ cubic 1 ∷ cubic 2 ∷ cubic 3 ∷ [] in (
-        ring! ρ (search quotes depth 40) (search quotes depth 40) tt,
-        ring! ρ (search quotes depth 40) (search quotes depth 40) tt,
-        ring! ρ (search quotes depth 40) (search quotes depth 40) tt,
-        ring! ρ (search quotes depth 40) (search quotes depth 40) tt,
+        ring! ρ (search quotes depth 40) tt,
+        ring! ρ (search quotes depth 40) tt,
+        ring! ρ (search quotes depth 40) tt,
+        ring! ρ (search quotes depth 40) tt,
       )
 
   pub quintic-table : (forward 3 c x 0 ≡ pos 2 *ℤ quintic 0) × (forward 3 c x 1 ≡ pos 10 *ℤ quintic 0 +ℤ quintic 1)
@@ -46,12 +46,12 @@ module _ (c : ℕ) (x : ℕ → ℤ) where
   unfolding forward sum share multiplier mirrored pick
   quintic-table =
       let ρ = quintic 0 ∷ quintic 1 ∷ quintic 2 ∷ quintic 3 ∷ quintic 4 ∷ quintic 5 ∷ [] in (
-        ring! ρ (search quotes depth 40) (search quotes depth 40) tt,
-        ring! ρ (search quotes depth 40) (search quotes depth 40) tt,
-        ring! ρ (search quotes depth 40) (search quotes depth 40) tt,
-        ring! ρ (search quotes depth 40) (search quotes depth 40) tt,
-        ring! ρ (search quotes depth 40) (search quotes depth 40) tt,
-        ring! ρ (search quotes depth 40) (search quotes depth 40) tt,
+        ring! ρ (search quotes depth 40) tt,
+        ring! ρ (search quotes depth 40) tt,
+        ring! ρ (search quotes depth 40) tt,
+        ring! ρ (search quotes depth 40) tt,
+        ring! ρ (search quotes depth 40) tt,
+        ring! ρ (search quotes depth 40) tt,
       )
 
 -- ---- an end's part by powers
@@ -86,7 +86,7 @@ by-parts d M W (suc m) =
     S i = M i *ℤ (pos i *ℤ W (i - 1) -ℤ pos (d - i) *ℤ W i)
 
     regroup : (s x y i j e v w : ℤ) → s +ℤ x *ℤ (i *ℤ v -ℤ e *ℤ w) +ℤ j *ℤ y *ℤ w ≡ s +ℤ i *ℤ x *ℤ v +ℤ (j *ℤ y -ℤ e *ℤ x) *ℤ w
-    regroup s x y i j e v w = ring! (s ∷ x ∷ y ∷ i ∷ j ∷ e ∷ v ∷ w ∷ []) (search quotes depth 60) (search quotes depth 60) tt
+    regroup s x y i j e v w = ring! (s ∷ x ∷ y ∷ i ∷ j ∷ e ∷ v ∷ w ∷ []) (search quotes depth 60) tt
 
 -- rows by weights: each derivative of the weights goes over to the rows
 rows-by : (k e m o : ℕ) (a b : ℤ) → sum m (λ i. row e m i o *ℤ weight k a b (2 * m - 1 - e) i) ≡ sum m (λ j. row (e + k) m j o *ℤ (a ^ℤ (top (e + k) m - j) *ℤ b ^ℤ j))

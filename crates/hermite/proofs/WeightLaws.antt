@@ -30,16 +30,16 @@ module _ (a b : ℤ) where
 
   pub cubic-products : (a *ℤ a ≡ product 2 0) × (a *ℤ b ≡ product 2 1) × (b *ℤ b ≡ product 2 2)
   cubic-products = (
-    ring! (a ∷ b ∷ []) (search quotes depth 40) (search quotes depth 40) tt,
-    ring! (a ∷ b ∷ []) (search quotes depth 40) (search quotes depth 40) tt,
-    ring! (a ∷ b ∷ []) (search quotes depth 40) (search quotes depth 40) tt,
+    ring! (a ∷ b ∷ []) (search quotes depth 40) tt,
+    ring! (a ∷ b ∷ []) (search quotes depth 40) tt,
+    ring! (a ∷ b ∷ []) (search quotes depth 40) tt,
   )
 
   pub quintic-products : (a *ℤ a *ℤ (a *ℤ a) ≡ product 3 0) × (a *ℤ a *ℤ (a *ℤ b) ≡ product 3 1) × (a *ℤ b *ℤ (a *ℤ b) ≡ product 3 2)
   quintic-products = (
-    ring! (a ∷ b ∷ []) (search quotes depth 40) (search quotes depth 40) tt,
-    ring! (a ∷ b ∷ []) (search quotes depth 40) (search quotes depth 40) tt,
-    ring! (a ∷ b ∷ []) (search quotes depth 40) (search quotes depth 40) tt,
+    ring! (a ∷ b ∷ []) (search quotes depth 40) tt,
+    ring! (a ∷ b ∷ []) (search quotes depth 40) tt,
+    ring! (a ∷ b ∷ []) (search quotes depth 40) tt,
   )
 
   pub products-row : (m n : ℕ) → m ≡ n → (x y z : ℤ) → x ≡ product n 0 → y ≡ product n 1 → z ≡ product n 2 → (k : ℕ) → k < 3 → at (x ∷ y ∷ z ∷ []) k ≡ product m k

@@ -1,4 +1,5 @@
--- Laws of `along` and `sweep`, with the rules as parameters: a linear rule depends only on what it reads, two linear rules on different axes change places,
+-- Laws of `along` and `sweep`, with the rules as parameters: a linear rule depends only on what it reads, two linear rules on different
+-- axes change places,
 -- two rules on one axis are one rule.
 use mathlib.Core.Path.{_≡_, refl, sym, ap, subst, _∙_, fun-ext}
 use mathlib.Core.List.{List, [], _∷_}
@@ -64,23 +65,28 @@ pub record Linear (R : Rule) : Type 0 where
   pub is : (x : ℕ → ℤ) (j : ℕ) → R x j ≡ sum width (λ t. factor j t *ℤ x (place j t))
 
 -- it depends only on what it reads
-pub reads-only : {R : Rule} (L : Linear R) (x y : ℕ → ℤ) (j : ℕ) → ((t : ℕ) → t < L .width → x (L .place j t) ≡ y (L .place j t)) → R x j ≡ R y j
+pub reads-only : {R : Rule} (L : Linear R) (x y : ℕ → ℤ) (j : ℕ) → ((t : ℕ) → t < L .width → x (L .place j t) ≡ y (L .place j t))
+    → R x j ≡ R y j
 reads-only L x y j h =
     L .is x j
-    ∙ sum-ext (L .width) (λ t. L .factor j t *ℤ x (L .place j t)) (λ t. L .factor j t *ℤ y (L .place j t)) (λ t l. ap (λ z. L .factor j t *ℤ z) (h t l))
+    ∙ sum-ext (L .width) (λ t. L .factor j t *ℤ x (L .place j t)) (λ t. L .factor j t *ℤ y (L .place j t))
+    (λ t l. ap (λ z. L .factor j t *ℤ z) (h t l))
     ∙ sym (L .is y j)
 
 -- what it makes of numbers within B
-pub linear-size : {R : Rule} (L : Linear R) (x : ℕ → ℤ) (j B : ℕ) → ((t : ℕ) → t < L .width → natAbs (x (L .place j t)) ≤ B) → natAbs (R x j) ≤ total (L .width) (λ t. natAbs (L .factor j t)) * B
+pub linear-size : {R : Rule} (L : Linear R) (x : ℕ → ℤ) (j B : ℕ) → ((t : ℕ) → t < L .width → natAbs (x (L .place j t)) ≤ B)
+    → natAbs (R x j) ≤ total (L .width) (λ t. natAbs (L .factor j t)) * B
 linear-size L x j B h = le-trans (le-of-eq (ap natAbs (L .is x j))) (abs-weighted (L .width) (L .factor j) (λ t. x (L .place j t)) B h)
 
 module _ {R S : Rule} (K : Linear R) (L : Linear S) (g : Field) where
   -- two rules on different axes, as one sum
   along-two : (a b : ℕ) (p : Place) → (b ≡ a → ⊥)
-      → along a R (along b S g) p ≡ sum (K .width) (λ t. sum (L .width) (λ s. K .factor (p a) t *ℤ (L .factor (p b) s *ℤ g (put b (L .place (p b) s) (put a (K .place (p a) t) p)))))
+      → along a R (along b S g) p ≡ sum (K .width)
+      (λ t. sum (L .width) (λ s. K .factor (p a) t *ℤ (L .factor (p b) s *ℤ g (put b (L .place (p b) s) (put a (K .place (p a) t) p)))))
   along-two a b p n =
       K .is (λ t. along b S g (put a t p)) (p a)
-      ∙ sum-ext (K .width) (λ t. K .factor (p a) t *ℤ along b S g (put a (K .place (p a) t) p)) (λ t. sum (L .width) (λ s. K .factor (p a) t *ℤ (L .factor (p b) s *ℤ g (put b (L .place (p b) s) (put a (K .place (p a) t) p)))))
+      ∙ sum-ext (K .width) (λ t. K .factor (p a) t *ℤ along b S g (put a (K .place (p a) t) p))
+      (λ t. sum (L .width) (λ s. K .factor (p a) t *ℤ (L .factor (p b) s *ℤ g (put b (L .place (p b) s) (put a (K .place (p a) t) p)))))
       (λ t l. ap (λ z. K .factor (p a) t *ℤ z) (inner (put a (K .place (p a) t) p) (put-off a (K .place (p a) t) b p n))
       ∙ sym (sum-left (L .width) (K .factor (p a) t) (λ s. L .factor (p b) s *ℤ g (put b (L .place (p b) s) (put a (K .place (p a) t) p)))))
     where
@@ -88,7 +94,8 @@ module _ {R S : Rule} (K : Linear R) (L : Linear S) (g : Field) where
       inner q e = ap (λ (j : ℕ). S (λ s. g (put b s q)) j) e ∙ L .is (λ s. g (put b s q)) (p b)
 
 -- the order of two axes does not matter
-pub along-swap : {R S : Rule} → Linear R → Linear S → (a b : ℕ) → (a ≡ b → ⊥) → (g : Field) → along a R (along b S g) ≡ along b S (along a R g)
+pub along-swap : {R S : Rule} → Linear R → Linear S → (a b : ℕ) → (a ≡ b → ⊥) → (g : Field)
+    → along a R (along b S g) ≡ along b S (along a R g)
 along-swap {R} {S} K L a b n g = fun-ext (λ p. go p)
   where
     turn : b ≡ a → ⊥
@@ -97,9 +104,14 @@ along-swap {R} {S} K L a b n g = fun-ext (λ p. go p)
     go : (p : Place) → along a R (along b S g) p ≡ along b S (along a R g) p
     go p =
         along-two K L g a b p turn
-        ∙ sum-swap (K .width) (L .width) (λ t s. K .factor (p a) t *ℤ (L .factor (p b) s *ℤ g (put b (L .place (p b) s) (put a (K .place (p a) t) p))))
-        ∙ sum-ext (L .width) (λ s. sum (K .width) (λ t. K .factor (p a) t *ℤ (L .factor (p b) s *ℤ g (put b (L .place (p b) s) (put a (K .place (p a) t) p))))) (λ s. sum (K .width) (λ t. L .factor (p b) s *ℤ (K .factor (p a) t *ℤ g (put a (K .place (p a) t) (put b (L .place (p b) s) p)))))
-        (λ s l. sum-ext (K .width) (λ t. K .factor (p a) t *ℤ (L .factor (p b) s *ℤ g (put b (L .place (p b) s) (put a (K .place (p a) t) p)))) (λ t. L .factor (p b) s *ℤ (K .factor (p a) t *ℤ g (put a (K .place (p a) t) (put b (L .place (p b) s) p))))
+        ∙ sum-swap (K .width) (L .width)
+        (λ t s. K .factor (p a) t *ℤ (L .factor (p b) s *ℤ g (put b (L .place (p b) s) (put a (K .place (p a) t) p))))
+        ∙ sum-ext (L .width) (λ s. sum (K .width)
+        (λ t. K .factor (p a) t *ℤ (L .factor (p b) s *ℤ g (put b (L .place (p b) s) (put a (K .place (p a) t) p))))) (λ s. sum (K .width)
+        (λ t. L .factor (p b) s *ℤ (K .factor (p a) t *ℤ g (put a (K .place (p a) t) (put b (L .place (p b) s) p)))))
+        (λ s l. sum-ext (K .width)
+        (λ t. K .factor (p a) t *ℤ (L .factor (p b) s *ℤ g (put b (L .place (p b) s) (put a (K .place (p a) t) p))))
+        (λ t. L .factor (p b) s *ℤ (K .factor (p a) t *ℤ g (put a (K .place (p a) t) (put b (L .place (p b) s) p))))
         (λ t k. *ℤ-left-comm (K .factor (p a) t) (L .factor (p b) s) (g (put b (L .place (p b) s) (put a (K .place (p a) t) p)))
         ∙ ap (λ (q : Place). L .factor (p b) s *ℤ (K .factor (p a) t *ℤ g q)) (put-swap b a (L .place (p b) s) (K .place (p a) t) p turn)))
         ∙ sym (along-two L K g b a p n)
@@ -109,7 +121,8 @@ pub along-fuse : (R S : Rule) (a : ℕ) (g : Field) → along a R (along a S g) 
 along-fuse R S a g = fun-ext (λ p. ap (λ (x : ℕ → ℤ). R x (p a)) (fun-ext (λ t. inner p t)))
   where
     inner : (p : Place) (t : ℕ) → S (λ s. g (put a s (put a t p))) (put a t p a) ≡ S (λ s. g (put a s p)) t
-    inner p t = ap (λ (j : ℕ). S (λ s. g (put a s (put a t p))) j) (put-at a t p) ∙ ap (λ (x : ℕ → ℤ). S x t) (fun-ext (λ s. ap g (put-put a s t p)))
+    inner p t = ap (λ (j : ℕ). S (λ s. g (put a s (put a t p))) j) (put-at a t p)
+        ∙ ap (λ (x : ℕ → ℤ). S x t) (fun-ext (λ s. ap g (put-put a s t p)))
 
 -- ---- axis after axis
 
@@ -158,16 +171,19 @@ pub sweep-multiply : (n : ℕ) (z : ℤ) (g : Field) (p : Place) → sweep (axes
 unfolding sweep axes
 sweep-multiply zero z g p = sym (pos-one-*ℤ (g p))
 sweep-multiply (suc n) z g p =
-    ap (λ (q : Place). z *ℤ sweep (axes n) (λ a. multiply z) g q) (put-same n p) ∙ ap (λ y. z *ℤ y) (sweep-multiply n z g p) ∙ sym (*ℤ-assoc z (z ^ℤ n) (g p))
+    ap (λ (q : Place). z *ℤ sweep (axes n) (λ a. multiply z) g q) (put-same n p) ∙ ap (λ y. z *ℤ y) (sweep-multiply n z g p)
+    ∙ sym (*ℤ-assoc z (z ^ℤ n) (g p))
 
 -- a rule on another axis may come first or last
-pub sweep-past : (ls : List ℕ) (r : ℕ → Rule) → ((a : ℕ) → Linear (r a)) → {R : Rule} → Linear R → (a : ℕ) → Fresh a ls → (g : Field) → along a R (sweep ls r g) ≡ sweep ls r (along a R g)
+pub sweep-past : (ls : List ℕ) (r : ℕ → Rule) → ((a : ℕ) → Linear (r a)) → {R : Rule} → Linear R → (a : ℕ) → Fresh a ls → (g : Field)
+    → along a R (sweep ls r g) ≡ sweep ls r (along a R g)
 unfolding sweep
 sweep-past [] r L K a f g = refl
 sweep-past (b ∷ ls) r L {R} K a f g = along-swap K (L b) a b (f .0) (sweep ls r g) ∙ ap (along b (r b)) (sweep-past ls r L K a (f .1) g)
 
 -- two rules on each axis are one
-pub sweep-fuse : (ls : List ℕ) → Distinct ls → (r s : ℕ → Rule) → ((a : ℕ) → Linear (r a)) → ((a : ℕ) → Linear (s a)) → (g : Field) → sweep ls r (sweep ls s g) ≡ sweep ls (λ a x. r a (s a x)) g
+pub sweep-fuse : (ls : List ℕ) → Distinct ls → (r s : ℕ → Rule) → ((a : ℕ) → Linear (r a)) → ((a : ℕ) → Linear (s a)) → (g : Field)
+    → sweep ls r (sweep ls s g) ≡ sweep ls (λ a x. r a (s a x)) g
 unfolding sweep
 sweep-fuse [] d r s K L g = refl
 sweep-fuse (a ∷ ls) d r s K L g =
@@ -193,7 +209,8 @@ sweep-order (andThen h k) r L g = sweep-order h r L g ∙ sweep-order k r L g
 pub without-fresh : (l : ℕ) (ls : List ℕ) → Fresh l ls → without l ls ≡ ls
 unfolding without
 without-fresh l [] f = refl
-without-fresh l (a ∷ ls) f = pick-false (eqb a l) (without l ls) (a ∷ without l ls) (ne-eqb a l (λ e. f .0 (sym e))) ∙ ap (λ ms. a ∷ ms) (without-fresh l ls (f .1))
+without-fresh l (a ∷ ls) f = pick-false (eqb a l) (without l ls) (a ∷ without l ls) (ne-eqb a l (λ e. f .0 (sym e)))
+    ∙ ap (λ ms. a ∷ ms) (without-fresh l ls (f .1))
 
 -- a fact of each axis of a list, where one is left out
 pub each-without : (U : ℕ → Type 0) (l : ℕ) (ls : List ℕ) → Each (λ a. (a ≡ l → ⊥) → U a) ls → Each U (without l ls)
@@ -250,13 +267,17 @@ last-first (suc n) l h = go (λ k. last-first n l k) (ℕ-discrete n l)
     below : (n l : ℕ) → l < suc n → (n ≡ l → ⊥) → l < n
     below n l h k = omega arith
 
-    go : (l < n → Reordered (axes n) (l ∷ without l (axes n))) → Dec (n ≡ l) → Reordered (n ∷ axes n) (l ∷ pick (eqb n l) (without l (axes n)) (n ∷ without l (axes n)))
+    go : (l < n → Reordered (axes n) (l ∷ without l (axes n))) → Dec (n ≡ l)
+        → Reordered (n ∷ axes n) (l ∷ pick (eqb n l) (without l (axes n)) (n ∷ without l (axes n)))
     go r (yes e) =
         subst (λ ms. Reordered (n ∷ axes n) ms)
-        (ap (λ (i : ℕ). i ∷ axes n) e ∙ ap (λ ms. l ∷ ms) (sym (pick-true (eqb n l) (without l (axes n)) (n ∷ without l (axes n)) (eq-eqb n l e) ∙ without-fresh l (axes n) (subst (λ (i : ℕ). Fresh i (axes n)) e (fresh-axes n n (omega arith))))))
+        (ap (λ (i : ℕ). i ∷ axes n) e
+        ∙ ap (λ ms. l ∷ ms) (sym (pick-true (eqb n l) (without l (axes n)) (n ∷ without l (axes n)) (eq-eqb n l e)
+        ∙ without-fresh l (axes n) (subst (λ (i : ℕ). Fresh i (axes n)) e (fresh-axes n n (omega arith))))))
         same
     go r (no k) =
-        subst (λ ms. Reordered (n ∷ axes n) (l ∷ ms)) (sym (pick-false (eqb n l) (without l (axes n)) (n ∷ without l (axes n)) (ne-eqb n l k)))
+        subst (λ ms. Reordered (n ∷ axes n) (l ∷ ms))
+        (sym (pick-false (eqb n l) (without l (axes n)) (n ∷ without l (axes n)) (ne-eqb n l k)))
         (andThen (under (r (below n l h k))) (swapped k))
 
 -- a product over the axes, and their number, in any order

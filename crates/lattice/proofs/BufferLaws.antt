@@ -45,10 +45,12 @@ module _ {A : Type 0} where
     unfolding tabulate
     filled-more i now v d h e w =
         rw (e, w, drop-cons old i d h, add-one)
-        (set-at (tabulate i f) (getD old i d) (drop (suc i) old) (f i) i (length-tabulate i f) ∙ sym (append-snoc (tabulate i f) (f i) (drop (suc i) old)))
+        (set-at (tabulate i f) (getD old i d) (drop (suc i) old) (f i) i (length-tabulate i f)
+        ∙ sym (append-snoc (tabulate i f) (f i) (drop (suc i) old)))
 
     pub filled-length : (i : ℕ) (now : List A) → i ≤ length old → Filled f old i now → length now ≡ length old
-    filled-length i now h e = ap length e ∙ length-append (tabulate i f) (drop i old) ∙ omega (arith, length-tabulate i f, length-drop i old)
+    filled-length i now h e = ap length e ∙ length-append (tabulate i f) (drop i old)
+        ∙ omega (arith, length-tabulate i f, length-drop i old)
 
     pub filled-all : (n : ℕ) (now : List A) → Filled f old n now → now ≡ overwrite (tabulate n f) old
     filled-all n now e = e ∙ ap (λ (k : ℕ). tabulate n f ++ drop k old) (sym (length-tabulate n f))
@@ -67,7 +69,8 @@ module _ {A : Type 0} where
   sets-front vs l h = sets-eq vs l 0 (omega arith) ∙ ap (λ (k : ℕ). vs ++ drop k l) (zero-add (length vs))
 
   -- one element more of a list
-  pub sets-next : (vs l : List A) (i k : ℕ) (d : A) → k < length vs → set (sets l i (take k vs)) (i + k) (getD vs k d) ≡ sets l i (take (k + 1) vs)
+  pub sets-next : (vs l : List A) (i k : ℕ) (d : A) → k < length vs
+      → set (sets l i (take k vs)) (i + k) (getD vs k d) ≡ sets l i (take (k + 1) vs)
   sets-next vs l i k d h =
       ap (λ (j : ℕ). set (sets l i (take k vs)) (i + j) (getD vs k d)) (sym (length-take-le k vs (omega arith)))
       ∙ sym (sets-append (take k vs) (getD vs k d ∷ []) l i)
@@ -79,12 +82,15 @@ module _ {A : Type 0} where
 pub tabulate-same : (n : ℕ) (f g : ℕ → ℤ) → ((i : ℕ) → i < n → f i ≡ g i) → tabulate n f ≡ tabulate n g
 unfolding tabulate
 tabulate-same zero f g h = refl
-tabulate-same (suc n) f g h = ap (λ (l : List ℤ). l ++ (f n ∷ [])) (tabulate-same n f g (λ i l. h i (omega arith))) ∙ ap (λ z. tabulate n g ++ (z ∷ [])) (h n (omega arith))
+tabulate-same (suc n) f g h = ap (λ (l : List ℤ). l ++ (f n ∷ [])) (tabulate-same n f g (λ i l. h i (omega arith)))
+    ∙ ap (λ z. tabulate n g ++ (z ∷ [])) (h n (omega arith))
 
 -- an array of which the first i numbers are known, and one more
-pub fill : (l : List ℤ) (i : ℕ) (f : ℕ → ℤ) (v : ℤ) → i < length l → ((j : ℕ) → j < i → at l j ≡ f j) → v ≡ f i → (j : ℕ) → j < i + 1 → at (set l i v) j ≡ f j
+pub fill : (l : List ℤ) (i : ℕ) (f : ℕ → ℤ) (v : ℤ) → i < length l → ((j : ℕ) → j < i → at l j ≡ f j) → v ≡ f i → (j : ℕ) → j < i + 1
+    → at (set l i v) j ≡ f j
 fill l i f v h p e =
-    below-more (λ j. at (set l i v) j ≡ f j) i (λ j q. getD-set-other l i j v (pos 0) (λ z. apart j i q z) ∙ p j q) (getD-set-same l i v (pos 0) h ∙ e)
+    below-more (λ j. at (set l i v) j ≡ f j) i (λ j q. getD-set-other l i j v (pos 0) (λ z. apart j i q z) ∙ p j q)
+    (getD-set-same l i v (pos 0) h ∙ e)
   where
     apart : (j i : ℕ) → j < i → j ≡ i → ⊥
     apart j i q z = omega arith

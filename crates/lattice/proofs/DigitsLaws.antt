@@ -42,7 +42,8 @@ digit-none radix (suc a) = ap (λ (v : ℕ). digit (λ b. radix (suc b)) v a) (z
 pub above-zero : {a b : ℕ} → a < b → 0 < b
 above-zero h = omega arith
 
-pub digit-number : (n : ℕ) (radix p : ℕ → ℕ) → ((a : ℕ) → a < n → p a < radix a) → ((a : ℕ) → n ≤ a → p a ≡ 0) → (a : ℕ) → digit radix (number n radix p) a ≡ p a
+pub digit-number : (n : ℕ) (radix p : ℕ → ℕ) → ((a : ℕ) → a < n → p a < radix a) → ((a : ℕ) → n ≤ a → p a ≡ 0) → (a : ℕ)
+    → digit radix (number n radix p) a ≡ p a
 unfolding digit number
 digit-number zero radix p h k a = digit-none radix a ∙ sym (k a (omega arith))
 digit-number (suc n) radix p h k zero =
@@ -51,7 +52,9 @@ digit-number (suc n) radix p h k zero =
 digit-number (suc n) radix p h k (suc a) =
     let z : p 0 < radix 0 = h 0 (omega arith) in
     ap (λ (v : ℕ). digit (λ b. radix (suc b)) v a)
-    (add-mul-div-left (p 0) (number n (λ a. radix (suc a)) (λ a. p (suc a))) (above-zero z) ∙ ap (λ (v : ℕ). v + number n (λ a. radix (suc a)) (λ a. p (suc a))) (div-eq-of-lt z) ∙ zero-add (number n (λ a. radix (suc a)) (λ a. p (suc a))))
+    (add-mul-div-left (p 0) (number n (λ a. radix (suc a)) (λ a. p (suc a))) (above-zero z)
+    ∙ ap (λ (v : ℕ). v + number n (λ a. radix (suc a)) (λ a. p (suc a))) (div-eq-of-lt z)
+    ∙ zero-add (number n (λ a. radix (suc a)) (λ a. p (suc a))))
     ∙ digit-number n (λ b. radix (suc b)) (λ b. p (suc b)) (λ b l. h (suc b) (omega arith)) (λ b l. k (suc b) (omega arith)) a
 
 pub digit-below : (radix : ℕ → ℕ) (v a : ℕ) → 0 < radix a → digit radix v a < radix a

@@ -1,4 +1,5 @@
--- Two sweeps whose rules carry one relation of places into another are equal where the fields are. Locality of `sweep`: where each axis's rule, for the places S that are asked for, depends on the places T only, a sweep depends on the field at T only.
+-- Two sweeps whose rules carry one relation of places into another are equal where the fields are. Locality of `sweep`: where each axis's
+-- rule, for the places S that are asked for, depends on the places T only, a sweep depends on the field at T only.
 use mathlib.Core.Path.{_≡_, refl, sym, ap, subst, _∙_, fun-ext}
 use mathlib.Core.List.{List, [], _∷_}
 use Prim.Native.Nat.{ℕ, zero, suc, _≤_, _<_}
@@ -58,7 +59,8 @@ module _ (S T : ℕ → ℕ → Type 0) where
     pub done : (b : ℕ) → (Fresh b ls → ⊥) → S b (p b)
     pub left : (b : ℕ) → Fresh b ls → T b (p b)
 
-  carried : (r : ℕ → Rule) (ls : List ℕ) → Each (λ a. Depends (r a) (S a) (T a)) ls → Each (λ a. Carries (r a) (r a) (Same S a) (Same T a)) ls
+  carried : (r : ℕ → Rule) (ls : List ℕ) → Each (λ a. Depends (r a) (S a) (T a)) ls
+      → Each (λ a. Carries (r a) (r a) (Same S a) (Same T a)) ls
   carried r [] dep = tt
   carried r (a ∷ ls) dep =
       (λ x y j k s e. ap (λ (i : ℕ). r a x i) (s .0) ∙ dep .0 x y k (s .1) (λ t h. e t t (refl, h)), carried r ls (dep .1))

@@ -75,20 +75,24 @@ firstOf-each (suc n) test h a l =
 pub firstOf-passes : (n : ℕ) (test : ℕ → Check) → ((a : ℕ) → a < n → test a ≡ done tt) → firstOf n test ≡ done tt
 unfolding firstOf
 firstOf-passes zero test h = refl
-firstOf-passes (suc n) test h = first-passed (firstOf n test) (test n) (firstOf-passes n test (λ a l. h a (omega arith))) ∙ h n (omega arith)
+firstOf-passes (suc n) test h = first-passed (firstOf n test) (test n) (firstOf-passes n test (λ a l. h a (omega arith)))
+    ∙ h n (omega arith)
 
 -- a scan that stops at its first refusal
-pub firstOf-stops : (n i : ℕ) (test : ℕ → Check) (k p : ℕ) → i < n → firstOf i test ≡ done tt → test i ≡ refused k p → firstOf n test ≡ refused k p
+pub firstOf-stops : (n i : ℕ) (test : ℕ → Check) (k p : ℕ) → i < n → firstOf i test ≡ done tt → test i ≡ refused k p
+    → firstOf n test ≡ refused k p
 unfolding firstOf
 firstOf-stops zero i test k p l h e = absurd (not-suc-le-zero l)
 firstOf-stops (suc n) i test k p l h e =
     ⊎-elim
-    (λ (j : i ≡ n). first-passed (firstOf n test) (test n) (subst (λ (m : ℕ). firstOf m test ≡ done tt) j h) ∙ subst (λ (m : ℕ). test m ≡ refused k p) j e)
+    (λ (j : i ≡ n). first-passed (firstOf n test) (test n) (subst (λ (m : ℕ). firstOf m test ≡ done tt) j h)
+    ∙ subst (λ (m : ℕ). test m ≡ refused k p) j e)
     (λ (j : i < n). refused-first (test n) (firstOf-stops n i test k p j h e)) (eq-or-lt-of-le (le-of-suc-le-suc l))
 
 -- a test of each axis, one after the other
 pub scanned : (number : ℕ) (test : ℕ → Bool) {tx ty tz : Bool} {x y z : Check} → tx ≡ test 0 → ty ≡ test 1 → tz ≡ test 2
-    → x ≡ refuseUnless tx number 0 → y ≡ first x (refuseUnless ty number 1) → z ≡ first y (refuseUnless tz number 2) → z ≡ onAxes number test
+    → x ≡ refuseUnless tx number 0 → y ≡ first x (refuseUnless ty number 1) → z ≡ first y (refuseUnless tz number 2)
+    → z ≡ onAxes number test
 unfolding firstOf
 scanned number test ex ey ez hx hy hz = rw (hz, hy, hx, ex, ey, ez) refl
 
@@ -120,11 +124,13 @@ firstOf-add a (suc b) test =
 pub firstOf-same : (n : ℕ) (f g : ℕ → Check) → ((i : ℕ) → i < n → f i ≡ g i) → firstOf n f ≡ firstOf n g
 unfolding firstOf
 firstOf-same zero f g h = refl
-firstOf-same (suc n) f g h = ap (λ (x : Check). first x (f n)) (firstOf-same n f g (λ i l. h i (omega arith))) ∙ ap (λ (x : Check). first (firstOf n g) x) (h n (omega arith))
+firstOf-same (suc n) f g h = ap (λ (x : Check). first x (f n)) (firstOf-same n f g (λ i l. h i (omega arith)))
+    ∙ ap (λ (x : Check). first (firstOf n g) x) (h n (omega arith))
 
 -- tests in k runs of n
 pub firstOf-rows : (n k : ℕ) (test : ℕ → Check) → firstOf (n * k) test ≡ firstOf k (λ c. firstOf n (λ e. test (n * c + e)))
 unfolding firstOf
 firstOf-rows n zero test = ap (λ (i : ℕ). firstOf i test) (mul-zero n)
 firstOf-rows n (suc k) test =
-    ap (λ (i : ℕ). firstOf i test) (mul-suc n k) ∙ firstOf-add (n * k) n test ∙ ap (λ (x : Check). first x (firstOf n (λ e. test (n * k + e)))) (firstOf-rows n k test)
+    ap (λ (i : ℕ). firstOf i test) (mul-suc n k) ∙ firstOf-add (n * k) n test
+    ∙ ap (λ (x : Check). first x (firstOf n (λ e. test (n * k + e)))) (firstOf-rows n k test)

@@ -28,21 +28,25 @@ index-below [] width p h = omega arith
 index-below (a ∷ ls) width p h = let z = mul-le-mul-left (width a) (index-below ls width p (h .1)) in let y = h .0 in omega arith
 
 -- only the digits and the widths of the listed axes count
-index-same : (ls : List ℕ) (width width′ p p′ : Place) → Each (λ a. (width a ≡ width′ a) × (p a ≡ p′ a)) ls → indexOf ls width p ≡ indexOf ls width′ p′
+index-same : (ls : List ℕ) (width width′ p p′ : Place) → Each (λ a. (width a ≡ width′ a) × (p a ≡ p′ a)) ls
+    → indexOf ls width p ≡ indexOf ls width′ p′
 unfolding indexOf
 index-same [] width width′ p p′ h = refl
 index-same (a ∷ ls) width width′ p p′ h =
-    ap (λ (i : ℕ). i + width a * indexOf ls width p) (h .0 .1) ∙ ap (λ (i : ℕ). p′ a + i * indexOf ls width p) (h .0 .0) ∙ ap (λ (i : ℕ). p′ a + width′ a * i) (index-same ls width width′ p p′ (h .1))
+    ap (λ (i : ℕ). i + width a * indexOf ls width p) (h .0 .1) ∙ ap (λ (i : ℕ). p′ a + i * indexOf ls width p) (h .0 .0)
+    ∙ ap (λ (i : ℕ). p′ a + width′ a * i) (index-same ls width width′ p p′ (h .1))
 
 size-same : (ls : List ℕ) (width width′ : Place) → Each (λ a. width a ≡ width′ a) ls → sizeOf ls width ≡ sizeOf ls width′
 unfolding sizeOf
 size-same [] width width′ h = refl
-size-same (a ∷ ls) width width′ h = ap (λ (i : ℕ). i * sizeOf ls width) (h .0) ∙ ap (λ (i : ℕ). width′ a * i) (size-same ls width width′ (h .1))
+size-same (a ∷ ls) width width′ h = ap (λ (i : ℕ). i * sizeOf ls width) (h .0)
+    ∙ ap (λ (i : ℕ). width′ a * i) (size-same ls width width′ (h .1))
 
 index-snoc : (ls : List ℕ) (a : ℕ) (width p : Place) → indexOf (ls ++ (a ∷ [])) width p ≡ indexOf ls width p + sizeOf ls width * p a
 unfolding indexOf sizeOf
 index-snoc [] a width p = omega arith
-index-snoc (b ∷ ls) a width p = let e = index-snoc ls a width p in ap (λ (i : ℕ). p b + width b * i) e ∙ regroup (p b) (width b) (indexOf ls width p) (sizeOf ls width) (p a)
+index-snoc (b ∷ ls) a width p = let e = index-snoc ls a width p in ap (λ (i : ℕ). p b + width b * i) e
+    ∙ regroup (p b) (width b) (indexOf ls width p) (sizeOf ls width) (p a)
   where
     regroup : (x w i s y : ℕ) → x + w * (i + s * y) ≡ x + w * i + w * s * y
     regroup x w i s y = omega arith
@@ -72,7 +76,8 @@ fresh-snoc b a (c ∷ ls) f n = (f .0, fresh-snoc b a ls (f .1) n)
 -- ---- one pass
 
 module _ (a : ℕ) (ls : List ℕ) (width : Place) (v : ℕ) (rule : Rule) (xs : ℕ → ℤ) (g : Field) (fresh : Fresh a ls) where
-  pub pass-along : Depends rule (λ j. j < v) (λ t. t < width a) → Holds (a ∷ ls) width xs g → Holds (ls ++ (a ∷ [])) (put a v width) (pass (width a) (sizeOf ls width) rule xs) (along a rule g)
+  pub pass-along : Depends rule (λ j. j < v) (λ t. t < width a) → Holds (a ∷ ls) width xs g
+      → Holds (ls ++ (a ∷ [])) (put a v width) (pass (width a) (sizeOf ls width) rule xs) (along a rule g)
   unfolding pass indexOf
   pass-along dep holds p h =
       ap (λ (k : ℕ). rule (λ t. xs (width a * (k % r) + t)) (k / r)) at
@@ -87,7 +92,8 @@ module _ (a : ℕ) (ls : List ℕ) (width : Place) (v : ℕ) (rule : Rule) (xs :
       r = sizeOf ls width
 
       digits : Each (λ b. p b < width b) ls
-      digits = each-off (λ b. p b < put a v width b) (λ b. p b < width b) a ls fresh (λ b n k. subst (λ (w : ℕ). p b < w) (put-off a v b width n) k) (each-front (λ b. p b < put a v width b) ls (a ∷ []) (h .digits))
+      digits = each-off (λ b. p b < put a v width b) (λ b. p b < width b) a ls fresh
+          (λ b n k. subst (λ (w : ℕ). p b < w) (put-off a v b width n) k) (each-front (λ b. p b < put a v width b) ls (a ∷ []) (h .digits))
 
       last : p a < v
       last = subst (λ (w : ℕ). p a < w) (put-at a v width) (each-back (λ b. p b < put a v width b) ls (a ∷ []) (h .digits) .0)
@@ -98,8 +104,14 @@ module _ (a : ℕ) (ls : List ℕ) (width : Place) (v : ℕ) (rule : Rule) (xs :
       at : indexOf (ls ++ (a ∷ [])) (put a v width) p ≡ i + r * p a
       at =
           index-snoc ls a (put a v width) p
-          ∙ ap (λ (k : ℕ). k + sizeOf ls (put a v width) * p a) (index-same ls (put a v width) width p p (each-off (λ b. Unit {0}) (λ b. (put a v width b ≡ width b) × (p b ≡ p b)) a ls fresh (λ b n k. (put-off a v b width n, refl)) (each-any (λ b. Unit {0}) ls (λ b. tt))))
-          ∙ ap (λ (k : ℕ). i + k * p a) (size-same ls (put a v width) width (each-off (λ b. Unit {0}) (λ b. put a v width b ≡ width b) a ls fresh (λ b n k. put-off a v b width n) (each-any (λ b. Unit {0}) ls (λ b. tt))))
+          ∙ ap (λ (k : ℕ). k + sizeOf ls (put a v width) * p a)
+          (index-same ls (put a v width) width p p
+          (each-off (λ b. Unit {0}) (λ b. (put a v width b ≡ width b) × (p b ≡ p b)) a ls fresh (λ b n k. (put-off a v b width n, refl))
+          (each-any (λ b. Unit {0}) ls (λ b. tt))))
+          ∙ ap (λ (k : ℕ). i + k * p a)
+          (size-same ls (put a v width) width
+          (each-off (λ b. Unit {0}) (λ b. put a v width b ≡ width b) a ls fresh (λ b n k. put-off a v b width n)
+          (each-any (λ b. Unit {0}) ls (λ b. tt))))
 
       low : (i + r * p a) % r ≡ i
       low = add-mul-mod-self-left i r (p a) ∙ mod-eq-of-lt below
@@ -108,16 +120,24 @@ module _ (a : ℕ) (ls : List ℕ) (width : Place) (v : ℕ) (rule : Rule) (xs :
       high = add-mul-div-left i (p a) (above-zero below) ∙ ap (λ (k : ℕ). k + p a) (div-eq-of-lt below) ∙ zero-add (p a)
 
       moved : (t : ℕ) → indexOf ls width (put a t p) ≡ i
-      moved t = index-same ls width width (put a t p) p (each-off (λ b. Unit {0}) (λ b. (width b ≡ width b) × (put a t p b ≡ p b)) a ls fresh (λ b n k. (refl, put-off a t b p n)) (each-any (λ b. Unit {0}) ls (λ b. tt)))
+      moved t = index-same ls width width (put a t p) p
+          (each-off (λ b. Unit {0}) (λ b. (width b ≡ width b) × (put a t p b ≡ p b)) a ls fresh (λ b n k. (refl, put-off a t b p n))
+          (each-any (λ b. Unit {0}) ls (λ b. tt)))
 
       turn : (x y : ℕ) → x + y ≡ y + x
       turn x y = omega arith
 
       there : (t : ℕ) → t < width a → Below (a ∷ ls) width (put a t p)
       there t l = record {
-        digits = (subst (λ (k : ℕ). k < width a) (sym (put-at a t p)) l, each-off (λ b. p b < width b) (λ b. put a t p b < width b) a ls fresh (λ b n k. subst (λ (j : ℕ). j < width b) (sym (put-off a t b p n)) k) digits);
+        digits = (
+          subst (λ (k : ℕ). k < width a) (sym (put-at a t p)) l,
+          each-off (λ b. p b < width b) (λ b. put a t p b < width b) a ls fresh
+              (λ b n k. subst (λ (j : ℕ). j < width b) (sym (put-off a t b p n)) k) digits,
+        );
         others = λ b f. put-off a t b p (f .0) ∙ h .others b (fresh-snoc b a ls (f .1) (f .0));
       }
 
       each : (t : ℕ) → t < width a → xs (width a * i + t) ≡ g (put a t p)
-      each t l = ap xs (turn (width a * i) t ∙ sym (ap (λ (k : ℕ). k + width a * indexOf ls width (put a t p)) (put-at a t p) ∙ ap (λ (k : ℕ). t + width a * k) (moved t))) ∙ holds (put a t p) (there t l)
+      each t l = ap xs (turn (width a * i) t
+          ∙ sym (ap (λ (k : ℕ). k + width a * indexOf ls width (put a t p)) (put-at a t p)
+          ∙ ap (λ (k : ℕ). t + width a * k) (moved t))) ∙ holds (put a t p) (there t l)

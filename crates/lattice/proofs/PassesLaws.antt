@@ -76,7 +76,8 @@ length-rising (suc a) = length-append (rising a) (a ∷ []) ∙ omega (arith, le
 from-rising : (a k : ℕ) → rising a ++ from a k ≡ rising (a + k)
 unfolding from rising
 from-rising a zero = append-nil (rising a) ∙ ap rising (sym (add-zero a))
-from-rising a (suc k) = sym (append-assoc (rising a) (a ∷ []) (from (suc a) k)) ∙ from-rising (suc a) k ∙ ap rising (let e : suc a + k ≡ a + suc k = omega arith in e)
+from-rising a (suc k) = sym (append-assoc (rising a) (a ∷ []) (from (suc a) k)) ∙ from-rising (suc a) k
+    ∙ ap rising (let e : suc a + k ≡ a + suc k = omega arith in e)
 
 -- facts of each rising axis
 each-rising : (n : ℕ) (U : ℕ → Type 0) → ((a : ℕ) → a < n → U a) → Each U (rising n)
@@ -101,7 +102,10 @@ module _ (m : ℕ) where
   index-from : (n a : ℕ) (p : Place) → indexOf (from a n) (λ b. m) p ≡ number n (λ b. m) (λ b. p (a + b))
   unfolding indexOf from number
   index-from zero a p = refl
-  index-from (suc n) a p = ap (λ (k : ℕ). k + m * indexOf (from (suc a) n) (λ b. m) p) (ap p (sym (add-zero a))) ∙ ap (λ (k : ℕ). p (a + 0) + m * k) (index-from n (suc a) p ∙ ap (λ (q : Place). number n (λ b. m) q) (fun-ext (λ b. ap p (let e : suc a + b ≡ a + suc b = omega arith in e))))
+  index-from (suc n) a p = ap (λ (k : ℕ). k + m * indexOf (from (suc a) n) (λ b. m) p) (ap p (sym (add-zero a)))
+      ∙ ap (λ (k : ℕ). p (a + 0) + m * k)
+      (index-from n (suc a) p ∙ ap (λ (q : Place). number n (λ b. m) q)
+      (fun-ext (λ b. ap p (let e : suc a + b ≡ a + suc b = omega arith in e))))
 
   index-number : (n : ℕ) (p : Place) → indexOf (rising n) (λ b. m) p ≡ number n (λ b. m) p
   unfolding rising
@@ -116,15 +120,20 @@ unfoldable pub passes : ℕ → ℕ → (ℕ → Rule) → ℕ → (ℕ → ℤ)
 passes m r rule zero xs = xs
 passes m r rule (suc i) xs = pass m r (rule i) (passes m r rule i xs)
 
-module _ (m n r : ℕ) (some : 0 < m) (groups : (j : ℕ) → suc j ≡ n → r ≡ m ^ j) (rule : ℕ → Rule) (dep : (i : ℕ) → Depends (rule i) (λ j. j < m) (λ t. t < m)) where
+module _ (m n r : ℕ) (some : 0 < m) (groups : (j : ℕ) → suc j ≡ n → r ≡ m ^ j) (rule : ℕ → Rule)
+    (dep : (i : ℕ) → Depends (rule i) (λ j. j < m) (λ t. t < m)) where
   -- one pass: the digit of axis i becomes the slowest
-  turn : (i k : ℕ) → suc i + k ≡ n → (ys : ℕ → ℤ) (G : Field) → Holds (i ∷ (from (suc i) k ++ rising i)) (λ a. m) ys G → Holds (from (suc i) k ++ rising (suc i)) (λ a. m) (pass m r (rule i) ys) (along i (rule i) G)
+  turn : (i k : ℕ) → suc i + k ≡ n → (ys : ℕ → ℤ) (G : Field) → Holds (i ∷ (from (suc i) k ++ rising i)) (λ a. m) ys G
+      → Holds (from (suc i) k ++ rising (suc i)) (λ a. m) (pass m r (rule i) ys) (along i (rule i) G)
   unfolding rising
   turn i k e ys G h =
-      subst (λ (ms : List ℕ). Holds ms (λ a. m) (pass m r (rule i) ys) (along i (rule i) G)) (append-assoc (from (suc i) k) (rising i) (i ∷ []))
+      subst (λ (ms : List ℕ). Holds ms (λ a. m) (pass m r (rule i) ys) (along i (rule i) G))
+      (append-assoc (from (suc i) k) (rising i) (i ∷ []))
       (subst (λ (w : Place). Holds (ls ++ (i ∷ [])) w (pass m r (rule i) ys) (along i (rule i) G)) (put-same i (λ b. m))
-      (subst (λ (s : ℕ). Holds (ls ++ (i ∷ [])) (put i m (λ b. m)) (pass m s (rule i) ys) (along i (rule i) G)) (size-power m ls ∙ ap (λ (j : ℕ). m ^ j) many ∙ sym (groups (k + i) (omega arith)))
-      (pass-along i ls (λ b. m) m (rule i) ys G (fresh-both i (from (suc i) k) (rising i) (fresh-from i (suc i) k (omega arith)) (fresh-rising i i (omega arith))) (dep i) h)))
+      (subst (λ (s : ℕ). Holds (ls ++ (i ∷ [])) (put i m (λ b. m)) (pass m s (rule i) ys) (along i (rule i) G))
+      (size-power m ls ∙ ap (λ (j : ℕ). m ^ j) many ∙ sym (groups (k + i) (omega arith)))
+      (pass-along i ls (λ b. m) m (rule i) ys G
+      (fresh-both i (from (suc i) k) (rising i) (fresh-from i (suc i) k (omega arith)) (fresh-rising i i (omega arith))) (dep i) h)))
     where
       ls : List ℕ
       ls = from (suc i) k ++ rising i
@@ -141,7 +150,8 @@ module _ (m n r : ℕ) (some : 0 < m) (groups : (j : ℕ) → suc j ≡ n → r 
     unfolding passes sweep axes from rising
     holds zero k e = λ p d.
         ap (λ (ls : List ℕ). xs (indexOf ls (λ b. m) p)) (append-nil (from 0 k)) ∙ ap xs (index-from m k 0 p)
-        ∙ ap (λ (q : Place). xs (number k (λ b. m) q)) (fun-ext (λ b. ap p (let z : 0 + b ≡ b = omega arith in z))) ∙ ap (λ (j : ℕ). xs (number j (λ b. m) p)) (let z : k ≡ n = omega arith in z)
+        ∙ ap (λ (q : Place). xs (number k (λ b. m) q)) (fun-ext (λ b. ap p (let z : 0 + b ≡ b = omega arith in z)))
+        ∙ ap (λ (j : ℕ). xs (number j (λ b. m) p)) (let z : k ≡ n = omega arith in z)
     holds (suc i) k e = turn i k e (passes m r rule i xs) (sweep (axes i) rule field) (holds i (suc k) (omega arith))
 
     -- and after n passes it holds the sweep
@@ -171,17 +181,22 @@ module _ (m r : ℕ) where
   pub place-in : (k : ℕ) → k < m * r → k / r < m
   place-in k h = div-lt-iff-lt-mul (some-groups k m r h) .1 h
 
-  pub pass-same : (rule : Rule) → Depends rule (λ j. j < m) (λ t. t < m) → (xs ys : ℕ → ℤ) → ((k : ℕ) → k < m * r → xs k ≡ ys k) → (k : ℕ) → k < m * r → pass m r rule xs k ≡ pass m r rule ys k
+  pub pass-same : (rule : Rule) → Depends rule (λ j. j < m) (λ t. t < m) → (xs ys : ℕ → ℤ) → ((k : ℕ) → k < m * r → xs k ≡ ys k) → (k : ℕ)
+      → k < m * r → pass m r rule xs k ≡ pass m r rule ys k
   unfolding pass
-  pass-same rule dep xs ys h k l = dep (λ t. xs (m * (k % r) + t)) (λ t. ys (m * (k % r) + t)) (k / r) (place-in k l) (λ t q. h (m * (k % r) + t) (read-in k t l q))
+  pass-same rule dep xs ys h k l =
+      dep (λ t. xs (m * (k % r) + t)) (λ t. ys (m * (k % r) + t)) (k / r) (place-in k l) (λ t q. h (m * (k % r) + t) (read-in k t l q))
 
   -- what the rules make of numbers within B is within F · B
-  pub passes-size : (rule : ℕ → Rule) (F : ℕ) → ((a : ℕ) (x : ℕ → ℤ) (B j : ℕ) → j < m → ((t : ℕ) → t < m → natAbs (x t) ≤ B) → natAbs (rule a x j) ≤ F * B)
-      → (xs : ℕ → ℤ) (B : ℕ) → ((k : ℕ) → k < m * r → natAbs (xs k) ≤ B) → (i k : ℕ) → k < m * r → natAbs (passes m r rule i xs k) ≤ F ^ i * B
+  pub passes-size : (rule : ℕ → Rule) (F : ℕ)
+      → ((a : ℕ) (x : ℕ → ℤ) (B j : ℕ) → j < m → ((t : ℕ) → t < m → natAbs (x t) ≤ B) → natAbs (rule a x j) ≤ F * B)
+      → (xs : ℕ → ℤ) (B : ℕ) → ((k : ℕ) → k < m * r → natAbs (xs k) ≤ B) → (i k : ℕ) → k < m * r
+      → natAbs (passes m r rule i xs k) ≤ F ^ i * B
   unfolding passes pass
   passes-size rule F size xs B h zero k l = rw (pow-zero F, one-mul B) (h k l)
   passes-size rule F size xs B h (suc i) k l =
-      le-trans (size i (λ t. passes m r rule i xs (m * (k % r) + t)) (F ^ i * B) (k / r) (place-in k l) (λ t q. passes-size rule F size xs B h i (m * (k % r) + t) (read-in k t l q)))
+      le-trans (size i (λ t. passes m r rule i xs (m * (k % r) + t)) (F ^ i * B) (k / r) (place-in k l)
+      (λ t q. passes-size rule F size xs B h i (m * (k % r) + t) (read-in k t l q)))
       (le-of-eq (more F (F ^ i) B (F ^ suc i) (pow-suc F i)))
     where
       more : (f p b q : ℕ) → q ≡ p * f → f * (p * b) ≡ q * b

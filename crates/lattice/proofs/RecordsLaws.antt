@@ -1,4 +1,5 @@
--- Samples and entries in their slices: every index is in range, an entry is found again by its index, and what the limit test says of each number.
+-- Samples and entries in their slices: every index is in range, an entry is found again by its index, and what the limit test says of each
+-- number.
 use mathlib.Core.Path.{_≡_, ap, subst, _∙_, fun-ext}
 use mathlib.Core.List.{List}
 use Prim.Native.Nat.{ℕ, _+_, _*_, _/_, _%_, _≤_, _<_}
@@ -29,7 +30,8 @@ pub record InTable (s : Shape) (p : Place) : Type 0 where
   pub none : (a : ℕ) → s .axes ≤ a → p a ≡ 0
 
 -- from the used axes alone
-pub in-table : (s : Shape) (p : Place) → Shaped s → ((a : ℕ) → a < s .axes → p a < count s a) → ((a : ℕ) → s .axes ≤ a → p a ≡ 0) → InTable s p
+pub in-table : (s : Shape) (p : Place) → Shaped s → ((a : ℕ) → a < s .axes → p a < count s a) → ((a : ℕ) → s .axes ≤ a → p a ≡ 0)
+    → InTable s p
 in-table s p ok used none = record { inside = λ a l. go a l (decLt a (s .axes)); none = none }
   where
     go : (a : ℕ) → a < 3 → Dec (a < s .axes) → p a < count s a
@@ -60,7 +62,8 @@ module _ (s : Shape) (p : Place) (here : InTable s (λ a. p a / orders s)) (none
 
   order-below : entryNumber s order < entries s
   unfolding entryNumber entries order
-  order-below = subst (λ (k : ℕ). number (s .axes) (λ b. orders s) order < k) (span-power (orders s) (s .axes)) (number-below (s .axes) (λ b. orders s) order (λ a l. mod-lt (p a) some))
+  order-below = subst (λ (k : ℕ). number (s .axes) (λ b. orders s) order < k) (span-power (orders s) (s .axes))
+      (number-below (s .axes) (λ b. orders s) order (λ a l. mod-lt (p a) some))
 
   pub index-below : entryIndex s p < size s
   unfolding entryIndex size node order
@@ -86,7 +89,9 @@ module _ (s : Shape) (p : Place) (here : InTable s (λ a. p a / orders s)) (none
       ap (λ (i : ℕ). orders s * digit (count s) i a + digit (λ b. orders s) (entryIndex s p % entries s) a) index-node
       ∙ ap (λ (i : ℕ). orders s * digit (count s) (nodeNumber s node) a + digit (λ b. orders s) i a) index-order
       ∙ ap (λ (i : ℕ). orders s * i + digit (λ b. orders s) (entryNumber s order) a) (digit-number 3 (count s) node (here .inside) beyond a)
-      ∙ ap (λ (i : ℕ). orders s * (p a / orders s) + i) (digit-number (s .axes) (λ b. orders s) order (λ a l. mod-lt (p a) some) (λ a l. ap (λ (i : ℕ). i % orders s) (none a l) ∙ zero-mod (orders s)) a)
+      ∙ ap (λ (i : ℕ). orders s * (p a / orders s) + i)
+      (digit-number (s .axes) (λ b. orders s) order (λ a l. mod-lt (p a) some)
+      (λ a l. ap (λ (i : ℕ). i % orders s) (none a l) ∙ zero-mod (orders s)) a)
       ∙ div-add-mod (p a) (orders s))
     where
       beyond : (a : ℕ) → 3 ≤ a → p a / orders s ≡ 0
@@ -100,7 +105,9 @@ unfolding limitOutcome
 limit-each number limit xs h i = go (decLt i (length xs))
   where
     go : Dec (i < length xs) → natAbs (at xs i) ≤ limit
-    go (yes l) = leb-true (natAbs (at xs i)) limit (refuse-done (leb (natAbs (at xs i)) limit) number i (firstOf-each (length xs) (λ i. refuseUnless (leb (natAbs (at xs i)) limit) number i) h i l))
+    go (yes l) = leb-true (natAbs (at xs i)) limit
+        (refuse-done (leb (natAbs (at xs i)) limit) number i
+        (firstOf-each (length xs) (λ i. refuseUnless (leb (natAbs (at xs i)) limit) number i) h i l))
     go (no n) = rw (List·getD-eq-default xs (pos 0) {n = i} (omega (arith, n))) (omega arith)
 
 -- tested from the front
@@ -108,12 +115,16 @@ abbrev pub limitTest : ℕ → ℕ → List ℤ → ℕ → Check
 limitTest number limit xs i = refuseUnless (leb (natAbs (at xs i)) limit) number i
 
 module _ (number limit : ℕ) (xs : List ℤ) where
-  pub limit-stops : (i : ℕ) → i < length xs → firstOf i (limitTest number limit xs) ≡ done tt → limit < natAbs (at xs i) → limitOutcome number limit xs ≡ refused number i
+  pub limit-stops : (i : ℕ) → i < length xs → firstOf i (limitTest number limit xs) ≡ done tt → limit < natAbs (at xs i)
+      → limitOutcome number limit xs ≡ refused number i
   unfolding limitOutcome
-  limit-stops i l h big = firstOf-stops (length xs) i (limitTest number limit xs) number i l h (ap (λ (t : Bool). refuseUnless t number i) (lt-leb (natAbs (at xs i)) limit big))
+  limit-stops i l h big = firstOf-stops (length xs) i (limitTest number limit xs) number i l h
+      (ap (λ (t : Bool). refuseUnless t number i) (lt-leb (natAbs (at xs i)) limit big))
 
-  pub limit-more : (i : ℕ) → firstOf i (limitTest number limit xs) ≡ done tt → natAbs (at xs i) ≤ limit → firstOf (i + 1) (limitTest number limit xs) ≡ done tt
-  limit-more i h small = firstOf-more i (limitTest number limit xs) h (ap (λ (t : Bool). refuseUnless t number i) (le-leb (natAbs (at xs i)) limit small))
+  pub limit-more : (i : ℕ) → firstOf i (limitTest number limit xs) ≡ done tt → natAbs (at xs i) ≤ limit
+      → firstOf (i + 1) (limitTest number limit xs) ≡ done tt
+  limit-more i h small = firstOf-more i (limitTest number limit xs) h
+      (ap (λ (t : Bool). refuseUnless t number i) (le-leb (natAbs (at xs i)) limit small))
 
   pub limit-ends : (i : ℕ) → i ≡ length xs → firstOf i (limitTest number limit xs) ≡ done tt → limitOutcome number limit xs ≡ done tt
   unfolding limitOutcome

@@ -65,11 +65,14 @@ no-axes n none = go (leb 1 n) (leb n 3) (leb-true 1 n) (leb-true n 3)
     go false b f g = refl
 
 -- where the number of axes is not refused, 2 and 3 are all that is tested of a shape
-pub table-shape : (s : Shape) → 1 ≤ s .axes → s .axes ≤ 3 → first (degreeOutcome (s .degree)) (countsOutcome (s .axes) (count s)) ≡ shapeOutcome s
+pub table-shape : (s : Shape) → 1 ≤ s .axes → s .axes ≤ 3
+    → first (degreeOutcome (s .degree)) (countsOutcome (s .axes) (count s)) ≡ shapeOutcome s
 unfolding shapeOutcome axesOutcome
 table-shape s l h =
-    sym (first-passed (refuseUnless (leb 1 (s .axes) && leb (s .axes) 3) 1 0) (first (degreeOutcome (s .degree)) (countsOutcome (s .axes) (count s)))
-    (passes (leb 1 (s .axes) && leb (s .axes) 3) 1 0 (true-and (leb 1 (s .axes)) (leb (s .axes) 3) (le-leb 1 (s .axes) l) (le-leb (s .axes) 3 h))))
+    sym (first-passed (refuseUnless (leb 1 (s .axes) && leb (s .axes) 3) 1 0)
+    (first (degreeOutcome (s .degree)) (countsOutcome (s .axes) (count s)))
+    (passes (leb 1 (s .axes) && leb (s .axes) 3) 1 0
+    (true-and (leb 1 (s .axes)) (leb (s .axes) 3) (le-leb 1 (s .axes) l) (le-leb (s .axes) 3 h))))
 
 pub shaped : (s : Shape) → shapeOutcome s ≡ done tt → Shaped s
 unfolding shapeOutcome

@@ -1,4 +1,5 @@
--- A quantity on a lattice is a function of its place on each axis. A rule works along one axis; `along` applies it there, `sweep` axis after axis.
+-- A quantity on a lattice is a function of its place on each axis. A rule works along one axis; `along` applies it there, `sweep` axis
+-- after axis.
 use mathlib.Core.Path.{_≡_}
 use Prim.Native.Nat.{ℕ, zero, suc, _≤_, _<_}
 use mathlib.Core.List.{List, [], _∷_}

@@ -1,4 +1,5 @@
--- Where samples and the entries of records stand in their slices, and their limits. Along an axis, order o at node i stands at place m·i + o.
+-- Where samples and the entries of records stand in their slices, and their limits. Along an axis, order o at node i stands at place m·i +
+-- o.
 use Prim.Native.Nat.{ℕ, _+_, _*_, _/_, _%_, _^_}
 use mathlib.Core.List.{List}
 use lib.Dec.{leb}

@@ -1,4 +1,5 @@
--- A query for the middle of an accepted cell is answered from the records that estimation wrote, and its dose is that from the records of the rules.
+-- A query for the middle of an accepted cell is answered from the records that estimation wrote, and its dose is that from the records of
+-- the rules.
 use mathlib.Core.Path.{_≡_, refl, ap, _∙_}
 use mathlib.Core.Bool.{Bool, true, false}
 use mathlib.Core.List.{List, [], _∷_}
@@ -24,7 +25,7 @@ use Rattle.evaluate.proofs.AnswerLaws.{answer-local}
 use Rattle.query.specs.Queries.{wantOutcome, stepsOutcome, byCell}
 use Rattle.cell.proofs.CellLaws.{three, cell-passes}
 use Rattle.query.proofs.QueryLaws.{by-cell-passes}
-use Rattle.claims.proofs.Lent.{field-same, corners-done}
+use Rattle.estimated.proofs.Estimated.{field-same, corners-done}
 use Rattle.report.specs.Report.{middle, doseIn}
 use Rattle.report.specs.Parts.{Answers, doseFrom}
 
@@ -40,16 +41,19 @@ unfolding stepsOutcome middle
 steps-pass s = firstOf-passes 3 _ (λ a l. passes _ 11 a (either (ltb a (s .axes))))
 
 -- three steps as a place
-pub middle-place : (axes x y z : ℕ) → axes ≤ 3 → x ≡ middle axes 0 → y ≡ middle axes 1 → z ≡ middle axes 2 → placeAt (x ∷ y ∷ z ∷ []) ≡ middle axes
+pub middle-place : (axes x y z : ℕ) → axes ≤ 3 → x ≡ middle axes 0 → y ≡ middle axes 1 → z ≡ middle axes 2
+    → placeAt (x ∷ y ∷ z ∷ []) ≡ middle axes
 unfolding middle
 middle-place axes x y z h i j k = three x y z (middle axes) i j k (λ a l. pick-false (ltb a axes) 128 0 (le-ltb a axes (omega arith)))
 
 -- the query is answered
-pub answered : (s : Shape) (rs : List ℤ) (cell : List ℕ) (step : Place) → Answers s rs → Accepted s (placeAt cell) → step ≡ middle (s .axes) → byCell s rs dose (placeAt cell) step ≡ done (doseFrom s rs cell)
+pub answered : (s : Shape) (rs : List ℤ) (cell : List ℕ) (step : Place) → Answers s rs → Accepted s (placeAt cell)
+    → step ≡ middle (s .axes) → byCell s rs dose (placeAt cell) step ≡ done (doseFrom s rs cell)
 unfolding doseFrom wantOutcome
 answered s rs cell step known here is =
     ap (byCell s rs dose (placeAt cell)) is
-    ∙ by-cell-passes s rs dose (placeAt cell) (middle (s .axes)) (known .long) (known .shape) refl (cell-passes s (placeAt cell) (here .used) (λ a l. here .unused a)) (steps-pass s) (known .corners (placeAt cell) here)
+    ∙ by-cell-passes s rs dose (placeAt cell) (middle (s .axes)) (known .long) (known .shape) refl
+    (cell-passes s (placeAt cell) (here .used) (λ a l. here .unused a)) (steps-pass s) (known .corners (placeAt cell) here)
 
 -- ---- the records that estimation wrote
 
@@ -58,9 +62,11 @@ module _ (s : Shape) (xs : List ℤ) (room : ℕ) (e : Estimable s xs room) (cel
   unfolding lastAxis
   last = let h = e .shape .axes-low in omega arith
 
-  answer-same : (step : Place) → answer (askAt s dose cell step) (recordsField s (recordsOf s xs)) ≡ answer (askAt s dose cell step) (tableRecords s xs)
+  answer-same : (step : Place)
+      → answer (askAt s dose cell step) (recordsField s (recordsOf s xs)) ≡ answer (askAt s dose cell step) (tableRecords s xs)
   unfolding askAt
-  answer-same step = answer-local roundHalfUp (askAt s dose cell step) last (recordsField s (recordsOf s xs)) (tableRecords s xs) (field-same s xs room e cell here)
+  answer-same step = answer-local roundHalfUp (askAt s dose cell step) last (recordsField s (recordsOf s xs)) (tableRecords s xs)
+      (field-same s xs room e cell here)
 
 -- estimation that is not refused
 module _ (s : Shape) (xs : List ℤ) (room : ℕ) (taken : estimateOutcome s xs room ≡ done tt) where

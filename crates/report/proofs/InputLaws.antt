@@ -23,12 +23,14 @@ use Rattle.report.proofs.TableLaws.{nodes-are, cubic-shaped}
 module _ (input : List ℕ) where
   outcome : length input ≤ heldBytes → inputOutcome input ≡ readOutcome input heldNodes
   unfolding inputOutcome
-  outcome h = first-passed (refuseUnless (leb (length input) heldBytes) 9 0) (readOutcome input heldNodes) (passes (leb (length input) heldBytes) 9 0 (le-leb (length input) heldBytes h))
+  outcome h = first-passed (refuseUnless (leb (length input) heldBytes) 9 0) (readOutcome input heldNodes)
+      (passes (leb (length input) heldBytes) 9 0 (le-leb (length input) heldBytes h))
 
   -- a longer input
   pub too-long : heldBytes < length input → reportText input ≡ refusedLine 9
   unfolding reportText inputOutcome textOf
-  too-long h = ap (λ t. textOf (first (refuseUnless t 9 0) (readOutcome input heldNodes)) (samplesIn input)) (lt-leb (length input) heldBytes h)
+  too-long h = ap (λ t. textOf (first (refuseUnless t 9 0) (readOutcome input heldNodes)) (samplesIn input))
+      (lt-leb (length input) heldBytes h)
 
   pub read-refused : (n p : ℕ) → length input ≤ heldBytes → readOutcome input heldNodes ≡ refused n p → reportText input ≡ refusedLine n
   unfolding reportText textOf
@@ -42,13 +44,15 @@ module _ (input : List ℕ) where
     pub held : HeldTable h (samplesIn input)
     held =
         let f = taken input heldNodes h e in
-        subst (λ (g : Header). HeldTable g (samplesIn input)) (f .1) (record { permitted = f .0 .permitted; few = le-trans (le-of-eq (samples-length input)) (f .0 .roomy) })
+        subst (λ (g : Header). HeldTable g (samplesIn input)) (f .1)
+        (record { permitted = f .0 .permitted; few = le-trans (le-of-eq (samples-length input)) (f .0 .roomy) })
 
     pub shape : Shaped (withDegree h 3)
     shape = cubic-shaped h (samplesIn input) held
 
     -- the samples stand at the front of the slice
-    pub front : (n : ℕ) (old : List ℤ) → n ≡ nodes (withDegree h 3) → take n (whenDone (readOutcome input heldNodes) (overwrite (samplesIn input) old) old) ≡ samplesIn input
+    pub front : (n : ℕ) (old : List ℤ) → n ≡ nodes (withDegree h 3)
+        → take n (whenDone (readOutcome input heldNodes) (overwrite (samplesIn input) old) old) ≡ samplesIn input
     front n old k =
         ap (take n) (sym (when-done (overwrite (samplesIn input) old) old e))
         ∙ take-at (samplesIn input) (drop (length (samplesIn input)) old) n (sym (k ∙ nodes-are h (samplesIn input) held 3))

@@ -15,7 +15,8 @@ use Rattle.report.specs.Report.{joined}
 use Rattle.cell.specs.Cells.{Between}
 use Rattle.report.specs.Parts.{lineLimit}
 
-pub line-short : (cell : List ℕ) (a b : ℤ) → Between 0 99 cell → natAbs a ≤ 2 ^ 31 → natAbs b ≤ 2 ^ 31 → length (cellLine cell a b) ≤ lineLimit
+pub line-short : (cell : List ℕ) (a b : ℤ) → Between 0 99 cell → natAbs a ≤ 2 ^ 31 → natAbs b ≤ 2 ^ 31
+    → length (cellLine cell a b) ≤ lineLimit
 line-short cell a b k h g =
     let x = k .most 0 (lit< tt) in
     let y = k .most 1 (lit< tt) in
@@ -51,7 +52,8 @@ module _ (f : ℕ → List ℕ) where
   unfolding joined
   lines-none old = record { ended = refl; written = refl }
 
-  pub lines-more : (i : ℕ) {at end : ℕ} {old now next : List ℕ} → Put old 0 (joined i f) now at → Put now at (f i) next end → Put old 0 (joined (i + 1) f) next end
+  pub lines-more : (i : ℕ) {at end : ℕ} {old now next : List ℕ} → Put old 0 (joined i f) now at → Put now at (f i) next end
+      → Put old 0 (joined (i + 1) f) next end
   lines-more i p q = put-as (sym (joined-more i)) (put-then p q)
 
 pub joined-same : (n : ℕ) (f g : ℕ → List ℕ) → ((i : ℕ) → f i ≡ g i) → joined n f ≡ joined n g

@@ -28,7 +28,8 @@ use Rattle.report.proofs.DoseLaws.{dose-same}
 use Rattle.report.proofs.LineLaws.{joined-same}
 
 -- the cells of a table do not depend on the degree
-pub any-degree : (h : Header) (d e : ℕ) (cell : List ℕ) → Accepted (withDegree h d) (placeAt cell) → Accepted (withDegree h e) (placeAt cell)
+pub any-degree : (h : Header) (d e : ℕ) (cell : List ℕ) → Accepted (withDegree h d) (placeAt cell)
+    → Accepted (withDegree h e) (placeAt cell)
 unfolding count
 any-degree h d e cell k = record { used = k .used; unused = k .unused }
 
@@ -43,15 +44,19 @@ module _ (h : Header) (xs : List ℤ) (held : HeldTable h xs) where
       first-passed (axesOutcome (h .axes)) _ (held .permitted .axes-ok) ∙ first-passed (degreeOutcome d) _ e ∙ held .permitted .counts-ok
 
   -- into records of at most 512 · m^3 entries
-  taken : (d m room : ℕ) → degreeOutcome d ≡ done tt → ordersOf d ≤ m → 0 < m → room ≡ heldNodes * m ^ 3 → estimateOutcome (withDegree h d) xs room ≡ done tt
+  taken : (d m room : ℕ) → degreeOutcome d ≡ done tt → ordersOf d ≤ m → 0 < m → room ≡ heldNodes * m ^ 3
+      → estimateOutcome (withDegree h d) xs room ≡ done tt
   unfolding estimateOutcome size entries
   taken d m room e k l r =
       let s : Shape = withDegree h d in
       let n : nodes s * ordersOf d ^ h .axes ≤ heldNodes * m ^ 3
-      = mul-le-mul (le-trans (le-of-eq (nodes-are d)) (held .few)) (pow-range m (ordersOf d) (h .axes) k (shaped s (shape-passes d e) .axes-high) l) in
+      = mul-le-mul (le-trans (le-of-eq (nodes-are d)) (held .few))
+      (pow-range m (ordersOf d) (h .axes) k (shaped s (shape-passes d e) .axes-high) l) in
       first-passed (shapeOutcome s) _ (shape-passes d e)
-      ∙ first-passed (refuseUnless (eqb (length xs) (nodes s)) 4 0) _ (passes (eqb (length xs) (nodes s)) 4 0 (eq-eqb (length xs) (nodes s) (sym (nodes-are d))))
-      ∙ first-passed (refuseUnless (leb (size s) room) 9 0) (limitOutcome 5 sampleLimit xs) (passes (leb (size s) room) 9 0 (le-leb (size s) room (le-trans n (le-of-eq (sym r)))))
+      ∙ first-passed (refuseUnless (eqb (length xs) (nodes s)) 4 0) _
+      (passes (eqb (length xs) (nodes s)) 4 0 (eq-eqb (length xs) (nodes s) (sym (nodes-are d))))
+      ∙ first-passed (refuseUnless (leb (size s) room) 9 0) (limitOutcome 5 sampleLimit xs)
+      (passes (leb (size s) room) 9 0 (le-leb (size s) room (le-trans n (le-of-eq (sym r)))))
       ∙ held .permitted .limited
 
   pub cubic-taken : estimateOutcome (withDegree h 3) xs 4096 ≡ done tt

@@ -25,5 +25,7 @@ pub file-examples
     × (readOutcome (take 19 file) 2 ≡ refused 6 19)
     × (readOutcome (file ++ (0 ∷ [])) 2 ≡ refused 7 20)
     × (readOutcome (set file 8 3) 2 ≡ refused 8 0)
-unfolding file pick firstOf tabulate number span digit axesOutcome countAllowed limitOutcome numberAt bytesOf bytesOfAll signedOf unsignedOf sectionOne sectionTwo fileOf complete countIn headerIn nodesIn samplesIn countOutcome oneOutcome nothingAfter twoOutcome readCheck readOutcome
+unfolding file pick firstOf tabulate number span digit axesOutcome countAllowed limitOutcome numberAt bytesOf bytesOfAll signedOf
+    unsignedOf sectionOne sectionTwo fileOf complete countIn headerIn nodesIn samplesIn countOutcome oneOutcome nothingAfter twoOutcome
+    readCheck readOutcome
 file-examples = (refl, refl, refl, refl, refl, refl)

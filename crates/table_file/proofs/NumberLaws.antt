@@ -32,7 +32,8 @@ length-bytes v = ap length (bytes-are v)
 
 -- 4 stores
 pub stores-are : (l : List ℕ) (at v : ℕ)
-    → set (set (set (set l at (v % 256)) (at + 1) (v / 256 % 256)) (at + 2) (v / 65536 % 256)) (at + 3) (v / 16777216 % 256) ≡ sets l at (bytesOf v)
+    → set (set (set (set l at (v % 256)) (at + 1) (v / 256 % 256)) (at + 2) (v / 65536 % 256)) (at + 3) (v / 16777216 % 256) ≡ sets l at
+    (bytesOf v)
 stores-are l at v =
     let e₁ : at + 1 ≡ suc at = omega arith in
     let e₂ : at + 2 ≡ suc (suc at) = omega arith in
@@ -60,7 +61,8 @@ length-all (v ∷ vs) = length-append (bytesOf v) (bytesOfAll vs) ∙ omega (ari
 pub all-append : (vs ws : List ℕ) → bytesOfAll (vs ++ ws) ≡ bytesOfAll vs ++ bytesOfAll ws
 unfolding bytesOfAll
 all-append [] ws = refl
-all-append (v ∷ vs) ws = ap (λ (l : List ℕ). bytesOf v ++ l) (all-append vs ws) ∙ sym (append-assoc (bytesOf v) (bytesOfAll vs) (bytesOfAll ws))
+all-append (v ∷ vs) ws = ap (λ (l : List ℕ). bytesOf v ++ l) (all-append vs ws)
+    ∙ sym (append-assoc (bytesOf v) (bytesOfAll vs) (bytesOfAll ws))
 
 pub all-one : (v : ℕ) → bytesOfAll (v ∷ []) ≡ bytesOf v
 unfolding bytesOfAll

@@ -51,7 +51,8 @@ module _ (bytes : List ℕ) where
 
   -- ---- section one
 
-  pub one-facts : oneOutcome bytes ≡ done tt → (axesOutcome (axesIn bytes) ≡ done tt) × (countsOutcome (axesIn bytes) (countIn bytes) ≡ done tt) × (4 * axesIn bytes + 4 ≤ length bytes)
+  pub one-facts : oneOutcome bytes ≡ done tt → (axesOutcome (axesIn bytes) ≡ done tt)
+      × (countsOutcome (axesIn bytes) (countIn bytes) ≡ done tt) × (4 * axesIn bytes + 4 ≤ length bytes)
   unfolding oneOutcome countsOutcome countOutcome
   one-facts h =
       let n = axesIn bytes in
@@ -59,10 +60,12 @@ module _ (bytes : List ℕ) where
       let g = first-done (axesOutcome n) _ tt (f .1) in
       let low = axes-range n (g .0) .0 in
       let test : ℕ → Check = λ a. refuseUnless (countAllowed n (countIn bytes a) a) 3 a in
-      let used : (a : ℕ) → a < n → (complete bytes (2 + a) ≡ done tt) × (test a ≡ done tt) = λ a l. first-done (complete bytes (2 + a)) (test a) tt (firstOf-each n (countOutcome bytes) (g .1) a l) in (
+      let used : (a : ℕ) → a < n → (complete bytes (2 + a) ≡ done tt) × (test a ≡ done tt) =
+      λ a l. first-done (complete bytes (2 + a)) (test a) tt (firstOf-each n (countOutcome bytes) (g .1) a l) in (
         g .0,
         firstOf-passes 3 test (λ a l. split (ltb a n) (λ t. used a (ltb-true a n t) .1)
-            (λ t. passes (countAllowed n (countIn bytes a) a) 3 a (allowed-unused n (countIn bytes a) a (ltb-false a n t) (count-absent a (ltb-false a n t))))),
+            (λ t. passes (countAllowed n (countIn bytes a) a) 3 a
+            (allowed-unused n (countIn bytes a) a (ltb-false a n t) (count-absent a (ltb-false a n t))))),
         omega (arith, complete-holds (2 + (n - 1)) (used (n - 1) (omega arith) .0)),
       )
 
@@ -70,7 +73,8 @@ module _ (bytes : List ℕ) where
   pub one-sizes : oneOutcome bytes ≡ done tt → (n : ℕ) → n ≡ axesIn bytes → (n ≡ axesIn bytes) × (n ≤ 3) × (4 * n + 4 ≤ length bytes)
   one-sizes h n e = let f = one-facts h in (e, omega (arith, axes-range (axesIn bytes) (f .0) .1), omega (arith, f .2))
 
-  pub one-passes : 4 * (2 + axesIn bytes) ≤ length bytes → axesOutcome (axesIn bytes) ≡ done tt → countsOutcome (axesIn bytes) (countIn bytes) ≡ done tt → oneOutcome bytes ≡ done tt
+  pub one-passes : 4 * (2 + axesIn bytes) ≤ length bytes → axesOutcome (axesIn bytes) ≡ done tt
+      → countsOutcome (axesIn bytes) (countIn bytes) ≡ done tt → oneOutcome bytes ≡ done tt
   unfolding oneOutcome countOutcome
   one-passes h e f =
       let n = axesIn bytes in
@@ -95,7 +99,8 @@ module _ (bytes : List ℕ) where
   unfolding nodes nodesIn span count tabulate
   nodes-in = refl
 
-  pub header-is : (s : Shape) → s ≡ shapeIn bytes → headerIn bytes ≡ header (s .axes) (getD (s .counts) 0 0 ∷ getD (s .counts) 1 0 ∷ getD (s .counts) 2 0 ∷ [])
+  pub header-is : (s : Shape) → s ≡ shapeIn bytes
+      → headerIn bytes ≡ header (s .axes) (getD (s .counts) 0 0 ∷ getD (s .counts) 1 0 ∷ getD (s .counts) 2 0 ∷ [])
   unfolding headerIn tabulate
   header-is s e = rw e refl
 
@@ -128,7 +133,11 @@ module _ (bytes : List ℕ) where
   pub two-passes : fileNumber bytes (1 + axesIn bytes) ≡ nodesIn bytes → length bytes ≡ 4 * numbers-in → twoOutcome bytes ≡ done tt
   unfolding twoOutcome nothingAfter
   two-passes e f =
-      rw (complete-passes (2 + axesIn bytes) (omega arith), eq-eqb (fileNumber bytes (1 + axesIn bytes)) (nodesIn bytes) e, complete-passes numbers-in (omega arith))
+      rw (
+        complete-passes (2 + axesIn bytes) (omega arith),
+        eq-eqb (fileNumber bytes (1 + axesIn bytes)) (nodesIn bytes) e,
+        complete-passes numbers-in (omega arith),
+      )
       (passes (leb (length bytes) (4 * numbers-in)) 7 (4 * numbers-in) (le-leb (length bytes) (4 * numbers-in) (omega arith)))
 
   module _ (start many : ℕ) where
@@ -162,7 +171,8 @@ module _ (bytes : List ℕ) where
     samples-are = rw (p .axes-is, p .nodes-is) refl
 
     pub rest-is : (room : ℕ) → restOutcome bytes room
-        ≡ first (twoOutcome bytes) (first (refuseUnless (leb nodes room) 9 0) (limitOutcome 5 sampleLimit (samplesFrom bytes (2 + axes) nodes)))
+        ≡ first (twoOutcome bytes)
+        (first (refuseUnless (leb nodes room) 9 0) (limitOutcome 5 sampleLimit (samplesFrom bytes (2 + axes) nodes)))
     unfolding restOutcome
     rest-is room = rw (samples-are, p .nodes-is) refl
 
@@ -170,13 +180,15 @@ module _ (bytes : List ℕ) where
     samples-held h = omega (arith, p .axes-is, p .nodes-is, two-facts h .1)
 
   module _ (room : ℕ) where
-    pub rest-facts : restOutcome bytes room ≡ done tt → (twoOutcome bytes ≡ done tt) × (nodesIn bytes ≤ room) × (limitOutcome 5 sampleLimit (samplesIn bytes) ≡ done tt)
+    pub rest-facts : restOutcome bytes room ≡ done tt → (twoOutcome bytes ≡ done tt) × (nodesIn bytes ≤ room)
+        × (limitOutcome 5 sampleLimit (samplesIn bytes) ≡ done tt)
     unfolding restOutcome
     rest-facts h =
         let f = first-done (twoOutcome bytes) _ tt h in
         let g = first-done (refuseUnless (leb (nodesIn bytes) room) 9 0) _ tt (f .1) in
         (f .0, leb-true (nodesIn bytes) room (refuse-done (leb (nodesIn bytes) room) 9 0 (g .0)), g .1)
 
-    pub rest-passes : twoOutcome bytes ≡ done tt → nodesIn bytes ≤ room → limitOutcome 5 sampleLimit (samplesIn bytes) ≡ done tt → restOutcome bytes room ≡ done tt
+    pub rest-passes : twoOutcome bytes ≡ done tt → nodesIn bytes ≤ room → limitOutcome 5 sampleLimit (samplesIn bytes) ≡ done tt
+        → restOutcome bytes room ≡ done tt
     unfolding restOutcome
     rest-passes e l f = rw (e, le-leb (nodesIn bytes) room l) f

@@ -34,14 +34,16 @@ use Rattle.table_file.proofs.WriteLaws.{sample-number, length-file, fit
 -- ---- the numbers of a file, by their places
 
 -- place 0, places 1 to n, place n + 1, and p places from n + 2 on
-by-place : (n p : ℕ) (P : ℕ → Type 0) → P 0 → ((a : ℕ) → a < n → P (1 + a)) → P (1 + n) → ((i : ℕ) → i < p → P (2 + n + i)) → (k : ℕ) → k < 2 + n + p → P k
+by-place : (n p : ℕ) (P : ℕ → Type 0) → P 0 → ((a : ℕ) → a < n → P (1 + a)) → P (1 + n) → ((i : ℕ) → i < p → P (2 + n + i)) → (k : ℕ)
+    → k < 2 + n + p → P k
 by-place n p P first counts many samples k h =
     split (ltb k 1) (λ t. let e : 0 ≡ k = omega (arith, ltb-true k 1 t) in subst P e first)
     (λ t. let l = ltb-false k 1 t in split (ltb k (1 + n))
     (λ u. let e : 1 + (k - 1) ≡ k = omega arith in subst P e (counts (k - 1) (omega (arith, ltb-true k (1 + n) u))))
     (λ u. let m = ltb-false k (1 + n) u in split (ltb k (2 + n))
     (λ v. let e : 1 + n ≡ k = omega (arith, ltb-true k (2 + n) v) in subst P e many)
-    (λ v. let o = ltb-false k (2 + n) v in let e : 2 + n + (k - (2 + n)) ≡ k = omega arith in subst P e (samples (k - (2 + n)) (omega arith)))))
+    (λ v. let o = ltb-false k (2 + n) v in let e : 2 + n + (k - (2 + n)) ≡ k = omega arith in
+    subst P e (samples (k - (2 + n)) (omega arith)))))
 
 module _ (n : ℕ) (cs : List ℕ) (xs : List ℤ) (few : n ≤ length cs) where
   abbrev numbers : List ℕ
@@ -73,7 +75,12 @@ module _ (n : ℕ) (cs : List ℕ) (xs : List ℤ) (few : n ≤ length cs) where
 
   length-numbers : length numbers ≡ 2 + n + length xs
   unfolding sectionOne sectionTwo
-  length-numbers = omega (arith, length-append (take n cs) (length xs ∷ map unsignedOf xs), length-take-le n cs few, length-map xs unsignedOf)
+  length-numbers = omega (
+    arith,
+    length-append (take n cs) (length xs ∷ map unsignedOf xs),
+    length-take-le n cs few,
+    length-map xs unsignedOf,
+  )
 
 -- ---- a file that was read is written again
 
@@ -92,7 +99,8 @@ module _ (bytes : List ℕ) (room : ℕ) (small : AreBytes bytes) (t : Taken byt
   numbers-are : numbers n counts (samplesIn bytes) few ≡ tabulate (2 + n + nodesIn bytes) (λ k. numberAt bytes (4 * k))
   numbers-are =
       ext-getD 0 (numbers n counts (samplesIn bytes) few) (tabulate (2 + n + nodesIn bytes) (λ k. numberAt bytes (4 * k)))
-      (length-numbers n counts (samplesIn bytes) few ∙ ap (λ (p : ℕ). 2 + n + p) (samples-length bytes) ∙ sym (length-tabulate (2 + n + nodesIn bytes) (λ k. numberAt bytes (4 * k))))
+      (length-numbers n counts (samplesIn bytes) few ∙ ap (λ (p : ℕ). 2 + n + p) (samples-length bytes)
+      ∙ sym (length-tabulate (2 + n + nodesIn bytes) (λ k. numberAt bytes (4 * k))))
       (λ k h.
       let l : k < 2 + n + nodesIn bytes = omega (arith, length-numbers n counts (samplesIn bytes) few, samples-length bytes) in
       number-is-k k l ∙ sym (getD-tabulate (2 + n + nodesIn bytes) (λ k. numberAt bytes (4 * k)) k 0 l))
@@ -100,9 +108,11 @@ module _ (bytes : List ℕ) (room : ℕ) (small : AreBytes bytes) (t : Taken byt
       number-is-k : (k : ℕ) → k < 2 + n + nodesIn bytes → getD (numbers n counts (samplesIn bytes) few) k 0 ≡ numberAt bytes (4 * k)
       number-is-k = by-place n (nodesIn bytes) (λ k. getD (numbers n counts (samplesIn bytes) few) k 0 ≡ numberAt bytes (4 * k))
           (number-axes n counts (samplesIn bytes) few)
-          (λ a l. number-count n counts (samplesIn bytes) few a l ∙ getD-tabulate 3 (countIn bytes) a 0 (omega (arith, few, length-tabulate 3 (countIn bytes))) ∙ count-read bytes a l)
+          (λ a l. number-count n counts (samplesIn bytes) few a l
+          ∙ getD-tabulate 3 (countIn bytes) a 0 (omega (arith, few, length-tabulate 3 (countIn bytes))) ∙ count-read bytes a l)
           (number-many n counts (samplesIn bytes) few ∙ samples-length bytes ∙ sym (t .counted))
-          (λ i l. number-sample n counts (samplesIn bytes) few i ∙ ap unsignedOf (samples-get bytes i l) ∙ unsigned-signed (numberAt bytes (4 * (2 + n + i))) (number-below bytes small (4 * (2 + n + i))))
+          (λ i l. number-sample n counts (samplesIn bytes) few i ∙ ap unsignedOf (samples-get bytes i l)
+          ∙ unsigned-signed (numberAt bytes (4 * (2 + n + i))) (number-below bytes small (4 * (2 + n + i))))
 
   pub written : fileOf (headerIn bytes) (samplesIn bytes) ≡ bytes
   unfolding fileOf headerIn
@@ -146,11 +156,19 @@ module _ (h : Header) (xs : List ℤ) (ok : PermittedTable h xs) where
       split (ltb k (2 + m + length xs))
       (λ t. by-place m (length xs) (λ k. getD (numbers m (h .counts) xs within) k 0 < 4294967296)
       (omega (arith, number-axes m (h .counts) xs within, axes-few))
-      (λ a l. omega (arith, number-count m (h .counts) xs within a l, count-range m (countOf h a) a (allowed a (omega (arith, axes-few))) .1))
+      (λ a l. omega (
+        arith,
+        number-count m (h .counts) xs within a l,
+        count-range m (countOf h a) a (allowed a (omega (arith, axes-few))) .1,
+      ))
       (omega (arith, number-many m (h .counts) xs within, few-samples))
       (λ i l. omega (arith, number-sample m (h .counts) xs within i, unsigned-below (at xs i) (fits i)))
       k (ltb-true k (2 + m + length xs) t))
-      (λ t. omega (arith, List·getD-eq-default (numbers m (h .counts) xs within) 0 {n = k} (omega (arith, ltb-false k (2 + m + length xs) t, length-numbers m (h .counts) xs within))))
+      (λ t. omega (
+        arith,
+        List·getD-eq-default (numbers m (h .counts) xs within) 0 {n = k}
+            (omega (arith, ltb-false k (2 + m + length xs) t, length-numbers m (h .counts) xs within)),
+      ))
 
   file-number : (k : ℕ) → numberAt file (4 * k) ≡ getD (numbers m (h .counts) xs within) k 0
   unfolding fileOf
@@ -184,13 +202,15 @@ module _ (h : Header) (xs : List ℤ) (ok : PermittedTable h xs) where
   samples-again =
       ext-getD (pos 0) (samplesIn file) xs (samples-length file ∙ nodes-again) (λ i l.
       samples-get file i (omega (arith, samples-length file))
-      ∙ ap signedOf (ap (λ (k : ℕ). numberAt file (4 * (2 + k + i))) axes-again ∙ file-number (2 + m + i) ∙ number-sample m (h .counts) xs within i)
+      ∙ ap signedOf (ap (λ (k : ℕ). numberAt file (4 * (2 + k + i))) axes-again ∙ file-number (2 + m + i)
+      ∙ number-sample m (h .counts) xs within i)
       ∙ signed-unsigned (at xs i) (fits i))
 
   pub taken-again : (room : ℕ) → length xs ≤ room → Taken file room
   taken-again room r = record {
     permitted = rw (header-again, samples-again) ok;
-    counted = ap (λ (k : ℕ). numberAt file (4 * (1 + k))) axes-again ∙ file-number (1 + m) ∙ number-many m (h .counts) xs within ∙ sym nodes-again;
+    counted = ap (λ (k : ℕ). numberAt file (4 * (1 + k))) axes-again ∙ file-number (1 + m) ∙ number-many m (h .counts) xs within
+        ∙ sym nodes-again;
     sized = omega (arith, length-file m (h .counts) xs within, axes-again, nodes-again);
     roomy = omega (arith, nodes-again);
   }

@@ -33,7 +33,8 @@ module _ (bytes : List ℕ) (room : ℕ) where
       let one = one-facts bytes (f .0) in
       let rest = rest-facts bytes room (g .0) in
       let two = two-facts bytes (rest .0) in
-      let may : PermittedTable (headerIn bytes) (samplesIn bytes) = record { three = refl; axes-ok = one .0; counts-ok = one .1; counted = samples-length bytes; limited = rest .2 } in (
+      let may : PermittedTable (headerIn bytes) (samplesIn bytes) =
+      record { three = refl; axes-ok = one .0; counts-ok = one .1; counted = samples-length bytes; limited = rest .2 } in (
         record { permitted = may; counted = two .0; sized = two .1; roomy = rest .1 },
         done-same (headerIn bytes) h (g .1),
       )
@@ -43,4 +44,5 @@ module _ (bytes : List ℕ) (room : ℕ) where
   reads t =
       read-is
       ∙ first-passed (oneOutcome bytes) _ (one-passes bytes (omega (arith, t .sized)) (t .permitted .axes-ok) (t .permitted .counts-ok))
-      ∙ first-passed (restOutcome bytes room) _ (rest-passes bytes room (two-passes bytes (t .counted) (t .sized)) (t .roomy) (t .permitted .limited))
+      ∙ first-passed (restOutcome bytes room) _
+      (rest-passes bytes room (two-passes bytes (t .counted) (t .sized)) (t .roomy) (t .permitted .limited))

@@ -11,7 +11,8 @@ use Rattle.table_file.proofs.WriteLaws.{fit-writes}
 use Rattle.table_file.proofs.RoundTrip.{written, writes, samples-again, header-again, taken-again}
 
 -- writing what was read gives the file's bytes again
-pub read-then-write : (bytes : List ℕ) (room space : ℕ) (h : Header) → AreBytes bytes → readOutcome bytes room ≡ done h → length bytes ≤ space
+pub read-then-write : (bytes : List ℕ) (room space : ℕ) (h : Header) → AreBytes bytes → readOutcome bytes room ≡ done h
+    → length bytes ≤ space
     → (writeOutcome h (samplesIn bytes) space ≡ done (length bytes)) × (fileOf h (samplesIn bytes) ≡ bytes)
 read-then-write bytes room space h small e l =
     let t = taken bytes room h e in
@@ -19,8 +20,10 @@ read-then-write bytes room space h small e l =
     (writes bytes room small (t .0) space l, written bytes room small (t .0))
 
 -- reading what was written gives the table again, for every permitted table
-pub write-then-read : (h : Header) (samples : List ℤ) (room space : ℕ) → PermittedTable h samples → length samples ≤ room → length (fileOf h samples) ≤ space
-    → (writeOutcome h samples space ≡ done (length (fileOf h samples))) × (readOutcome (fileOf h samples) room ≡ done h) × (samplesIn (fileOf h samples) ≡ samples)
+pub write-then-read : (h : Header) (samples : List ℤ) (room space : ℕ) → PermittedTable h samples → length samples ≤ room
+    → length (fileOf h samples) ≤ space
+    → (writeOutcome h samples space ≡ done (length (fileOf h samples))) × (readOutcome (fileOf h samples) room ≡ done h)
+    × (samplesIn (fileOf h samples) ≡ samples)
 write-then-read h samples room space p r s = (
   fit-writes h samples space p s,
   reads (fileOf h samples) room (taken-again h samples p room r) ∙ ap done (header-again h samples p),

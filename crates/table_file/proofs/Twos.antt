@@ -27,7 +27,8 @@ pub signed-unsigned : (x : ℤ) → SFits w32 x → signedOf (unsignedOf x) ≡ 
 signed-unsigned x f = sym (signed-is (unsignedOf x) (unsigned-below x f)) ∙ ap (λ (v : ℕ). toZ w32 v) (sym (unsigned-is x)) ∙ toZ-ofZ f
 
 pub unsigned-signed : (v : ℕ) → v < 4294967296 → unsignedOf (signedOf v) ≡ v
-unsigned-signed v h = sym (unsigned-is (signedOf v)) ∙ ap (λ (x : ℤ). ofZ w32 x) (sym (signed-is v h)) ∙ ofZ-toZ {w = w32} (record { fits = h })
+unsigned-signed v h = sym (unsigned-is (signedOf v)) ∙ ap (λ (x : ℤ). ofZ w32 x) (sym (signed-is v h))
+    ∙ ofZ-toZ {w = w32} (record { fits = h })
 
 pub signed-fits : (v : ℕ) → v < 4294967296 → SFits w32 (signedOf v)
 signed-fits v h = rw (← signed-is v h) (sfits-toZ (record { fits = h }))
@@ -38,7 +39,8 @@ signed-fits v h = rw (← signed-is v h) (sfits-toZ (record { fits = h }))
 module _ (v : ℕ) (big : 2147483648 ≤ v) (small : v < 4294967296) where
   high-is : toZ w64 v -ℤ pos 4294967296 ≡ signedOf v
   unfolding signedOf
-  high-is = rw (toZ-pos w64 {n = v} (omega arith)) (sym (pick-false (ltb v 2147483648) (pos v) (pos v -ℤ pos 4294967296) (le-ltb v 2147483648 big)))
+  high-is = rw (toZ-pos w64 {n = v} (omega arith))
+      (sym (pick-false (ltb v 2147483648) (pos v) (pos v -ℤ pos 4294967296) (le-ltb v 2147483648 big)))
 
   pub high-fits : SFits w64 (toZ w64 v -ℤ pos 4294967296)
   high-fits = rw high-is (sfits-widen {w = w32} tt (signed-fits v small))

@@ -37,14 +37,16 @@ module _ {A B : Type 0} (o : Outcome A) (new old : B) where
 -- ---- runs of numbers
 
 -- numbers vs from byte `at` on, then ws after them
-sets-all : (vs ws l : List ℕ) (at : ℕ) → sets (sets l at (bytesOfAll vs)) (at + 4 * length vs) (bytesOfAll ws) ≡ sets l at (bytesOfAll (vs ++ ws))
+sets-all : (vs ws l : List ℕ) (at : ℕ)
+    → sets (sets l at (bytesOfAll vs)) (at + 4 * length vs) (bytesOfAll ws) ≡ sets l at (bytesOfAll (vs ++ ws))
 sets-all vs ws l at =
     ap (λ (k : ℕ). sets (sets l at (bytesOfAll vs)) (at + k) (bytesOfAll ws)) (sym (length-all vs))
     ∙ sym (sets-append (bytesOfAll vs) (bytesOfAll ws) l at)
     ∙ ap (λ (m : List ℕ). sets l at m) (sym (all-append vs ws))
 
 -- one number, then others after it
-pub put-first : (v : ℕ) (vs l : List ℕ) (at k : ℕ) {m now : List ℕ} → k ≡ at + 4 → m ≡ sets l at (bytesOf v) → now ≡ sets m k (bytesOfAll vs) → now ≡ sets l at (bytesOfAll (v ∷ vs))
+pub put-first : (v : ℕ) (vs l : List ℕ) (at k : ℕ) {m now : List ℕ} → k ≡ at + 4 → m ≡ sets l at (bytesOf v)
+    → now ≡ sets m k (bytesOfAll vs) → now ≡ sets l at (bytesOfAll (v ∷ vs))
 put-first v vs l at k e p q = rw (q, p, e, ← all-one v) (sets-all (v ∷ []) vs l at)
 
 -- one number more of a list
@@ -86,7 +88,8 @@ pub shape-tests : (n : ℕ) (cs : List ℕ) → shapeOutcome (shapeOf n 3 cs) �
 unfolding shapeOutcome degreeOutcome count countOf
 shape-tests n cs = refl
 
-pub shaped-of : (n : ℕ) (cs : List ℕ) → axesOutcome n ≡ done tt → countsOutcome n (countOf (header n cs)) ≡ done tt → Shaped (shapeOf n 3 cs)
+pub shaped-of : (n : ℕ) (cs : List ℕ) → axesOutcome n ≡ done tt → countsOutcome n (countOf (header n cs)) ≡ done tt
+    → Shaped (shapeOf n 3 cs)
 shaped-of n cs e f = shaped (shapeOf n 3 cs) (shape-tests n cs ∙ first-passed (axesOutcome n) _ e ∙ f)
 
 -- 4, 9 and 5, of a table with `many` nodes and a file of `needed` bytes
@@ -140,10 +143,17 @@ module _ (h : Header) (xs : List ℤ) (room : ℕ) where
 
   pub fit-writes : PermittedTable h xs → length (fileOf h xs) ≤ room → writeOutcome h xs room ≡ done (length (fileOf h xs))
   unfolding writeOutcome writeCheck
-  fit-writes t r = rw (t .axes-ok, t .counts-ok, eq-eqb (length xs) (nodesOf h) (t .counted), le-leb (length (fileOf h xs)) room r, t .limited) refl
+  fit-writes t r = rw (
+    t .axes-ok,
+    t .counts-ok,
+    eq-eqb (length xs) (nodesOf h) (t .counted),
+    le-leb (length (fileOf h xs)) room r,
+    t .limited,
+  ) refl
 
 -- sizes that the machine holds
-pub fit-size : (n : ℕ) (cs : List ℕ) (xs : List ℤ) → PermittedTable (header n cs) xs → (n ≤ 3) × (length xs ≤ 262144) × (length (fileOf (header n cs) xs) ≡ 4 * (2 + n + length xs))
+pub fit-size : (n : ℕ) (cs : List ℕ) (xs : List ℤ) → PermittedTable (header n cs) xs → (n ≤ 3) × (length xs ≤ 262144)
+    × (length (fileOf (header n cs) xs) ≡ 4 * (2 + n + length xs))
 unfolding nodesOf countOf nodes count
 fit-size n cs xs t =
     let s = shaped-of n cs (t .axes-ok) (t .counts-ok) in

@@ -12,12 +12,14 @@ use Rattle.lattice.proofs.BufferLaws.{sets-append}
 
 -- a text written otherwise
 pub put-as : {old t u now : List ℕ} {at end : ℕ} → t ≡ u → Put old at t now end → Put old at u now end
-put-as {old} {t} {u} {now} {at} {end} e p = record { ended = p .ended ∙ ap (λ (w : List ℕ). at + length w) e; written = p .written ∙ ap (λ (w : List ℕ). sets old at w) e }
+put-as {old} {t} {u} {now} {at} {end} e p =
+    record { ended = p .ended ∙ ap (λ (w : List ℕ). at + length w) e; written = p .written ∙ ap (λ (w : List ℕ). sets old at w) e }
 
 pub put-then : {old mid now t u : List ℕ} {at m end : ℕ} → Put old at t mid m → Put mid m u now end → Put old at (t ++ u) now end
 put-then {old} {mid} {now} {t} {u} {at} {m} {end} p q = record {
   ended = omega (arith, p .ended, q .ended, length-append t u);
-  written = q .written ∙ ap (λ (l : List ℕ). sets l m u) (p .written) ∙ ap (λ (k : ℕ). sets (sets old at t) k u) (p .ended) ∙ sym (sets-append t u old at);
+  written = q .written ∙ ap (λ (l : List ℕ). sets l m u) (p .written) ∙ ap (λ (k : ℕ). sets (sets old at t) k u) (p .ended)
+      ∙ sym (sets-append t u old at);
 }
 
 pub put-length : {old text now : List ℕ} {at end : ℕ} → Put old at text now end → length now ≡ length old

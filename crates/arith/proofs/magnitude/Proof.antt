@@ -66,4 +66,5 @@ returns c =
 
 pub magnitude-spec : {M : Type 1} → statement M
 magnitude-spec =
-    tie.close (tie.spec (λ c. rest-fits (c .before .args .x) (c .before .fits .x) (c .if1 .taken)) cast-result add-result cast-result-2 returns (λ c. search needs))
+    tie.close (tie.spec (λ c. rest-fits (c .before .args .x) (c .before .fits .x) (c .if1 .taken)) cast-result add-result cast-result-2
+    returns (λ c. search needs))

@@ -23,7 +23,11 @@ module _ (x : ℤ) (k : ℕ) (f : SFits w64 x) (hk : k ≤ 61) (small : natAbs x
   half-small = pow-mono hk
 
   half : toZ w64 (1 * 2 ^ k % 18446744073709551616) ≡ pos (2 ^ k)
-  half = rw (one-mul (2 ^ k), mod-eq-of-lt (lt-of-le-of-lt half-small (lit< tt)), toZ-pos w64 {n = 2 ^ k} (lt-of-le-of-lt half-small (lit< tt)))
+  half = rw (
+    one-mul (2 ^ k),
+    mod-eq-of-lt (lt-of-le-of-lt half-small (lit< tt)),
+    toZ-pos w64 {n = 2 ^ k} (lt-of-le-of-lt half-small (lit< tt)),
+  )
 
   sum-fits : SFits w64 (x +ℤ pos (2 ^ k))
   sum-fits = sfits-abs (x +ℤ pos (2 ^ k)) (lt-of-le-of-lt (abs-add x (pos (2 ^ k))) small)
@@ -40,9 +44,12 @@ module _ (x : ℤ) (k : ℕ) (f : SFits w64 x) (hk : k ≤ 61) (small : natAbs x
   raised : SFits w64 (toZ w64 (ofZ w64 x) +ℤ toZ w64 (1 * 2 ^ k % 18446744073709551616))
   raised = rw (toZ-ofZ f, half) sum-fits
 
-  ends : toZ w64 (ofZ w64 (shrZ (toZ w64 (ofZ w64 (toZ w64 (ofZ w64 x) +ℤ toZ w64 (1 * 2 ^ k % 18446744073709551616)))) (2 ^ (k + 1)))) ≡ roundHalfUp x (2 ^ (k + 1))
+  ends : toZ w64 (ofZ w64 (shrZ (toZ w64 (ofZ w64 (toZ w64 (ofZ w64 x) +ℤ toZ w64 (1 * 2 ^ k % 18446744073709551616)))) (2 ^ (k + 1))))
+      ≡ roundHalfUp x (2 ^ (k + 1))
   ends = rw (toZ-ofZ f, half, toZ-ofZ sum-fits, toZ-ofZ (sfits-shr (x +ℤ pos (2 ^ k)) (2 ^ (k + 1)) sum-fits)) nearest
 
 pub rounded-spec : {M : Type 1} → statement M
 rounded-spec =
-    tie.close (tie.spec (λ c. search needs) (λ c. search needs) (λ c. raised (c .args .x) (c .args .k) (c .fits .x) (c .pre .0) (c .pre .1)) (λ c. search needs) (λ c. search needs) (λ c. search needs) (λ c. ends (c .args .x) (c .args .k) (c .fits .x) (c .pre .0) (c .pre .1)))
+    tie.close (tie.spec (λ c. search needs) (λ c. search needs)
+    (λ c. raised (c .args .x) (c .args .k) (c .fits .x) (c .pre .0) (c .pre .1)) (λ c. search needs) (λ c. search needs)
+    (λ c. search needs) (λ c. ends (c .args .x) (c .args .k) (c .fits .x) (c .pre .0) (c .pre .1)))

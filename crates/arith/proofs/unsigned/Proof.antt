@@ -7,12 +7,17 @@ use Rattle.arith.proofs.unsigned.Tie as tie
 
 cast-result-2 : tie.Need-cast-result-2
 cast-result-2 c =
-    rw (raised-held (c .before .args .x) (c .before .fits .x) (c .if1 .taken)) (tt, record { fits = unsigned-below (c .before .args .x) (c .before .fits .x) })
+    rw (raised-held (c .before .args .x) (c .before .fits .x) (c .if1 .taken))
+    (tt, record { fits = unsigned-below (c .before .args .x) (c .before .fits .x) })
 
 cast-result-3 : tie.Need-cast-result-3
 cast-result-3 c =
-    rw (not-below (c .before .args .x) (c .before .fits .x) (c .if1 .left)) (tt, record { fits = unsigned-below (c .before .args .x) (c .before .fits .x) })
+    rw (not-below (c .before .args .x) (c .before .fits .x) (c .if1 .left))
+    (tt, record { fits = unsigned-below (c .before .args .x) (c .before .fits .x) })
 
 pub unsigned-spec : {M : Type 1} → statement M
 unsigned-spec =
-    tie.close (tie.spec (λ c. widen-fits (c .before .args .x) (c .before .fits .x .sfits)) (λ c. raised-fits (c .before .args .x) (c .before .fits .x) (c .if1 .taken)) cast-result-2 cast-result-3 (λ c. rw (raised-held (c .before .args .x) (c .before .fits .x) (c .if1 .taken)) refl) (λ c. rw (not-below (c .before .args .x) (c .before .fits .x) (c .if1 .left)) refl))
+    tie.close (tie.spec (λ c. widen-fits (c .before .args .x) (c .before .fits .x .sfits))
+    (λ c. raised-fits (c .before .args .x) (c .before .fits .x) (c .if1 .taken)) cast-result-2 cast-result-3
+    (λ c. rw (raised-held (c .before .args .x) (c .before .fits .x) (c .if1 .taken)) refl)
+    (λ c. rw (not-below (c .before .args .x) (c .before .fits .x) (c .if1 .left)) refl))

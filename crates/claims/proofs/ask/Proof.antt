@@ -14,7 +14,8 @@ unfolding queried
 returns c =
     let a = c .before .before .before .before .args in
     let w = wanted (a .derivative) in
-    ap (inFloat w) (c .by-position .ensures ∙ sym (ap (λ z. queried (a .s) (now (a .records)) w (queryOf z)) (c .before .before .q .given .1)))
+    ap (inFloat w) (c .by-position .ensures
+    ∙ sym (ap (λ z. queried (a .s) (now (a .records)) w (queryOf z)) (c .before .before .q .given .1)))
 
 returns-2 : tie.Need-returns-2
 unfolding queried

@@ -20,7 +20,8 @@ returns c =
     let g = b .good .1 .1 .0 .1 .1 in
     c .at-position .ensures
     ∙ ap (λ (p : List ℤ). byPosition (a .s) (now (a .records)) (wanted (a .derivative)) (positionAt p))
-    (three _ _ _ (a .p .x) (a .p .y) (a .p .z) (element (a .p .x) (g .0 .1)) (element (a .p .y) (g .1 .0 .1)) (element (a .p .z) (g .1 .1 .0 .1)))
+    (three _ _ _ (a .p .x) (a .p .y) (a .p .z) (element (a .p .x) (g .0 .1)) (element (a .p .y) (g .1 .0 .1))
+    (element (a .p .z) (g .1 .1 .0 .1)))
 
 pub by-position-spec : {M : Type 1} → statement M
 by-position-spec = tie.close (tie.spec (λ c κs. search needs) returns)

@@ -1,4 +1,5 @@
--- `claims::estimate_and_ask` meets its contract: a refusal of estimation is that of both calls; else the query is lent the records, and the third demand is proved of what it gives.
+-- `claims::estimate_and_ask` meets its contract: a refusal of estimation is that of both calls; else the query is lent the records, and the
+-- third demand is proved of what it gives.
 use mathlib.Core.Path.{sym, ap, ap₂, _∙_}
 use mathlib.Core.List.{List}
 use native.Mathlib.Nat.{le-trans, le-of-eq}
@@ -13,7 +14,7 @@ use Rattle.evaluate.specs.Wants.{wanted}
 use Rattle.float_query.specs.Answers.{inFloat}
 use Rattle.claims.specs.Third.{Query, AcceptedTable, queried}
 use Rattle.claims.specs.Calls.{queryOf}
-use Rattle.claims.proofs.Lent.{lent-room}
+use Rattle.estimated.proofs.Estimated.{lent-room}
 use Rattle.claims.proofs.Demand.{both-refused, both-asked, claimed-told}
 use Rattle.claims.proofs.estimate_and_ask.Statement.{statement}
 use Rattle.claims.proofs.estimate_and_ask.Tie as tie
@@ -43,14 +44,18 @@ table-entries-requires c κs = let a = start c .args in estimated (a .s) (a .sam
 slice-reshare-prefix-ask : tie.Need-slice-reshare-prefix-ask
 slice-reshare-prefix-ask c =
     let a = start (c .before) .args in
-    le-trans (le-of-eq (c .table-entries .ensures)) (le-trans (lent-room (a .s) (a .samples .now) (a .records .now) (taken (c .before))) (le-of-eq (ap length (sym (c .before .before .before .before .estimate .ensures .1)))))
+    le-trans (le-of-eq (c .table-entries .ensures))
+    (le-trans (lent-room (a .s) (a .samples .now) (a .records .now) (taken (c .before)))
+    (le-of-eq (ap length (sym (c .before .before .before .before .estimate .ensures .1)))))
 
 returns : tie.Need-returns
 returns c =
     let b = c .before .before .before .before .before .before in
     let a = b .args in
     let e = c .before .before .before .before .estimate .ensures in
-    let g = ap (inFloat (want b)) (both-refused (a .s) (a .samples .now) (a .records .now) (want b) (question b) (sym (e .0) ∙ ap outcomeOf (c .before .answer .given .1))) in
+    let g = ap (inFloat (want b))
+    (both-refused (a .s) (a .samples .now) (a .records .now) (want b) (question b)
+    (sym (e .0) ∙ ap outcomeOf (c .before .answer .given .1))) in
     (g, (e .1, claimed-told (a .s) (a .samples .now) (a .records .now) (want b) (question b) _ g))
 
 returns-2 : tie.Need-returns-2
@@ -61,7 +66,8 @@ returns-2 c =
     let e = t .before .before .before .estimate .ensures in
     let lends = ap₂ take (c .before .before .table-entries .ensures) (e .1) in
     let g = c .ask .ensures
-    ∙ ap (inFloat (want b)) (ap (λ (rs : List ℤ). queried (a .s) rs (want b) (question b)) lends ∙ both-asked (a .s) (a .samples .now) (a .records .now) (want b) (question b) (taken t)) in
+    ∙ ap (inFloat (want b)) (ap (λ (rs : List ℤ). queried (a .s) rs (want b) (question b)) lends
+    ∙ both-asked (a .s) (a .samples .now) (a .records .now) (want b) (question b) (taken t)) in
     (g, (e .1, claimed-told (a .s) (a .samples .now) (a .records .now) (want b) (question b) _ g))
 
 pub estimate-and-ask-spec : {M : Type 1} → statement M

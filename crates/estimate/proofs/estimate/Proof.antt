@@ -1,4 +1,5 @@
--- `estimate::estimate` meets its contract: where the gate passes, its facts are what the body asks for; where it refuses, nothing is written.
+-- `estimate::estimate` meets its contract: where the gate passes, its facts are what the body asks for; where it refuses, nothing is
+-- written.
 use mathlib.Core.Path.{sym, ap, _∙_}
 use lib.ListN.{length}
 use borrow.Author.Needs.{needs}
@@ -12,14 +13,18 @@ use Rattle.estimate.proofs.estimate.Tie as tie
 fill-records-requires : tie.Need-fill-records-requires
 fill-records-requires c κs =
     let a = c .before .before .before .before .args in
-    estimated (a .s) (a .samples .now) (length (a .records .now)) (sym (c .before .before .before .check-estimate .ensures) ∙ ap outcomeOf (c .before .enum-told .given .1))
+    estimated (a .s) (a .samples .now) (length (a .records .now))
+    (sym (c .before .before .before .check-estimate .ensures) ∙ ap outcomeOf (c .before .enum-told .given .1))
 
 returns : tie.Need-returns
 unfolding estimateWrites
 returns c =
     let b = c .before .before .before .before .before .before in
-    let e = c .before .before .before .before .before .check-estimate .ensures in
-    (e, c .before .fill-records .ensures ∙ when-done _ (b .args .records .now) (sym e ∙ ap outcomeOf (c .before .before .before .enum-told .given .1)))
+    let e = c .before .before .before .before .before .check-estimate .ensures in (
+      e,
+      c .before .fill-records .ensures
+          ∙ when-done _ (b .args .records .now) (sym e ∙ ap outcomeOf (c .before .before .before .enum-told .given .1)),
+    )
 
 returns-2 : tie.Need-returns-2
 unfolding estimateWrites

@@ -1,4 +1,5 @@
--- `estimate::fill_plane` meets its contract. The loop's invariant: the records of the rows before row y are written, and the ring holds what row y asks for.
+-- `estimate::fill_plane` meets its contract. The loop's invariant: the records of the rows before row y are written, and the ring holds
+-- what row y asks for.
 use mathlib.Core.List.{List}
 use mathlib.Core.Path.{_≡_, refl}
 use Prim.Native.Nat.{ℕ, _<_, _-_, _*_}
@@ -18,13 +19,15 @@ use Rattle.estimate.proofs.fill_plane.Statement.{statement}
 use Rattle.estimate.proofs.fill_plane.Tie as tie
 
 -- row (y, z) is read
-row-seen : {g : Grid} {xs : List ℤ} (ok : Samples g xs) (y z : ℕ) {row : List ℤ} → ((t : ℕ) → t < g .my * (g .mz * g .cx) → at row t ≡ rowYZ g xs y z t) → length row ≡ 576 → Read row 0 (nodeSize g * g .cx)
+row-seen : {g : Grid} {xs : List ℤ} (ok : Samples g xs) (y z : ℕ) {row : List ℤ}
+    → ((t : ℕ) → t < g .my * (g .mz * g .cx) → at row t ≡ rowYZ g xs y z t) → length row ≡ 576 → Read row 0 (nodeSize g * g .cx)
 row-seen {g} {xs} ok y z {row} is l =
     let h = row-yz-high g (ok .grid) in
     record { inside = omega arith; small = λ t i. rw (zero-add t) (rw (is t (omega arith)) (row-yz-size g xs y z t ok)) }
 
 abbrev Inv-loop : tie.InvT-loop
-Inv-loop g xs z out₀ k step ring₀ row₀ p₀ y₀ out ring row p y = Stored k (rowSize g) (λ v. rowOf g (rowYZ g xs v z)) out₀ (g .cy) y p out × (length ring ≡ 576) × (length row ≡ 576) × Ring g xs y z ring
+Inv-loop g xs z out₀ k step ring₀ row₀ p₀ y₀ out ring row p y = Stored k (rowSize g) (λ v. rowOf g (rowYZ g xs v z)) out₀ (g .cy) y p out
+    × (length ring ≡ 576) × (length row ≡ 576) × Ring g xs y z ring
 
 abbrev μ-loop : tie.MeasureT-loop
 μ-loop g xs z out₀ k step ring₀ row₀ p₀ y₀ out ring row p y = g .cy - y
@@ -36,17 +39,27 @@ loop-holds c =
 
 fill-row-requires : tie.Need-fill-row-requires Inv-loop μ-loop
 fill-row-requires c κs =
-    let s = c .before .before .before .before .before .before .before .before .before .before .before .before .before .before .before .before in
+    let s =
+    c .before .before .before .before .before .before .before .before .before .before .before .before .before .before .before .before in
     let l = c .before .before .before .before .before .before .before .before .before .loop in
-    let q = c .before .before .before .before .row-yz in
-    ((s .pre .0 .grid, stored-room (l .inv .0) (c .before .before .before .before .before .before .before .if1 .taken) (s .pre .2)), row-seen (s .pre .0) (l .y) (s .args .z) (q .ensures .1) (omega (arith, q .kept, l .inv .2)))
+    let q = c .before .before .before .before .row-yz in (
+      (s .pre .0 .grid, stored-room (l .inv .0) (c .before .before .before .before .before .before .before .if1 .taken) (s .pre .2)),
+      row-seen (s .pre .0) (l .y) (s .args .z) (q .ensures .1) (omega (arith, q .kept, l .inv .2)),
+    )
 
 loop-again : tie.Need-loop-again Inv-loop μ-loop
 loop-again c =
-    let s = c .before .before .before .before .before .before .before .before .before .before .before .before .before .before .before .before .before .before in
+    let s =
+    c .before .before .before .before .before .before .before .before .before .before .before .before .before .before .before .before .before .before in
     let l = c .before .before .before .before .before .before .before .before .before .before .before .loop in
-    let q = c .before .before .before .before .before .before .row-yz in
-    (stored-more (l .inv .0) (c .before .before .before .before .before .before .before .before .before .if1 .taken) (c .before .fill-row .ensures) (row-same (s .args .g) (s .pre .0 .grid) _ (rowYZ (s .args .g) (s .args .xs .now) (l .y) (s .args .z)) (q .ensures .1)), omega (arith, q .kept, l .inv .1), omega (arith, q .kept, l .inv .2), q .ensures .0)
+    let q = c .before .before .before .before .before .before .row-yz in (
+      stored-more (l .inv .0) (c .before .before .before .before .before .before .before .before .before .if1 .taken)
+          (c .before .fill-row .ensures)
+          (row-same (s .args .g) (s .pre .0 .grid) _ (rowYZ (s .args .g) (s .args .xs .now) (l .y) (s .args .z)) (q .ensures .1)),
+      omega (arith, q .kept, l .inv .1),
+      omega (arith, q .kept, l .inv .2),
+      q .ensures .0,
+    )
 
 returns : tie.Need-returns Inv-loop μ-loop
 unfolding planeOf
@@ -62,13 +75,16 @@ fill-plane-spec =
     (λ c. omega (arith, record-high (c .before .before .args .g) (c .before .before .pre .0 .grid)))
     (λ c. omega (arith, row-high (c .before .before .before .args .g) (c .before .before .before .pre .0 .grid)))
     (λ c. search needs)
-    (λ c κs. let s = c .before .before .before .before in (s .pre .0, (s .pre .0 .grid .y-low, s .pre .1, omega (arith, row-z-high (s .args .g) (s .pre .0 .grid)))))
+    (λ c κs. let s = c .before .before .before .before in
+    (s .pre .0, (s .pre .0 .grid .y-low, s .pre .1, omega (arith, row-z-high (s .args .g) (s .pre .0 .grid)))))
     loop-holds
     (λ c. search needs) (λ c. search needs)
-    (λ c κs. let s = c .before .before .before .before .before .before .before .before .before .before .before in let i = c .before .before .before .before .loop .inv in ((s .pre .0, c .before .before .if1 .taken, s .pre .1), (i .1, i .2, i .3)))
+    (λ c κs. let s = c .before .before .before .before .before .before .before .before .before .before .before in let i =
+    c .before .before .before .before .loop .inv in ((s .pre .0, c .before .before .if1 .taken, s .pre .1), (i .1, i .2, i .3)))
     (λ c. search needs)
     fill-row-requires
-    (λ c. let s = c .before .before .before .before .before .before .before .before .before .before .before .before .before .before .before .before .before .before in omega (arith, stored-fits (c .before .before .before .before .before .before .before .before .before .before .before .loop .inv .0) (c .before .before .before .before .before .before .before .before .before .if1 .taken) (s .pre .2), s .good))
+    (λ c. let s =
+    c .before .before .before .before .before .before .before .before .before .before .before .before .before .before .before .before .before .before in omega (arith, stored-fits (c .before .before .before .before .before .before .before .before .before .before .before .loop .inv .0) (c .before .before .before .before .before .before .before .before .before .if1 .taken) (s .pre .2), s .good))
     (λ c. omega arith)
     (λ c. less-left (c .before .before .before .before .before .before .before .before .before .if1 .taken))
     loop-again

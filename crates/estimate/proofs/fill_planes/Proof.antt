@@ -30,10 +30,18 @@ fill-planes-spec =
     (λ c. omega (arith, row-high (c .before .before .before .args .g) (c .before .before .before .pre .0 .grid)))
     (λ c. omega (arith, plane-high (c .before .before .before .before .args .g) (c .before .before .before .before .pre .0 .grid)))
     (λ c. stored-none)
-    (λ c κs. let s = c .before .before .before .before .before .before .before .before in let h = c .before .if1 .taken in (s .pre .0, h, stored-room (c .before .before .before .loop .inv) h (rw zero-add (s .pre .1))))
-    (λ c. let s = c .before .before .before .before .before .before .before .before .before .before in omega (arith, stored-fits (c .before .before .before .before .before .loop .inv) (c .before .before .before .if1 .taken) (rw zero-add (s .pre .1)), s .good))
+    (λ c κs. let s = c .before .before .before .before .before .before .before .before in let h = c .before .if1 .taken in
+    (s .pre .0, h, stored-room (c .before .before .before .loop .inv) h (rw zero-add (s .pre .1))))
+    (λ c. let s = c .before .before .before .before .before .before .before .before .before .before in
+    omega (
+      arith,
+      stored-fits (c .before .before .before .before .before .loop .inv) (c .before .before .before .if1 .taken)
+          (rw zero-add (s .pre .1)),
+      s .good,
+    ))
     (λ c. omega arith)
     (λ c. less-left (c .before .before .before .if1 .taken))
-    (λ c. stored-more (c .before .before .before .before .before .loop .inv) (c .before .before .before .if1 .taken) (c .before .fill-plane .ensures) (λ o i. refl))
+    (λ c. stored-more (c .before .before .before .before .before .loop .inv) (c .before .before .before .if1 .taken)
+    (c .before .fill-plane .ensures) (λ o i. refl))
     (λ c. stored-length (c .before .before .loop .inv))
     returns)

@@ -39,7 +39,12 @@ module _ {s : Shape} {xs : List ℤ} (b : List ℤ) (ok : Estimable s xs (length
   module _ (one : s .axes ≡ 1) where
     flat : (g .my ≡ 1) × (g .mz ≡ 1) × (g .cy ≡ 1) × (g .cz ≡ 1)
     unfolding gridOf
-    flat = rw is (orders-unused s 1 (omega arith), orders-unused s 2 (omega arith), ok .shape .unused 1 (lit< tt) (omega arith), ok .shape .unused 2 (lit< tt) (omega arith))
+    flat = rw is (
+      orders-unused s 1 (omega arith),
+      orders-unused s 2 (omega arith),
+      ok .shape .unused 1 (lit< tt) (omega arith),
+      ok .shape .unused 2 (lit< tt) (omega arith),
+    )
 
     all : planeSize g * g .cz ≡ rowSize g
     all = rw (flat .2, flat .3) (omega arith)
@@ -48,21 +53,30 @@ module _ {s : Shape} {xs : List ℤ} (b : List ℤ) (ok : Estimable s xs (length
     line-ready =
         let r = ready in (
           (r .0 .grid, omega (arith, all, r .1)),
-          record { inside = rw (flat .0, flat .1, r .0 .whole, flat .2, flat .3) (omega arith); small = λ t h. rw (zero-add t) (le-trans (r .0 .small t) (lit≤ tt)) },
+          record {
+            inside = rw (flat .0, flat .1, r .0 .whole, flat .2, flat .3) (omega arith);
+            small =
+                λ t h. rw (zero-add t) (le-trans (r .0 .small t) (lit≤ tt));
+          },
         )
 
     line-result : {next : List ℤ} → next ≡ placed 0 (rowSize g) (rowOf g (at xs)) b → next ≡ overwrite (recordsOf s xs) b
     line-result e =
-        result (e ∙ placed-same 0 (rowSize g) (rowOf g (at xs)) (planesOf g xs) b (line-rows g xs (flat .0) (flat .1) (ready .0 .grid)) ∙ ap (λ (k : ℕ). placed 0 k (planesOf g xs) b) (sym all))
+        result (e ∙ placed-same 0 (rowSize g) (rowOf g (at xs)) (planesOf g xs) b (line-rows g xs (flat .0) (flat .1) (ready .0 .grid))
+        ∙ ap (λ (k : ℕ). placed 0 k (planesOf g xs) b) (sym all))
 
 pub fill-records-spec : {M : Type 1} → statement M
 fill-records-spec =
     tie.close
     (tie.spec
     (λ c κs. search needs)
-    (λ c κs. let g = c .before .before .before in line-ready (g .before .args .records .now) (g .before .pre) (g .grid-of .ensures) (c .before .if1 .taken))
+    (λ c κs. let g = c .before .before .before in
+    line-ready (g .before .args .records .now) (g .before .pre) (g .grid-of .ensures) (c .before .if1 .taken))
     (λ c κs. let g = c .before .before .before in ready (g .before .args .records .now) (g .before .pre) (g .grid-of .ensures))
     (λ c. search needs)
-    (λ c. let g = c .before .before .before .before .before in line-result (g .before .args .records .now) (g .before .pre) (g .grid-of .ensures) (c .before .before .before .if1 .taken) (c .before .fill-row .ensures))
+    (λ c. let g = c .before .before .before .before .before in
+    line-result (g .before .args .records .now) (g .before .pre) (g .grid-of .ensures) (c .before .before .before .if1 .taken)
+    (c .before .fill-row .ensures))
     (λ c. search needs)
-    (λ c. let g = c .before .before .before .before .before in result (g .before .args .records .now) (g .before .pre) (g .grid-of .ensures) (c .before .fill-planes .ensures)))
+    (λ c. let g = c .before .before .before .before .before in
+    result (g .before .args .records .now) (g .before .pre) (g .grid-of .ensures) (c .before .fill-planes .ensures)))

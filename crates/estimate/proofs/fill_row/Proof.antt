@@ -39,20 +39,27 @@ module _ {g : Grid} (ok : Grids g) where
   read : {row : List ℤ} → Read row 0 (size * g .cx) → (low count : ℕ) → low + count ≤ size + inner + size → Read row low count
   read {row} r low count l =
       let e = numbers in
-      record { inside = omega (arith, r .inside); small = λ t j. subst (λ (n : ℕ). natAbs (at row n) ≤ passLimit) (zero-add (low + t)) (r .small (low + t) (omega arith)) }
+      record {
+        inside = omega (arith, r .inside);
+        small =
+            λ t j. subst (λ (n : ℕ). natAbs (at row n) ≤ passLimit) (zero-add (low + t)) (r .small (low + t) (omega arith));
+      }
 
   -- neighbours of the numbers of the first node, of the nodes between, and of the last node
   abbrev Near : ℕ → ℕ → ℕ → ℕ → Type 0
   Near low mid high n = (q : ℕ) → q < n → (lower size (mid + q) ≡ low + q) × (upper size (size * g .cx) (mid + q) ≡ high + q)
 
   first-near : Near 0 0 size size
-  first-near q l = let e = numbers in (lower-none size (0 + q) (omega arith), upper-is size (0 + q) (size * g .cx) (omega arith) ∙ omega arith)
+  first-near q l = let e = numbers in
+      (lower-none size (0 + q) (omega arith), upper-is size (0 + q) (size * g .cx) (omega arith) ∙ omega arith)
 
   inner-near : Near 0 size (2 * size) inner
-  inner-near q l = let e = numbers in (lower-is size (size + q) (omega arith) ∙ omega arith, upper-is size (size + q) (size * g .cx) (omega arith) ∙ omega arith)
+  inner-near q l = let e = numbers in
+      (lower-is size (size + q) (omega arith) ∙ omega arith, upper-is size (size + q) (size * g .cx) (omega arith) ∙ omega arith)
 
   last-near : Near inner (inner + size) (inner + size) size
-  last-near q l = let e = numbers in (lower-is size (inner + size + q) (omega arith) ∙ omega arith, upper-none size (inner + size + q) (size * g .cx) (omega arith))
+  last-near q l = let e = numbers in
+      (lower-is size (inner + size + q) (omega arith) ∙ omega arith, upper-none size (inner + size + q) (size * g .cx) (omega arith))
 
   -- and give the records one behind the other
   module _ (row : List ℤ) where
@@ -66,7 +73,8 @@ module _ {g : Grid} (ok : Grids g) where
         let h = near (j / g .mx) (high-below (ok .mx .0) l) in
         rw (mul-add-div (ok .mx .0) mid j, mul-add-mod-self-left (g .mx) mid j, h .0, h .1)
 
-    module _ (k : ℕ) (b b₁ b₂ b₃ : List ℤ) (e₁ : b₁ ≡ placed k (g .mx * size) (run 0 0 size) b) (e₂ : b₂ ≡ placed (k + g .mx * size) (g .mx * inner) (run 0 size (2 * size)) b₁)
+    module _ (k : ℕ) (b b₁ b₂ b₃ : List ℤ) (e₁ : b₁ ≡ placed k (g .mx * size) (run 0 0 size) b)
+        (e₂ : b₂ ≡ placed (k + g .mx * size) (g .mx * inner) (run 0 size (2 * size)) b₁)
         (e₃ : b₃ ≡ placed (k + g .mx * size + g .mx * inner) (g .mx * size) (run inner (inner + size) (inner + size)) b₂) where
       abbrev h : ℕ → ℤ
       h = rowOf g (at row)
@@ -81,7 +89,8 @@ module _ {g : Grid} (ok : Grids g) where
 
       result : b₃ ≡ placed k (rowSize g) h b
       result =
-          placed-next k (g .mx * size + g .mx * inner) (g .mx * size) (k + g .mx * size + g .mx * inner) h (run inner (inner + size) (inner + size)) b b₂ b₃ (omega arith) between e₃
+          placed-next k (g .mx * size + g .mx * inner) (g .mx * size) (k + g .mx * size + g .mx * inner) h
+          (run inner (inner + size) (inner + size)) b b₂ b₃ (omega arith) between e₃
           (λ j l. part inner (inner + size) (inner + size) size last-near j l ∙ ap h (omega arith))
           ∙ ap (λ (m : ℕ). placed k m h b) entries
 
@@ -97,9 +106,30 @@ fill-row-spec =
     (λ c. let s = c .before .before .before in omega (arith, entries (s .pre .0 .0), s .pre .0 .1, s .good))
     (λ c. let s = c .before .before .before .before in omega (arith, entries (s .pre .0 .0), row-high (s .args .g) (s .pre .0 .0)))
     (λ c. let s = c .before .before .before .before in omega (arith, entries (s .pre .0 .0), s .pre .0 .1, s .good))
-    (λ c κs. let s = c .before .before .before .before .before in let ok = s .pre .0 .0 in let r = read ok (s .pre .1) in ((ok .mx, omega (arith, entries ok, s .pre .0 .1)), (r _ _ (omega arith), r _ _ (omega arith), r _ _ (omega arith))))
+    (λ c κs. let s = c .before .before .before .before .before in let ok = s .pre .0 .0 in let r = read ok (s .pre .1) in
+    ((ok .mx, omega (arith, entries ok, s .pre .0 .1)), (r _ _ (omega arith), r _ _ (omega arith), r _ _ (omega arith))))
     (λ c. let s = c .before .before .before .before .before .before .before in omega (arith, node-high (s .args .g) (s .pre .0 .0)))
-    (λ c κs. let s = c .before .before .before .before .before .before .before .before in let ok = s .pre .0 .0 in let r = read ok (s .pre .1) in ((ok .mx, omega (arith, entries ok, s .pre .0 .1, c .before .before .pass .kept)), (r _ _ (omega arith), r _ _ (omega arith), r _ _ (omega arith))))
-    (λ c κs. let s = c .before .before .before .before .before .before .before .before .before .before .before in let ok = s .pre .0 .0 in let r = read ok (s .pre .1) in ((ok .mx, omega (arith, entries ok, s .pre .0 .1, c .before .before .pass2 .kept, c .before .before .before .before .before .pass .kept)), (r _ _ (omega arith), r _ _ (omega arith), r _ _ (omega arith))))
+    (λ c κs. let s = c .before .before .before .before .before .before .before .before in let ok = s .pre .0 .0 in let r =
+    read ok (s .pre .1) in (
+      (ok .mx, omega (arith, entries ok, s .pre .0 .1, c .before .before .pass .kept)),
+      (r _ _ (omega arith), r _ _ (omega arith), r _ _ (omega arith)),
+    ))
+    (λ c κs. let s = c .before .before .before .before .before .before .before .before .before .before .before in let ok = s .pre .0 .0 in
+    let r = read ok (s .pre .1) in (
+      (
+        ok .mx,
+        omega (
+          arith,
+          entries ok,
+          s .pre .0 .1,
+          c .before .before .pass2 .kept,
+          c .before .before .before .before .before .pass .kept,
+        ),
+      ),
+      (r _ _ (omega arith), r _ _ (omega arith), r _ _ (omega arith)),
+    ))
     (λ c. search needs)
-    (λ c. let s = c .before .before .before .before .before .before .before .before .before .before .before .before .before in result (s .pre .0 .0) (s .args .row .now) (s .args .k) (s .args .out .now) _ _ _ (c .before .before .before .before .before .before .before .pass .ensures) (c .before .before .before .before .pass2 .ensures) (c .before .pass3 .ensures)))
+    (λ c. let s = c .before .before .before .before .before .before .before .before .before .before .before .before .before in
+    result (s .pre .0 .0) (s .args .row .now) (s .args .k) (s .args .out .now) _ _ _
+    (c .before .before .before .before .before .before .before .pass .ensures) (c .before .before .before .before .pass2 .ensures)
+    (c .before .pass3 .ensures)))

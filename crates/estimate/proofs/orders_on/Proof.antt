@@ -10,4 +10,5 @@ returns : tie.Need-returns
 returns c = let a = c .before .before .before .args in c .orders .ensures ∙ sym (orders-used (a .s) (a .axis) (omega arith))
 
 pub orders-on-spec : {M : Type 1} → statement M
-orders-on-spec = tie.close (tie.spec (λ c κs. search needs) returns (λ c. let a = c .before .before .args in sym (orders-unused (a .s) (a .axis) (omega arith))))
+orders-on-spec = tie.close
+    (tie.spec (λ c κs. search needs) returns (λ c. let a = c .before .before .args in sym (orders-unused (a .s) (a .axis) (omega arith))))

@@ -23,7 +23,8 @@ module _ {xs : List ℤ} {low count : ℕ} (r : Read xs low count) {t : ℕ} (l 
   small = rw value (r .small t l)
 
 abbrev Inv-loop : tie.InvT-loop
-Inv-loop m xs low mid high count out₀ k t₀ p₀ out t p = Stored k m (λ i o. byOrder o (since xs low i) (since xs mid i) (since xs high i)) out₀ count t p out
+Inv-loop m xs low mid high count out₀ k t₀ p₀ out t p =
+    Stored k m (λ i o. byOrder o (since xs low i) (since xs mid i) (since xs high i)) out₀ count t p out
 
 abbrev μ-loop : tie.MeasureT-loop
 μ-loop m xs low mid high count out₀ k t₀ p₀ out t p = count - t
@@ -31,14 +32,17 @@ abbrev μ-loop : tie.MeasureT-loop
 put-orders-requires : tie.Need-put-orders-requires Inv-loop μ-loop
 put-orders-requires c κs =
     let s = c .before .before .before .before .before .before in
-    let h = c .before .before .before .before .loop-test .taken in
-    ((s .pre .0 .0, stored-room (c .before .before .before .before .before .loop .inv) h (s .pre .0 .1)), (small (s .pre .1 .0) h, small (s .pre .1 .1) h, small (s .pre .1 .2) h))
+    let h = c .before .before .before .before .loop-test .taken in (
+      (s .pre .0 .0, stored-room (c .before .before .before .before .before .loop .inv) h (s .pre .0 .1)),
+      (small (s .pre .1 .0) h, small (s .pre .1 .1) h, small (s .pre .1 .2) h),
+    )
 
 loop-again : tie.Need-loop-again Inv-loop μ-loop
 loop-again c =
     let s = c .before .before .before .before .before .before .before .before in
     let h = c .before .before .before .before .before .before .loop-test .taken in
-    stored-more (c .before .before .before .before .before .before .before .loop .inv) h (c .before .put-orders .ensures) (λ o i. rw (value (s .pre .1 .0) h, value (s .pre .1 .1) h, value (s .pre .1 .2) h))
+    stored-more (c .before .before .before .before .before .before .before .loop .inv) h (c .before .put-orders .ensures)
+    (λ o i. rw (value (s .pre .1 .0) h, value (s .pre .1 .1) h, value (s .pre .1 .2) h))
 
 pub pass-spec : {M : Type 1} → statement M
 pass-spec =
@@ -47,10 +51,17 @@ pass-spec =
     Inv-loop
     μ-loop
     (λ c. stored-none)
-    (λ c. omega arith) (λ c. omega arith) (λ c. omega arith) (λ c. omega arith) (λ c. omega arith) (λ c. omega arith) (λ c. omega arith) (λ c. omega arith)
+    (λ c. omega arith) (λ c. omega arith) (λ c. omega arith) (λ c. omega arith) (λ c. omega arith) (λ c. omega arith) (λ c. omega arith)
+    (λ c. omega arith)
     (λ c. omega arith)
     put-orders-requires
-    (λ c. let s = c .before .before .before .before .before .before .before .before in omega (arith, stored-fits (c .before .before .before .before .before .before .before .loop .inv) (c .before .before .before .before .before .before .loop-test .taken) (s .pre .0 .1), s .good))
+    (λ c. let s = c .before .before .before .before .before .before .before .before in
+    omega (
+      arith,
+      stored-fits (c .before .before .before .before .before .before .before .loop .inv)
+          (c .before .before .before .before .before .before .loop-test .taken) (s .pre .0 .1),
+      s .good,
+    ))
     (λ c. omega arith)
     (λ c. less-left (c .before .before .before .before .before .before .loop-test .taken))
     loop-again

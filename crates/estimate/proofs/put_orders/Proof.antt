@@ -1,4 +1,5 @@
--- `estimate::put_orders` meets its contract: within ±2^19 the machine's D and S are those of document 01, and the orders stand one behind the other.
+-- `estimate::put_orders` meets its contract: within ±2^19 the machine's D and S are those of document 01, and the orders stand one behind
+-- the other.
 use mathlib.Core.Path.{_≡_}
 use mathlib.Core.List.{List}
 use Prim.Native.Nat.{ℕ, _≤_, _+_}
@@ -62,7 +63,8 @@ module _ (l f r : ℤ) (small : (natAbs l ≤ passLimit) × (natAbs f ≤ passLi
     unfolding placed byOrder
     two e = rw (e, D, value, add-zero k)
 
-    three : m ≡ 3 → set (set (set b k (held f)) (k + 1) (held (held r -ℤ held l))) (k + 2) (held (held (held l -ℤ held (pos 2 *ℤ held f)) +ℤ held r)) ≡ placed k m (λ o. byOrder o l f r) b
+    three : m ≡ 3 → set (set (set b k (held f)) (k + 1) (held (held r -ℤ held l))) (k + 2)
+        (held (held (held l -ℤ held (pos 2 *ℤ held f)) +ℤ held r)) ≡ placed k m (λ o. byOrder o l f r) b
     unfolding placed byOrder
     three e = rw (e, S, D, value, add-zero k)
 
@@ -80,8 +82,11 @@ put-orders-spec =
     (λ c. search needs) (λ c. search needs)
     (λ c. simp length-set (omega arith))
     (λ c. search needs)
-    (λ c. let s = c .before .before in three (s .args .l) (s .args .f) (s .args .r) (s .pre .1) (s .args .k) (now (s .args .out)) (s .args .m) (omega arith))
+    (λ c. let s = c .before .before in
+    three (s .args .l) (s .args .f) (s .args .r) (s .pre .1) (s .args .k) (now (s .args .out)) (s .args .m) (omega arith))
     (λ c. search needs)
-    (λ c. let s = c .before .before in two (s .args .l) (s .args .f) (s .args .r) (s .pre .1) (s .args .k) (now (s .args .out)) (s .args .m) (omega arith))
+    (λ c. let s = c .before .before in
+    two (s .args .l) (s .args .f) (s .args .r) (s .pre .1) (s .args .k) (now (s .args .out)) (s .args .m) (omega arith))
     (λ c. search needs)
-    (λ c. let s = c .before in one (s .args .l) (s .args .f) (s .args .r) (s .pre .1) (s .args .k) (now (s .args .out)) (s .args .m) (omega arith)))
+    (λ c. let s = c .before in
+    one (s .args .l) (s .args .f) (s .args .r) (s .pre .1) (s .args .k) (now (s .args .out)) (s .args .m) (omega arith)))

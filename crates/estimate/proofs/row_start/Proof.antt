@@ -20,4 +20,6 @@ unfolding rowStart
 returns c = refl
 
 pub row-start-spec : {M : Type 1} → statement M
-row-start-spec = tie.close (tie.spec (λ c. omega (arith, number _ _ (c .before .pre))) (λ c. omega (arith, number _ _ (c .before .pre))) (λ c. omega (arith, start _ _ (c .before .before .pre))) returns)
+row-start-spec = tie.close
+    (tie.spec (λ c. omega (arith, number _ _ (c .before .pre))) (λ c. omega (arith, number _ _ (c .before .pre)))
+    (λ c. omega (arith, start _ _ (c .before .before .pre))) returns)

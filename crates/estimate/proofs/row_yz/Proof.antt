@@ -7,11 +7,15 @@ use Rattle.estimate.proofs.row_yz.Statement.{statement}
 use Rattle.estimate.proofs.row_yz.Tie as tie
 
 -- the rows in the samples
-in-samples : (c : tie.After-row-start3) → let n = c .before .before .before .before .before .before in let a = n .before .before .args in Three (a .g) (a .xs .now) (n .before .left-of .result) (a .y) (n .right-of .result) (a .z) (a .xs .now) (c .before .before .row-start .result) (c .before .row-start2 .result) (c .row-start3 .result)
+in-samples : (c : tie.After-row-start3) → let n = c .before .before .before .before .before .before in let a = n .before .before .args in
+    Three (a .g) (a .xs .now) (n .before .left-of .result) (a .y) (n .right-of .result) (a .z) (a .xs .now)
+    (c .before .before .row-start .result) (c .before .row-start2 .result) (c .row-start3 .result)
 in-samples c =
     let n = c .before .before .before .before .before .before in
     let s = n .before .before in
-    rw (c .before .before .row-start .ensures, c .before .row-start2 .ensures, c .row-start3 .ensures) (plain-three (s .pre .0 .0) _ _ _ _ (omega arith) (s .pre .0 .1) (n .right-of .ensures .1) (s .pre .0 .2) (c .before .before .before .if1 .taken))
+    rw (c .before .before .row-start .ensures, c .before .row-start2 .ensures, c .row-start3 .ensures)
+    (plain-three (s .pre .0 .0) _ _ _ _ (omega arith) (s .pre .0 .1) (n .right-of .ensures .1) (s .pre .0 .2)
+    (c .before .before .before .if1 .taken))
 
 pass-requires : tie.Need-pass-requires
 pass-requires c κs =
@@ -26,14 +30,18 @@ pass-requires-2 c κs =
     let s = n .before .before in
     let ok = s .pre .0 .0 in (
       (ok .grid .my, omega (arith, row-yz-high (s .args .g) (ok .grid), s .pre .1 .1)),
-      reads ok (ring-three ok _ _ _ (n .before .left-of .ensures .0) (n .right-of .ensures .0) (s .pre .0 .1) (r .before .before .if1 .left) (s .pre .1 .0) (s .pre .1 .2) (r .row-z .ensures)),
+      reads ok (ring-three ok _ _ _ (n .before .left-of .ensures .0) (n .right-of .ensures .0) (s .pre .0 .1)
+          (r .before .before .if1 .left) (s .pre .1 .0) (s .pre .1 .2) (r .row-z .ensures)),
     )
 
 returns : tie.Need-returns
 returns c =
     let n = c .before .before .before .before .before .before .before .before .before in
-    let s = n .before .before in
-    (λ some. absurd (some (c .before .before .before .before .before .before .if1 .taken)), made (s .pre .0 .0) _ _ _ (n .before .left-of .ensures .0) (n .right-of .ensures .0) (in-samples (c .before .before .before)) (s .args .row .now) (s .pre .1 .1) (c .before .pass .ensures))
+    let s = n .before .before in (
+      λ some. absurd (some (c .before .before .before .before .before .before .if1 .taken)),
+      made (s .pre .0 .0) _ _ _ (n .before .left-of .ensures .0) (n .right-of .ensures .0) (in-samples (c .before .before .before))
+          (s .args .row .now) (s .pre .1 .1) (c .before .pass .ensures),
+    )
 
 returns-2 : tie.Need-returns-2
 returns-2 c =
@@ -44,7 +52,9 @@ returns-2 c =
     let below = n .before .left-of .ensures .0 in
     let above = n .right-of .ensures .0 in (
       ring-next ok _ _ _ below above (s .pre .0 .1) (r .before .before .if1 .left) (s .pre .1 .0) (s .pre .1 .2) (r .row-z .ensures),
-      made ok _ _ _ below above (ring-three ok _ _ _ below above (s .pre .0 .1) (r .before .before .if1 .left) (s .pre .1 .0) (s .pre .1 .2) (r .row-z .ensures)) (s .args .row .now) (s .pre .1 .1) (c .before .pass2 .ensures),
+      made ok _ _ _ below above
+          (ring-three ok _ _ _ below above (s .pre .0 .1) (r .before .before .if1 .left) (s .pre .1 .0) (s .pre .1 .2) (r .row-z .ensures))
+          (s .args .row .now) (s .pre .1 .1) (c .before .pass2 .ensures),
     )
 
 pub row-yz-spec : {M : Type 1} → statement M
@@ -56,9 +66,18 @@ row-yz-spec =
     (λ c κs. search needs) (λ c κs. search needs) (λ c κs. search needs)
     pass-requires
     (λ c. omega (arith, slot-in (c .before .before .before .before .before .pre .0 .0) (c .before .before .before .right-of .result)))
-    (λ c κs. let n = c .before .before .before .before in let s = n .before .before in (s .pre .0 .0, (n .right-of .ensures .1, s .pre .0 .2, omega (arith, slot-in (s .pre .0 .0) (n .right-of .result), s .pre .1 .0))))
-    (λ c. omega (arith, slot-in (c .before .before .before .before .before .before .before .before .before .pre .0 .0) (c .before .before .before .before .before .before .before .before .left-of .result)))
-    (λ c. omega (arith, slot-in (c .before .before .before .before .before .before .before .before .before .pre .0 .0) (c .before .before .before .before .before .before .before .before .before .args .y)))
+    (λ c κs. let n = c .before .before .before .before in let s = n .before .before in
+    (s .pre .0 .0, (n .right-of .ensures .1, s .pre .0 .2, omega (arith, slot-in (s .pre .0 .0) (n .right-of .result), s .pre .1 .0))))
+    (λ c. omega (
+      arith,
+      slot-in (c .before .before .before .before .before .before .before .before .before .pre .0 .0)
+          (c .before .before .before .before .before .before .before .before .left-of .result),
+    ))
+    (λ c. omega (
+      arith,
+      slot-in (c .before .before .before .before .before .before .before .before .before .pre .0 .0)
+          (c .before .before .before .before .before .before .before .before .before .args .y),
+    ))
     pass-requires-2
     (λ c. search needs)
     returns

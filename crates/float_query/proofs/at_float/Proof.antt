@@ -39,7 +39,8 @@ module _ (c : tie.After-with-ten) where
 
   -- the steps as the query by position has them
   abbrev steps : List ℤ
-  steps = held (c .before .before .before .before .held-step .result) (c .before .before .before .held-step2 .result) (c .before .before .held-step3 .result)
+  steps = held (c .before .before .before .before .held-step .result) (c .before .before .before .held-step2 .result)
+      (c .before .before .held-step3 .result)
 
   abbrev position : Outcome ℤ
   position = byPosition (start .args .s) (now (start .args .records)) want (positionAt steps)
@@ -54,8 +55,10 @@ module _ (c : tie.After-with-ten) where
       let f = y .step-of2 .ensures in
       let g = z .step-of3 .ensures in
       three-held (floatsAt (start .args .p)) (x .step-of .result) (y .step-of2 .result) (z .step-of3 .result)
-      (record { finite-is = e .0; step-is = e .1 }) (record { finite-is = f .0; step-is = f .1 }) (record { finite-is = g .0; step-is = g .1 }) _ _ _
-      (c .before .before .before .before .held-step .ensures) (c .before .before .before .held-step2 .ensures) (c .before .before .held-step3 .ensures)
+      (record { finite-is = e .0; step-is = e .1 }) (record { finite-is = f .0; step-is = f .1 })
+      (record { finite-is = g .0; step-is = g .1 }) _ _ _
+      (c .before .before .before .before .held-step .ensures) (c .before .before .before .held-step2 .ensures)
+      (c .before .before .held-step3 .ensures)
 
 in-float-requires : tie.Need-in-float-requires
 in-float-requires c κs = λ v h.
@@ -67,7 +70,8 @@ returns c =
     let d = c .before in
     let a = start d .args in
     c .in-float .ensures (a .derivative .axis)
-    ∙ ap (inFloat (want d)) (told-is d ∙ by-float (a .s) (now (a .records)) (want d) (floatsAt (a .p)) (fin d) (positionAt (steps d)) (stands d))
+    ∙ ap (inFloat (want d)) (told-is d
+    ∙ by-float (a .s) (now (a .records)) (want d) (floatsAt (a .p)) (fin d) (positionAt (steps d)) (stands d))
 
 pub at-float-spec : {M : Type 1} → statement M
 at-float-spec =

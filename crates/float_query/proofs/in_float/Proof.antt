@@ -37,7 +37,8 @@ module _ (c : tie.After-known-told2) where
   read = toZ-ofZ {w = w32} (sfits-abs v (lt-of-lt-of-le small (lit≤ tt)))
 
 returns : tie.Need-returns
-returns c axis = let a = c .before .before .before .args in sym (ap (λ z. inFloat (wantOf (a .order) axis) (outcomeOfReading z)) (c .before .a .given .1))
+returns c axis = let a = c .before .before .before .args in
+    sym (ap (λ z. inFloat (wantOf (a .order) axis) (outcomeOfReading z)) (c .before .a .given .1))
 
 returns-2 : tie.Need-returns-2
 returns-2 c axis =

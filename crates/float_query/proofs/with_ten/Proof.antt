@@ -35,7 +35,8 @@ returns c =
     let k = d .before .before .before .before in
     let a = k .before .before .args in
     let r = k .a .given .0 .0 in
-    tens (finiteOn (a .x) (a .y) (a .z)) (r .number) (r .place) (d .before .if1 .taken) (sym (d .finite-on .ensures) ∙ not-true _ (c .if2 .taken))
+    tens (finiteOn (a .x) (a .y) (a .z)) (r .number) (r .place) (d .before .if1 .taken)
+    (sym (d .finite-on .ensures) ∙ not-true _ (c .if2 .taken))
     ∙ sym (ap (λ z. withTen (finiteOn (a .x) (a .y) (a .z)) (outcomeOfReading z)) (k .a .given .1))
 
 returns-2 : tie.Need-returns-2

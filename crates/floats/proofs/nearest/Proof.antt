@@ -55,7 +55,8 @@ module _ (c : tie.After-rounded) where
   unfolding rounding
   result =
       let b = bits (c .before .before .before .before) in
-      toZ-ofZ {w = w64} (sfits-of (c .rounded .ok)) ∙ c .rounded .ensures ∙ ap (λ z. roundHalfUp z (2 ^ (158 - exponent b + 1))) (significand (c .before))
+      toZ-ofZ {w = w64} (sfits-of (c .rounded .ok)) ∙ c .rounded .ensures
+      ∙ ap (λ z. roundHalfUp z (2 ^ (158 - exponent b + 1))) (significand (c .before))
 
   small : SFits w32 rounding
   unfolding rounding
@@ -67,7 +68,8 @@ module _ (c : tie.After-rounded) where
   unfolding rounding
   held =
       let start = c .before .before .before .before in
-      sym (ap nearestHeld (sym (back start)) ∙ bits-mid (bits start) (c .before .before .before .if1 .left) (c .before .before .if2 .taken) ∙ clamped-fits rounding (small .sfits))
+      sym (ap nearestHeld (sym (back start)) ∙ bits-mid (bits start) (c .before .before .before .if1 .left) (c .before .before .if2 .taken)
+      ∙ clamped-fits rounding (small .sfits))
 
 returns-3 : tie.Need-returns-3
 unfolding nearestHeld

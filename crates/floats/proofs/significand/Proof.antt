@@ -45,7 +45,8 @@ returns-2 : tie.Need-returns-2
 returns-2 c =
     let b = c .before .args .b in
     let n = (b % 8388608 + 8388608) * 512 in
-    ap (λ z. toZ w64 (ofZ w64 z)) (negated n (small b)) ∙ toZ-ofZ (fits-negated n (small b)) ∙ ap (λ t. signed t n) (sym (le-leb 2147483648 b (c .if1 .left)))
+    ap (λ z. toZ w64 (ofZ w64 z)) (negated n (small b)) ∙ toZ-ofZ (fits-negated n (small b))
+    ∙ ap (λ t. signed t n) (sym (le-leb 2147483648 b (c .if1 .left)))
 
 pub significand-spec : {M : Type 1} → statement M
 significand-spec =

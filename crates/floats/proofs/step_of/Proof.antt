@@ -17,7 +17,8 @@ use Rattle.floats.proofs.step_of.Statement.{statement}
 use Rattle.floats.proofs.step_of.Tie as tie
 
 -- what the two tests tell
-passed : (P : Float → Type 0) → ((s : Bool) (m : ℕ) (e : ℤ) → T (fits binary32 (fin s m e)) → P (fin s m e)) → (x : Float) → T (fits binary32 x) → lt x (inf false) ≡ true → lt (inf true) x ≡ true → P x
+passed : (P : Float → Type 0) → ((s : Bool) (m : ℕ) (e : ℤ) → T (fits binary32 (fin s m e)) → P (fin s m e)) → (x : Float)
+    → T (fits binary32 x) → lt x (inf false) ≡ true → lt (inf true) x ≡ true → P x
 unfolding lt
 passed P k nan f h l = absurd (false≢true h)
 passed P k (inf true) f h l = absurd (false≢true l)
@@ -48,14 +49,18 @@ unfolding div ofBits
 returns-3 c = not-below (c .before .args .x) (c .if1 .left)
 
 -- 1.0 / 0.0 and its negative compute to the infinities
-finite-at : (P : Float → Type 0) → ((s : Bool) (m : ℕ) (e : ℤ) → T (fits binary32 (fin s m e)) → P (fin s m e)) → (c : tie.Then2) → P (c .before .before .args .x)
+finite-at : (P : Float → Type 0) → ((s : Bool) (m : ℕ) (e : ℤ) → T (fits binary32 (fin s m e)) → P (fin s m e)) → (c : tie.Then2)
+    → P (c .before .before .args .x)
 unfolding div neg ofBits
-finite-at P k c = passed P k (c .before .before .args .x) (subst T (sym (c .before .before .good .0 .1)) tt) (c .before .if1 .taken) (c .if2 .taken)
+finite-at P k c = passed P k (c .before .before .args .x) (subst T (sym (c .before .before .good .0 .1)) tt) (c .before .if1 .taken)
+    (c .if2 .taken)
 
 returns : tie.Need-returns
 returns c =
-    let f = finite-at (λ x. (true ≡ finite x) × (nearestHeld (mul binary32 x scale) ≡ clamped (step 256 x))) (λ s m e t. (refl, scaled s m e t)) (c .before) in
+    let f = finite-at (λ x. (true ≡ finite x) × (nearestHeld (mul binary32 x scale) ≡ clamped (step 256 x)))
+    (λ s m e t. (refl, scaled s m e t)) (c .before) in
     (f .0, toZ-ofZ {w = w32} (sfits-of (c .nearest .ok)) ∙ c .nearest .ensures ∙ f .1)
 
 pub step-of-spec : {M : Type 1} → statement M
-step-of-spec = tie.close (tie.spec (λ c κs. finite-at (λ x. T (not (isNan (mul binary32 x scale)))) scaled-not-nan c) returns returns-2 returns-3)
+step-of-spec = tie.close (tie.spec
+    (λ c κs. finite-at (λ x. T (not (isNan (mul binary32 x scale)))) scaled-not-nan c) returns returns-2 returns-3)

@@ -15,10 +15,12 @@ returns c =
     let y = z .before .before in
     let x = y .before .before in
     let a = x .before .args in
-    scanned 3 (λ (i : ℕ). countAllowed (a .n) (getD (a .x ∷ a .y ∷ a .z ∷ []) i 0) i) (x .count-allowed .ensures) (y .count-allowed2 .ensures) (z .count-allowed3 .ensures)
+    scanned 3 (λ (i : ℕ). countAllowed (a .n) (getD (a .x ∷ a .y ∷ a .z ∷ []) i 0) i) (x .count-allowed .ensures)
+    (y .count-allowed2 .ensures) (z .count-allowed3 .ensures)
     (y .before .refuse-unless .ensures) (z .before .refuse-after .ensures) (c .refuse-after2 .ensures)
 
 pub check-counts-spec : {M : Type 1} → statement M
 check-counts-spec =
     tie.close
-    (tie.spec (λ c κs. search needs) (λ c κs. search needs) (λ c κs. search needs) (λ c κs. search needs) (λ c κs. search needs) (λ c κs. search needs) returns)
+    (tie.spec (λ c κs. search needs) (λ c κs. search needs) (λ c κs. search needs) (λ c κs. search needs) (λ c κs. search needs)
+    (λ c κs. search needs) returns)

@@ -18,7 +18,8 @@ use Rattle.lattice.proofs.check_limit.Statement.{statement}
 use Rattle.lattice.proofs.check_limit.Tie as tie
 
 -- what the size of the element that is read says
-module _ (limit r : ℕ) (xs : List ℤ) (i : ℕ) (fit : mag (at xs i) < 2 ^ 31) (is : r ≡ natAbs (toZ w64 (ofZ w64 (toZ w32 (ofZ w32 (at xs i)))))) where
+module _ (limit r : ℕ) (xs : List ℤ) (i : ℕ) (fit : mag (at xs i) < 2 ^ 31)
+    (is : r ≡ natAbs (toZ w64 (ofZ w64 (toZ w32 (ofZ w32 (at xs i)))))) where
   size-is : r ≡ natAbs (at xs i)
   size-is = is ∙ ap natAbs (widened (at xs i) fit)
 
@@ -44,7 +45,11 @@ returns c =
     let i = b .loop .i in
     c .refuse-unless .ensures
     ∙ sym (limit-stops number limit xs i (omega arith) (b .loop .inv .1)
-    (omega (arith, c .before .if1 .taken, size-is limit _ xs i (c .before .before .before .x .given) (c .before .before .magnitude .ensures))))
+    (omega (
+      arith,
+      c .before .if1 .taken,
+      size-is limit _ xs i (c .before .before .before .x .given) (c .before .before .magnitude .ensures),
+    )))
 
 loop-again : tie.Need-loop-again Inv-loop μ-loop
 loop-again c =
@@ -59,7 +64,8 @@ loop-again c =
     )
 
 returns-2 : tie.Need-returns-2 Inv-loop μ-loop
-returns-2 c = sym (limit-ends (c .before .before .args .number) (c .before .before .args .limit) (c .before .before .args .xs .now) (c .before .loop .i) (omega arith) (c .before .loop .inv .1))
+returns-2 c = sym (limit-ends (c .before .before .args .number) (c .before .before .args .limit) (c .before .before .args .xs .now)
+    (c .before .loop .i) (omega arith) (c .before .loop .inv .1))
 
 pub check-limit-spec : {M : Type 1} → statement M
 check-limit-spec =

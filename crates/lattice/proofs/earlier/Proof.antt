@@ -19,4 +19,5 @@ returns-3 c = sym (first-passed _ _ (ap outcomeOf (c .before .before .enum-told 
 pub earlier-spec : {M : Type 1} → statement M
 earlier-spec =
     tie.close
-    (tie.spec (λ c. search needs) enum-told (λ c. search needs) (λ c. search needs) (λ c. sym (refused-first _ (ap outcomeOf (c .before .a .given .1)))) returns-2 returns-3)
+    (tie.spec (λ c. search needs) enum-told (λ c. search needs) (λ c. search needs)
+    (λ c. sym (refused-first _ (ap outcomeOf (c .before .a .given .1)))) returns-2 returns-3)

@@ -13,7 +13,11 @@ mul-result c = omega (arith, plane-high (c .before .before .before .args .t1) (c
 
 mul-result-2 : tie.Need-mul-result-2
 unfolding count
-mul-result-2 c = omega (arith, nodes-is (c .before .before .before .args .t1), nodes-high (c .before .before .before .args .t1) (c .before .before .before .pre))
+mul-result-2 c = omega (
+  arith,
+  nodes-is (c .before .before .before .args .t1),
+  nodes-high (c .before .before .before .args .t1) (c .before .before .before .pre),
+)
 
 returns : tie.Need-returns
 unfolding count

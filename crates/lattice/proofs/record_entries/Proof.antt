@@ -32,7 +32,8 @@ mul-result : tie.Need-mul-result
 mul-result c = let s = c .before .before .before .args .s in omega (arith, square-high s _ (c .before .before .orders .ensures))
 
 returns-2 : tie.Need-returns-2
-returns-2 c = let s = c .before .before .before .args .s in rw (c .before .before .orders .ensures) (sym (pow-two (orders s)) ∙ power s _ refl 2 (c .if2 .taken))
+returns-2 c = let s = c .before .before .before .args .s in
+    rw (c .before .before .orders .ensures) (sym (pow-two (orders s)) ∙ power s _ refl 2 (c .if2 .taken))
 
 mul-result-2 : tie.Need-mul-result-2
 mul-result-2 c = let s = c .before .before .before .args .s in omega (arith, square-high s _ (c .before .before .orders .ensures))
@@ -43,7 +44,8 @@ mul-result-3 c = let s = c .before .before .before .args .s in omega (arith, cub
 returns-3 : tie.Need-returns-3
 returns-3 c =
     let s = c .before .before .before .args .s in
-    rw (c .before .before .orders .ensures) (sym (pow-three (orders s)) ∙ power s _ refl 3 (three s (c .before .before .before .pre) (c .before .if1 .left) (c .if2 .left)))
+    rw (c .before .before .orders .ensures)
+    (sym (pow-three (orders s)) ∙ power s _ refl 3 (three s (c .before .before .before .pre) (c .before .if1 .left) (c .if2 .left)))
 
 pub record-entries-spec : {M : Type 1} → statement M
 record-entries-spec =

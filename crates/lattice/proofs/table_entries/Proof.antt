@@ -8,7 +8,8 @@ use Rattle.lattice.proofs.table_entries.Tie as tie
 
 mul-result : tie.Need-mul-result
 unfolding size
-mul-result c = rw (c .before .node-count .ensures, c .record-entries .ensures) (omega (arith, size-high (c .before .before .args .s) (c .before .before .pre)))
+mul-result c = rw (c .before .node-count .ensures, c .record-entries .ensures)
+    (omega (arith, size-high (c .before .before .args .s) (c .before .before .pre)))
 
 returns : tie.Need-returns
 unfolding size

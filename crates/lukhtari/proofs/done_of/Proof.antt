@@ -10,4 +10,5 @@ enum-told : tie.Need-enum-told
 enum-told c = search needs
 
 pub done-of-spec : {M : Type 1} → statement M
-done-of-spec = tie.close (tie.spec enum-told (λ c. search needs) (λ c. ap (λ a. doneOf (outcomeOf a)) (sym (c .enum-told .given .1))) (λ c. ap (λ a. doneOf (outcomeOf a)) (sym (c .before .a .given .1))))
+done-of-spec = tie.close (tie.spec enum-told (λ c. search needs) (λ c. ap (λ a. doneOf (outcomeOf a)) (sym (c .enum-told .given .1)))
+    (λ c. ap (λ a. doneOf (outcomeOf a)) (sym (c .before .a .given .1))))

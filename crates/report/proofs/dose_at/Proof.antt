@@ -41,7 +41,8 @@ enum-told c = search needs
 returns : tie.Need-returns
 returns c =
     let v = c .before .reading .given .0 .0 in
-    toZ-ofZ {w = w32} (record { sfits = c .known-told .given .0 .1 }) ∙ done-same v _ (sym (ap outcomeOfReading (c .before .reading .given .1)) ∙ is (c .before .before .before))
+    toZ-ofZ {w = w32} (record { sfits = c .known-told .given .0 .1 })
+    ∙ done-same v _ (sym (ap outcomeOfReading (c .before .reading .given .1)) ∙ is (c .before .before .before))
 
 returns-2 : tie.Need-returns-2
 returns-2 c = cc (sym (ap outcomeOfReading (c .enum-told .given .1)) ∙ is (c .before .before))

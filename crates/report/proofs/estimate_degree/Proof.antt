@@ -10,7 +10,7 @@ use Rattle.estimate.specs.Estimate.{Estimable, estimateWrites}
 use Rattle.estimate.proofs.CallLaws.{estimated}
 use Rattle.table_file.specs.File.{header}
 use Rattle.report.specs.Report.{withDegree}
-use Rattle.claims.proofs.Lent.{lent}
+use Rattle.estimated.proofs.Estimated.{lent}
 use borrow.Author.Needs.{needs}
 use Rattle.report.proofs.estimate_degree.Statement.{statement}
 use Rattle.report.proofs.estimate_degree.Tie as tie
@@ -31,7 +31,8 @@ returns c =
     let e = c .table-entries .ensures ∙ ap size is in (
       omega (arith, known s .fits, p .kept .1 .1 .0),
       ap (λ (k : ℕ). take k (p .last .1 .1 .0)) e
-          ∙ ap (take (size (shape s))) (p .ensures .1 ∙ ap (λ (t : Shape). estimateWrites t (now (s .args .samples)) (now (s .args .records))) is)
+          ∙ ap (take (size (shape s)))
+          (p .ensures .1 ∙ ap (λ (t : Shape). estimateWrites t (now (s .args .samples)) (now (s .args .records))) is)
           ∙ lent (shape s) (now (s .args .samples)) (now (s .args .records)) (s .pre),
     )
 

@@ -32,14 +32,18 @@ module _ (c : tie.After-dose-at2) where
   short : length (cellLine (start .args .cell) low high) ≤ lineLimit
   short =
       rw (element (c .before .dose-at .result) (c .before .dose-at .ok), element (c .dose-at2 .result) (c .dose-at2 .ok))
-      (line-short (start .args .cell) (c .before .dose-at .result) (c .dose-at2 .result) (start .pre .1 .1) (near (c .before .dose-at .result) (c .before .dose-at .ok)) (near (c .dose-at2 .result) (c .dose-at2 .ok)))
+      (line-short (start .args .cell) (c .before .dose-at .result) (c .dose-at2 .result) (start .pre .1 .1)
+      (near (c .before .dose-at .result) (c .before .dose-at .ok)) (near (c .dose-at2 .result) (c .dose-at2 .ok)))
 
-  line : cellLine (start .args .cell) low high ≡ lineFrom (header (start .args .axes) (start .args .counts)) (now (start .args .cubic)) (now (start .args .quintic)) (start .args .cell)
+  line : cellLine (start .args .cell) low high ≡ lineFrom (header (start .args .axes) (start .args .counts)) (now (start .args .cubic))
+      (now (start .args .quintic)) (start .args .cell)
   unfolding lineFrom
-  line = ap₂ (cellLine (start .args .cell)) (element _ (c .before .dose-at .ok) ∙ c .before .dose-at .ensures) (element _ (c .dose-at2 .ok) ∙ c .dose-at2 .ensures)
+  line = ap₂ (cellLine (start .args .cell)) (element _ (c .before .dose-at .ok) ∙ c .before .dose-at .ensures)
+      (element _ (c .dose-at2 .ok) ∙ c .dose-at2 .ensures)
 
 dose-at-requires-2 : tie.Need-dose-at-requires-2
-dose-at-requires-2 c κs = let b = c .before .before in (b .pre .0 .1, any-degree (header (b .args .axes) (b .args .counts)) 3 5 (b .args .cell) (b .pre .1 .0))
+dose-at-requires-2 c κs = let b = c .before .before in
+    (b .pre .0 .1, any-degree (header (b .args .axes) (b .args .counts)) 3 5 (b .args .cell) (b .pre .1 .0))
 
 returns : tie.Need-returns
 returns c =

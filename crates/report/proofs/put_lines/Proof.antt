@@ -64,10 +64,12 @@ cell : (c : tie.After-cell-at Inv-loop μ-loop) → c .cell-at .result ≡ cellA
 cell c = c .cell-at .ensures ∙ cell-is (table (start (first c))) (cells (first c)) (c .before .before .loop .i) (cells-are (first c))
 
 mul-total : tie.Need-mul-total Inv-loop μ-loop
-mul-total c = let b = between c in let h : getD (cells c) 1 0 * getD (cells c) 2 0 ≤ 64 * 64 = mul-le-mul (b .most 1 (lit< tt)) (b .most 2 (lit< tt)) in omega arith
+mul-total c = let b = between c in let h : getD (cells c) 1 0 * getD (cells c) 2 0 ≤ 64 * 64 =
+    mul-le-mul (b .most 1 (lit< tt)) (b .most 2 (lit< tt)) in omega arith
 
 loop-holds : tie.Need-loop-holds Inv-loop μ-loop
-loop-holds c = let a = start c .args in (omega arith, omega arith, lines-none (lineAt (a .axes) (a .counts) (now (a .cubic)) (now (a .quintic))) (now (a .out)))
+loop-holds c = let a = start c .args in
+    (omega arith, omega arith, lines-none (lineAt (a .axes) (a .counts) (now (a .cubic)) (now (a .quintic))) (now (a .out)))
 
 put-line-requires : tie.Need-put-line-requires Inv-loop μ-loop
 put-line-requires c κs =

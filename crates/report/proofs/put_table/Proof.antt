@@ -24,10 +24,12 @@ estimate-degree-requires-2 : tie.Need-estimate-degree-requires-2
 estimate-degree-requires-2 c κs = let s = c .before .before .before .before .before in quintic-taken (table s) (samples s) (s .pre .0)
 
 slice-aggregate-put-lines : tie.Need-slice-aggregate-put-lines
-slice-aggregate-put-lines c = let p = c .before .before .before .before .before .estimate-degree in sym (length-take-le (p .result) (p .last .1 .1 .1 .1 .0) (p .ensures .0))
+slice-aggregate-put-lines c = let p = c .before .before .before .before .before .estimate-degree in
+    sym (length-take-le (p .result) (p .last .1 .1 .1 .1 .0) (p .ensures .0))
 
 slice-aggregate-put-lines-2 : tie.Need-slice-aggregate-put-lines-2
-slice-aggregate-put-lines-2 c = let p = c .before .before .before .estimate-degree2 in sym (length-take-le (p .result) (p .last .1 .1 .1 .1 .0) (p .ensures .0))
+slice-aggregate-put-lines-2 c = let p = c .before .before .before .estimate-degree2 in
+    sym (length-take-le (p .result) (p .last .1 .1 .1 .1 .0) (p .ensures .0))
 
 put-lines-requires : tie.Need-put-lines-requires
 put-lines-requires c κs =
@@ -47,8 +49,11 @@ returns c =
     let l = c .before .before in
     let q = l .before .before .before .before .before in
     let p = q .before .before .before in
-    let s = p .before .before .before in
-    (put-as (ap₂ (linesFrom (table s)) (p .estimate-degree .ensures .1) (q .estimate-degree2 .ensures .1) ∙ lines-are (table s) (samples s) (s .pre .0)) (l .put-lines .ensures .0), l .put-lines .ensures .1)
+    let s = p .before .before .before in (
+      put-as (ap₂ (linesFrom (table s)) (p .estimate-degree .ensures .1) (q .estimate-degree2 .ensures .1)
+          ∙ lines-are (table s) (samples s) (s .pre .0)) (l .put-lines .ensures .0),
+      l .put-lines .ensures .1,
+    )
 
 pub put-table-spec : {M : Type 1} → statement M
 put-table-spec =

@@ -102,7 +102,8 @@ returns-3 c =
     let p = c .put-table in
     let n = c .before .before .before in
     let b = known n in
-    text-put (now (start b .args .out)) (reportText (input b)) (cellLines (table b) (take (n .node-count .result) (read b .read .last .1 .0)))
+    text-put (now (start b .args .out)) (reportText (input b))
+    (cellLines (table b) (take (n .node-count .result) (read b .read .last .1 .0)))
     _ (p .result) (p .ensures .0 .written) (omega (arith, p .ensures .0 .ended))
     (ap (cellLines (table b)) (samples-are n) ∙ sym (read-done (input b) (table b) (was-read b) (read b .before .before .if1 .left)))
     (omega (arith, p .ensures .0 .ended, p .ensures .1)) (c .before .put-table-arg .given .0 .1)

@@ -25,13 +25,17 @@ returns c =
     let d = c .before .before in
     let l = d .before .before in
     let g = ap outcomeOf (c .enum-told .given .1) in
-    g ∙ sym (firstOf-stops _ (l .loop .axis) (countOutcome (l .before .before .args .bytes .now)) _ _ (omega arith) (l .loop .inv .1) (sym (d .check-count .ensures) ∙ g))
+    g ∙ sym (firstOf-stops _ (l .loop .axis) (countOutcome (l .before .before .args .bytes .now)) _ _ (omega arith) (l .loop .inv .1)
+    (sym (d .check-count .ensures) ∙ g))
 
 loop-again : tie.Need-loop-again Inv-loop μ-loop
 loop-again c =
     let d = c .before .before in
-    let l = d .before .before in
-    (omega arith, firstOf-more (l .loop .axis) (countOutcome (l .before .before .args .bytes .now)) (l .loop .inv .1) (sym (d .check-count .ensures) ∙ ap outcomeOf (c .enum-told2 .given .1)))
+    let l = d .before .before in (
+      omega arith,
+      firstOf-more (l .loop .axis) (countOutcome (l .before .before .args .bytes .now)) (l .loop .inv .1)
+          (sym (d .check-count .ensures) ∙ ap outcomeOf (c .enum-told2 .given .1)),
+    )
 
 returns-2 : tie.Need-returns-2 Inv-loop μ-loop
 returns-2 c =

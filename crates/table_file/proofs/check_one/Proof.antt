@@ -17,12 +17,14 @@ whole : (d : tie.After-enum-told2) → complete (d .before .before .before .befo
 whole d = sym (d .before .before .check-complete .ensures) ∙ ap outcomeOf (d .enum-told2 .given .1)
 
 -- n as it was read
-axes-is : (d : tie.After-check-axes) → outcomeOf (d .check-axes .result) ≡ axesOutcome (axesIn (d .before .before .before .before .before .before .args .bytes .now))
+axes-is : (d : tie.After-check-axes)
+    → outcomeOf (d .check-axes .result) ≡ axesOutcome (axesIn (d .before .before .before .before .before .before .args .bytes .now))
 axes-is d = d .check-axes .ensures ∙ ap axesOutcome (d .before .number-at .ensures)
 
 returns : tie.Need-returns
 unfolding oneOutcome
-returns c = let g = ap outcomeOf (c .enum-told .given .1) in g ∙ sym (refused-first _ (sym (c .before .before .check-complete .ensures) ∙ g))
+returns c = let g = ap outcomeOf (c .enum-told .given .1) in g
+    ∙ sym (refused-first _ (sym (c .before .before .check-complete .ensures) ∙ g))
 
 returns-2 : tie.Need-returns-2
 unfolding oneOutcome
@@ -36,8 +38,10 @@ unfolding oneOutcome
 returns-3 c =
     let d = c .before .before .before in
     c .check-counts .ensures
-    ∙ ap (λ (n : ℕ). firstOf n (countOutcome (d .before .before .before .before .before .before .args .bytes .now))) (d .before .number-at .ensures)
-    ∙ sym (first-passed _ _ (whole (d .before .before)) ∙ first-passed _ _ (sym (axes-is d) ∙ ap outcomeOf (c .before .enum-told4 .given .1)))
+    ∙ ap (λ (n : ℕ). firstOf n (countOutcome (d .before .before .before .before .before .before .args .bytes .now)))
+    (d .before .number-at .ensures)
+    ∙ sym (first-passed _ _ (whole (d .before .before))
+    ∙ first-passed _ _ (sym (axes-is d) ∙ ap outcomeOf (c .before .enum-told4 .given .1)))
 
 check-counts-requires : tie.Need-check-counts-requires
 check-counts-requires c κs =

@@ -18,7 +18,8 @@ returns c =
     let d = c .before .before in
     let b = d .before .before in
     let g = ap outcomeOf (c .enum-told .given .1) in
-    g ∙ sym (rest-is (b .args .bytes .now) (b .args .axes) (b .args .nodes) (b .pre) (b .args .room) ∙ refused-first _ (sym (d .check-two .ensures) ∙ g))
+    g ∙ sym (rest-is (b .args .bytes .now) (b .args .axes) (b .args .nodes) (b .pre) (b .args .room)
+    ∙ refused-first _ (sym (d .check-two .ensures) ∙ g))
 
 returns-2 : tie.Need-returns-2
 returns-2 c =
@@ -26,7 +27,8 @@ returns-2 c =
     let d = s .before in
     let b = d .before .before .before .before in
     let g = ap outcomeOf (c .enum-told3 .given .1) in
-    g ∙ sym (rest-is (b .args .bytes .now) (b .args .axes) (b .args .nodes) (b .pre) (b .args .room) ∙ first-passed _ _ (two-passed d) ∙ refused-first _ (sym (s .refuse-unless .ensures) ∙ g))
+    g ∙ sym (rest-is (b .args .bytes .now) (b .args .axes) (b .args .nodes) (b .pre) (b .args .room) ∙ first-passed _ _ (two-passed d)
+    ∙ refused-first _ (sym (s .refuse-unless .ensures) ∙ g))
 
 returns-3 : tie.Need-returns-3
 returns-3 c =

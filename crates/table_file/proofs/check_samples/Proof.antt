@@ -29,12 +29,15 @@ abbrev samples : tie.Start Inv-loop μ-loop → List ℤ
 samples b = samplesFrom (b .args .bytes .now) (b .args .start) (b .args .count)
 
 -- the size that the code finds
-size-is : (c : tie.After-magnitude Inv-loop μ-loop) → c .magnitude .result ≡ natAbs (at (samples (c .before .before .before .before .before)) (c .before .before .before .loop .i))
+size-is : (c : tie.After-magnitude Inv-loop μ-loop)
+    → c .magnitude .result ≡ natAbs (at (samples (c .before .before .before .before .before)) (c .before .before .before .loop .i))
 size-is c =
     let s = c .before in
     let l = s .before .before in
     let a = l .before .before .args in
-    c .magnitude .ensures ∙ ap natAbs (widened _ (s .sample-at .ok) ∙ s .sample-at .ensures ∙ sym (sample-is (a .bytes .now) (a .start) (a .count) (l .loop .i) (omega arith)))
+    c .magnitude .ensures ∙ ap natAbs
+    (widened _ (s .sample-at .ok) ∙ s .sample-at .ensures
+    ∙ sym (sample-is (a .bytes .now) (a .start) (a .count) (l .loop .i) (omega arith)))
 
 returns : tie.Need-returns Inv-loop μ-loop
 returns c =
@@ -42,18 +45,24 @@ returns c =
     let l = m .before .before .before in
     let a = l .before .before .args in
     c .refuse-unless .ensures
-    ∙ sym (limit-stops 5 sampleLimit (samples (l .before .before)) (l .loop .i) (omega (arith, length-samples (a .bytes .now) (a .start) (a .count))) (l .loop .inv .1) (omega (arith, c .before .if1 .taken, size-is m)))
+    ∙ sym (limit-stops 5 sampleLimit (samples (l .before .before)) (l .loop .i)
+    (omega (arith, length-samples (a .bytes .now) (a .start) (a .count))) (l .loop .inv .1)
+    (omega (arith, c .before .if1 .taken, size-is m)))
 
 loop-again : tie.Need-loop-again Inv-loop μ-loop
 loop-again c =
     let m = c .before in
-    let l = m .before .before .before in
-    (omega arith, limit-more 5 sampleLimit (samples (l .before .before)) (l .loop .i) (l .loop .inv .1) (omega (arith, c .if1 .left, size-is m)))
+    let l = m .before .before .before in (
+      omega arith,
+      limit-more 5 sampleLimit (samples (l .before .before)) (l .loop .i) (l .loop .inv .1)
+          (omega (arith, c .if1 .left, size-is m)),
+    )
 
 returns-2 : tie.Need-returns-2 Inv-loop μ-loop
 returns-2 c =
     let a = c .before .before .before .args in
-    sym (limit-ends 5 sampleLimit (samples (c .before .before .before)) (c .before .loop .i) (omega (arith, length-samples (a .bytes .now) (a .start) (a .count))) (c .before .loop .inv .1))
+    sym (limit-ends 5 sampleLimit (samples (c .before .before .before)) (c .before .loop .i)
+    (omega (arith, length-samples (a .bytes .now) (a .start) (a .count))) (c .before .loop .inv .1))
 
 pub check-samples-spec : {M : Type 1} → statement M
 check-samples-spec =

@@ -12,7 +12,8 @@ use borrow.Author.Needs.{needs}
 use Rattle.table_file.proofs.check_two.Statement.{statement}
 use Rattle.table_file.proofs.check_two.Tie as tie
 
-whole : (d : tie.After-enum-told2) → complete (d .before .before .before .before .args .bytes .now) (2 + d .before .before .before .before .args .axes) ≡ done tt
+whole : (d : tie.After-enum-told2)
+    → complete (d .before .before .before .before .args .bytes .now) (2 + d .before .before .before .before .args .axes) ≡ done tt
 whole d = sym (d .before .before .check-complete .ensures) ∙ ap outcomeOf (d .enum-told2 .given .1)
 
 returns : tie.Need-returns
@@ -20,7 +21,8 @@ returns c =
     let d = c .before .before in
     let b = d .before .before in
     let g = ap outcomeOf (c .enum-told .given .1) in
-    g ∙ sym (two-is (b .args .bytes .now) (b .args .axes) (b .args .nodes) (b .pre) ∙ refused-first _ (sym (d .check-complete .ensures) ∙ g))
+    g ∙ sym (two-is (b .args .bytes .now) (b .args .axes) (b .args .nodes) (b .pre)
+    ∙ refused-first _ (sym (d .check-complete .ensures) ∙ g))
 
 returns-2 : tie.Need-returns-2
 returns-2 c =

@@ -23,13 +23,17 @@ abbrev μ-loop : tie.MeasureT-loop
 μ-loop bytes start count samples₀ i₀ samples i = count - i
 
 same : (l : tie.At-loop Inv-loop μ-loop) → length (l .loop .samples) ≡ length (l .before .before .args .samples .now)
-same l = filled-length (sample (l .before .before .args .bytes .now) (l .before .before .args .start)) _ (l .loop .i) (l .loop .samples) (omega arith) (l .loop .inv .1)
+same l = filled-length (sample (l .before .before .args .bytes .now) (l .before .before .args .start)) _ (l .loop .i) (l .loop .samples)
+    (omega arith) (l .loop .inv .1)
 
 loop-again : tie.Need-loop-again Inv-loop μ-loop
 loop-again c =
     let a = c .before .before .before .before .args in
-    let l = c .before .before .loop in
-    (omega arith, filled-more (sample (a .bytes .now) (a .start)) (a .samples .now) (l .i) (l .samples) _ (pos 0) (omega arith) (l .inv .1) (element _ (c .sample-at .ok) ∙ c .sample-at .ensures))
+    let l = c .before .before .loop in (
+      omega arith,
+      filled-more (sample (a .bytes .now) (a .start)) (a .samples .now) (l .i) (l .samples) _ (pos 0) (omega arith) (l .inv .1)
+          (element _ (c .sample-at .ok) ∙ c .sample-at .ensures),
+    )
 
 returns : tie.Need-returns Inv-loop μ-loop
 unfolding samplesFrom

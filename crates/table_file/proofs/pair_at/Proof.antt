@@ -6,8 +6,12 @@ use lib.ListN.{getD}
 use Rattle.table_file.proofs.pair_at.Statement.{statement}
 use Rattle.table_file.proofs.pair_at.Tie as tie
 
-small : (c : tie.After-shared-slice-known) → (getD (c .before .args .bytes .now) (c .before .args .at) 0 < 256) × (getD (c .before .args .bytes .now) (c .before .args .at + 1) 0 < 256)
-small c = (omega (arith, c .shared-slice-known .given (c .before .args .at)), omega (arith, c .shared-slice-known .given (c .before .args .at + 1)))
+small : (c : tie.After-shared-slice-known) → (getD (c .before .args .bytes .now) (c .before .args .at) 0 < 256)
+    × (getD (c .before .args .bytes .now) (c .before .args .at + 1) 0 < 256)
+small c = (
+  omega (arith, c .shared-slice-known .given (c .before .args .at)),
+  omega (arith, c .shared-slice-known .given (c .before .args .at + 1)),
+)
 
 pub pair-at-spec : {M : Type 1} → statement M
 pair-at-spec =

@@ -13,8 +13,10 @@ returns c =
     let e = d .before .before .before .before in
     let b = e .before .before .before in
     let a = b .args in
-    let few : a .axes ≤ length (a .counts) = omega (arith, b .pre .0, b .good .1 .0) in
-    (omega (arith, length-file (a .axes) (a .counts) (a .samples .now) few), file-put (a .axes) (a .counts) (a .samples .now) few (a .bytes .now) (b .pre .2) (e .put-one .ensures) (d .put-two .ensures))
+    let few : a .axes ≤ length (a .counts) = omega (arith, b .pre .0, b .good .1 .0) in (
+      omega (arith, length-file (a .axes) (a .counts) (a .samples .now) few),
+      file-put (a .axes) (a .counts) (a .samples .now) few (a .bytes .now) (b .pre .2) (e .put-one .ensures) (d .put-two .ensures),
+    )
 
 pub put-file-spec : {M : Type 1} → statement M
 put-file-spec =

@@ -12,7 +12,8 @@ use Rattle.table_file.proofs.put_one.Statement.{statement}
 use Rattle.table_file.proofs.put_one.Tie as tie
 
 abbrev Inv-loop : tie.InvT-loop
-Inv-loop bytes₀ axes counts n a₀ bytes a = (a ≤ axes) × (length bytes ≡ length bytes₀) × (bytes ≡ sets bytes₀ 4 (bytesOfAll (take a counts)))
+Inv-loop bytes₀ axes counts n a₀ bytes a = (a ≤ axes) × (length bytes ≡ length bytes₀)
+    × (bytes ≡ sets bytes₀ 4 (bytesOfAll (take a counts)))
 
 abbrev μ-loop : tie.MeasureT-loop
 μ-loop bytes₀ axes counts n a₀ bytes a = axes - a
@@ -28,7 +29,8 @@ loop-again c =
     let b = l .before .before .before .before .before .before in (
       omega arith,
       p .put-number2 .kept .0 ∙ l .loop .inv .1,
-      put-next (b .args .t3) _ 4 (l .loop .a) (4 * (1 + l .loop .a)) _ (omega (arith, b .good .1 .1 .0)) (omega arith) refl (l .loop .inv .2) (p .put-number2 .ensures),
+      put-next (b .args .t3) _ 4 (l .loop .a) (4 * (1 + l .loop .a)) _ (omega (arith, b .good .1 .1 .0)) (omega arith) refl
+          (l .loop .inv .2) (p .put-number2 .ensures),
     )
 
 returns : tie.Need-returns Inv-loop μ-loop

@@ -17,7 +17,8 @@ use Rattle.table_file.proofs.put_two.Tie as tie
 
 abbrev Inv-loop : tie.InvT-loop
 Inv-loop bytes₀ start samples i₀ bytes i =
-    (i ≤ length samples) × (length bytes ≡ length bytes₀) × (bytes ≡ sets bytes₀ (4 * (1 + start)) (bytesOfAll (take i (map unsignedOf samples))))
+    (i ≤ length samples) × (length bytes ≡ length bytes₀)
+    × (bytes ≡ sets bytes₀ (4 * (1 + start)) (bytesOfAll (take i (map unsignedOf samples))))
 
 abbrev μ-loop : tie.MeasureT-loop
 μ-loop bytes₀ start samples i₀ bytes i = length samples - i
@@ -35,8 +36,10 @@ loop-again c =
     let a = l .before .before .before .before .before .before .args in (
       omega arith,
       p .put-number2 .kept .0 ∙ l .loop .inv .1,
-      put-next (map unsignedOf (a .samples .now)) _ (4 * (1 + a .start)) (l .loop .i) (4 * (1 + a .start + l .loop .i)) _ (omega (arith, length-map (a .samples .now) unsignedOf)) (omega arith)
-          (u .unsigned .ensures ∙ ap unsignedOf (element (at (a .samples .now) (l .loop .i)) (x .x .given)) ∙ sym (sample-number (a .samples .now) (l .loop .i)))
+      put-next (map unsignedOf (a .samples .now)) _ (4 * (1 + a .start)) (l .loop .i) (4 * (1 + a .start + l .loop .i)) _
+          (omega (arith, length-map (a .samples .now) unsignedOf)) (omega arith)
+          (u .unsigned .ensures ∙ ap unsignedOf (element (at (a .samples .now) (l .loop .i)) (x .x .given))
+          ∙ sym (sample-number (a .samples .now) (l .loop .i)))
           (l .loop .inv .2) (p .put-number2 .ensures),
     )
 
@@ -64,7 +67,11 @@ put-two-spec =
     (λ c. omega arith)
     (λ c. omega arith)
     (λ c κs. search needs)
-    (λ c κs. omega (arith, c .before .before .before .before .loop .inv .1, c .before .before .before .before .before .before .before .put-number .kept .0))
+    (λ c κs. omega (
+      arith,
+      c .before .before .before .before .loop .inv .1,
+      c .before .before .before .before .before .before .before .put-number .kept .0,
+    ))
     (λ c. omega arith)
     (λ c. omega arith)
     loop-again

@@ -20,10 +20,14 @@ use Rattle.table_file.proofs.read.Tie as tie
 one-passed : (d : tie.After-enum-told) → oneOutcome (d .before .before .before .before .args .bytes .now) ≡ done tt
 one-passed d = sym (d .before .before .check-one .ensures) ∙ ap outcomeOf (d .enum-told .given .1)
 
-one-gave : (d : tie.After-node-count) → AfterOne (d .before .before .before .before .before .before .args .bytes .now) (d .before .shape-in .result .axes) (d .node-count .result)
+one-gave : (d : tie.After-node-count)
+    → AfterOne (d .before .before .before .before .before .before .args .bytes .now) (d .before .shape-in .result .axes)
+    (d .node-count .result)
 one-gave d = after-one _ (one-passed (d .before .before)) _ (d .before .shape-in .ensures) _ (d .node-count .ensures)
 
-rest-passed : (d : tie.After-enum-told2) → restOutcome (d .before .before .before .before .before .before .before .before .before .args .bytes .now) (length (d .before .before .before .before .before .before .before .before .before .args .samples .now)) ≡ done tt
+rest-passed : (d : tie.After-enum-told2)
+    → restOutcome (d .before .before .before .before .before .before .before .before .before .args .bytes .now)
+    (length (d .before .before .before .before .before .before .before .before .before .args .samples .now)) ≡ done tt
 rest-passed d = sym (d .before .before .check-rest .ensures) ∙ ap outcomeOf (d .enum-told2 .given .1)
 
 returns : tie.Need-returns
@@ -34,7 +38,9 @@ returns c =
 returns-2 : tie.Need-returns-2
 returns-2 c =
     let d = c .before .before .before in
-    answered-refused _ _ _ _ _ (read-is _ _ ∙ first-passed _ _ (one-passed (d .before .before .before)) ∙ refused-first _ (sym (d .check-rest .ensures) ∙ ap outcomeOf (c .before .rest .given .1)))
+    answered-refused _ _ _ _ _
+    (read-is _ _ ∙ first-passed _ _ (one-passed (d .before .before .before))
+    ∙ refused-first _ (sym (d .check-rest .ensures) ∙ ap outcomeOf (c .before .rest .given .1)))
 
 fill-requires : tie.Need-fill-requires
 fill-requires c κs =
@@ -50,7 +56,8 @@ returns-3 c =
     let n = d .before .before .before in
     let old = n .before .before .before .before .before .before .args .samples .now in
     answered-done _ _ old _ _
-    (read-is _ _ ∙ first-passed _ _ (one-passed (n .before .before)) ∙ first-passed _ _ (rest-passed d) ∙ ap done (header-is _ _ (n .before .shape-in .ensures)))
+    (read-is _ _ ∙ first-passed _ _ (one-passed (n .before .before)) ∙ first-passed _ _ (rest-passed d)
+    ∙ ap done (header-is _ _ (n .before .shape-in .ensures)))
     (f .fill .ensures ∙ ap (λ (xs : List ℤ). overwrite xs old) (samples-are _ _ _ (one-gave n)))
 
 pub read-spec : {M : Type 1} → statement M

@@ -16,4 +16,6 @@ returns-2 c =
 
 pub signed-spec : {M : Type 1} → statement M
 signed-spec =
-    tie.close (tie.spec (λ c. search needs) (λ c. search needs) (λ c. high-fits (c .before .args .v) (omega arith) (omega arith)) cast-result-3 (λ c. signed-is (c .before .args .v) (omega arith)) returns-2)
+    tie.close (tie.spec (λ c. search needs) (λ c. search needs)
+    (λ c. high-fits (c .before .args .v) (omega arith) (omega arith)) cast-result-3
+    (λ c. signed-is (c .before .args .v) (omega arith)) returns-2)

@@ -11,7 +11,9 @@ use borrow.Author.Needs.{needs}
 use Rattle.table_file.proofs.write.Statement.{statement}
 use Rattle.table_file.proofs.write.Tie as tie
 
-passed : (d : tie.After-enum-told) → writeCheck (header (d .before .before .before .before .args .axes) (d .before .before .before .before .args .counts)) (d .before .before .before .before .args .samples .now) (length (d .before .before .before .before .args .bytes .now)) ≡ done tt
+passed : (d : tie.After-enum-told)
+    → writeCheck (header (d .before .before .before .before .args .axes) (d .before .before .before .before .args .counts))
+    (d .before .before .before .before .args .samples .now) (length (d .before .before .before .before .args .bytes .now)) ≡ done tt
 passed d = sym (d .before .before .check-write .ensures) ∙ ap outcomeOf (d .enum-told .given .1)
 
 put-file-requires : tie.Need-put-file-requires
@@ -23,13 +25,15 @@ put-file-requires c κs =
 
 returns : tie.Need-returns
 unfolding writeOutcome
-returns c = answered-refused _ _ _ _ _ (refused-first _ (sym (c .before .before .before .check-write .ensures) ∙ ap outcomeOf (c .before .allowed .given .1)))
+returns c = answered-refused _ _ _ _ _
+    (refused-first _ (sym (c .before .before .before .check-write .ensures) ∙ ap outcomeOf (c .before .allowed .given .1)))
 
 returns-2 : tie.Need-returns-2
 unfolding writeOutcome
 returns-2 c =
     let p = c .before .before in
-    answered-done _ _ _ _ _ (first-passed _ _ (passed (p .before .before)) ∙ ap done (sym (p .put-file .ensures .0))) (p .put-file .ensures .1)
+    answered-done _ _ _ _ _ (first-passed _ _ (passed (p .before .before)) ∙ ap done (sym (p .put-file .ensures .0)))
+    (p .put-file .ensures .1)
 
 pub write-spec : {M : Type 1} → statement M
 write-spec =

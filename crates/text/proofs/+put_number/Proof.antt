@@ -36,4 +36,5 @@ pub +put-number-spec : {M : Type 1} → statement M
     (λ c. let h = more-length (c .before .before .before .before .before .before .args .n) (omega arith) in omega arith)
     (λ c. let h = more-length (c .before .before .before .before .before .before .args .n) (omega arith) in omega arith)
     (λ c. simp length-set (c .before .before .put-number .kept .0))
-    (λ c. let a = c .before .before .before .before .before .before .args in put-as (sym (more-digits (a .n) (omega arith))) (put-then (c .before .before .put-number .ensures) (put-byte _ _ (48 + a .n % 10))))
+    (λ c. let a = c .before .before .before .before .before .before .args in
+    put-as (sym (more-digits (a .n) (omega arith))) (put-then (c .before .before .put-number .ensures) (put-byte _ _ (48 + a .n % 10))))

@@ -34,7 +34,12 @@ put-word-requires-2 : tie.Need-put-word-requires-2
 put-word-requires-2 c κs =
     let b = c .before .before .before .before .before .before .before .before .before .before in
     let a = b .args in
-    omega (arith, cell-length (a .cell) (a .cubic) (a .quintic), ap length (same (a .cubic) 32 (b .fits .cubic)), ap length (same (a .quintic) 10 (b .fits .quintic)))
+    omega (
+      arith,
+      cell-length (a .cell) (a .cubic) (a .quintic),
+      ap length (same (a .cubic) 32 (b .fits .cubic)),
+      ap length (same (a .quintic) 10 (b .fits .quintic)),
+    )
 
 put-word-requires : tie.Need-put-word-requires
 put-word-requires c κs =
@@ -49,7 +54,8 @@ put-cell-line-spec =
     (λ c κs. omega (arith, cell-length (c .before .before .args .cell) (c .before .before .args .cubic) (c .before .before .args .quintic)))
     (λ c. let b = c .before .before .before .before .before .before in widen-fits (b .args .cubic) (b .fits .cubic .sfits))
     put-word-requires
-    (λ c. let b = c .before .before .before .before .before .before .before .before .before .before in widen-fits (b .args .quintic) (b .fits .quintic .sfits))
+    (λ c. let b = c .before .before .before .before .before .before .before .before .before .before in
+    widen-fits (b .args .quintic) (b .fits .quintic .sfits))
     put-word-requires-2
     (λ c. search needs)
     returns)

@@ -20,7 +20,8 @@ size-is c = let b = c .before .before in sym (c .magnitude .ensures ∙ ap natAb
 negative : (c : tie.Then1) → signedDecimal (c .before .before .before .args .x) ≡ 45 ∷ decimal (c .before .magnitude .result)
 negative c =
     let b = c .before .before .before in
-    below-zero (b .args .x) (rw (read (b .args .x) (b .fits .x .sfits)) at (c .if1 .taken)) ∙ ap (λ (k : ℕ). 45 ∷ decimal k) (size-is (c .before))
+    below-zero (b .args .x) (rw (read (b .args .x) (b .fits .x .sfits)) at (c .if1 .taken))
+    ∙ ap (λ (k : ℕ). 45 ∷ decimal k) (size-is (c .before))
 
 positive : (c : tie.Else1) → signedDecimal (c .before .before .before .args .x) ≡ decimal (c .before .magnitude .result)
 positive c =

@@ -18,7 +18,8 @@ same : (b : tie.Start) → signedDecimal (toZ w64 (ofZ w64 (b .args .x))) ≡ si
 same b = ap signedDecimal (read (b .args .x) (b .fits .x .sfits))
 
 -- the number and one byte
-sizes : (b : tie.Start) → length (signedDecimal (toZ w64 (ofZ w64 (b .args .x)))) + 1 ≡ length (word (signedDecimal (b .args .x)) (b .args .after))
+sizes : (b : tie.Start) → length (signedDecimal (toZ w64 (ofZ w64 (b .args .x)))) + 1 ≡ length
+    (word (signedDecimal (b .args .x)) (b .args .after))
 sizes b = omega (arith, ap length (same b), length-word (signedDecimal (b .args .x)) (b .args .after))
 
 returns : tie.Need-returns

@@ -1,4 +1,5 @@
--- `lukhtari::conversion::lukhtari_coefficients` meets its contract: the struct says what the answer says, and the slice is that of the call.
+-- `lukhtari::conversion::lukhtari_coefficients` meets its contract: the struct says what the answer says, and the slice is that of the
+-- call.
 use mathlib.Core.Path.{ap, _∙_}
 use Rattle.lukhtari.specs.Host.{doneOf}
 use borrow.Author.Needs.{needs}

@@ -7,4 +7,6 @@ use Rattle.lukhtari.proofs.files.table_of.Statement.{statement}
 use Rattle.lukhtari.proofs.files.table_of.Tie as tie
 
 pub table-of-spec : {M : Type 1} → statement M
-table-of-spec = tie.close (tie.spec (λ c. search needs) (λ c. search needs) (λ c. ap (λ a. tableFrom (outcomeOfTable a)) (sym (c .before .a .given .1))) (λ c. ap (λ a. tableFrom (outcomeOfTable a)) (sym (c .before .a2 .given .1))))
+table-of-spec = tie.close
+    (tie.spec (λ c. search needs) (λ c. search needs) (λ c. ap (λ a. tableFrom (outcomeOfTable a)) (sym (c .before .a .given .1)))
+    (λ c. ap (λ a. tableFrom (outcomeOfTable a)) (sym (c .before .a2 .given .1))))

@@ -7,4 +7,6 @@ use Rattle.lukhtari.proofs.files.written_of.Statement.{statement}
 use Rattle.lukhtari.proofs.files.written_of.Tie as tie
 
 pub written-of-spec : {M : Type 1} → statement M
-written-of-spec = tie.close (tie.spec (λ c. search needs) (λ c. search needs) (λ c. ap (λ a. writtenFrom (outcomeOfWrite a)) (sym (c .before .a .given .1))) (λ c. ap (λ a. writtenFrom (outcomeOfWrite a)) (sym (c .before .a2 .given .1))))
+written-of-spec = tie.close
+    (tie.spec (λ c. search needs) (λ c. search needs) (λ c. ap (λ a. writtenFrom (outcomeOfWrite a)) (sym (c .before .a .given .1)))
+    (λ c. ap (λ a. writtenFrom (outcomeOfWrite a)) (sym (c .before .a2 .given .1))))

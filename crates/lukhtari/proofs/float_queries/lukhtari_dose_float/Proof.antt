@@ -13,7 +13,8 @@ returns : tie.Need-returns
 returns c =
     let b = c .before in
     let a = b .before .args in
-    c .real-of .ensures ∙ ap realOf (b .at-float .ensures) ∙ real-held dose (byFloat (a .shape) (now (a .records)) dose (floatsAt (a .position)))
+    c .real-of .ensures ∙ ap realOf (b .at-float .ensures)
+    ∙ real-held dose (byFloat (a .shape) (now (a .records)) dose (floatsAt (a .position)))
 
 pub lukhtari-dose-float-spec : {M : Type 1} → statement M
 lukhtari-dose-float-spec = tie.close (tie.spec (λ c κs. search needs) (λ c κs. search needs) returns)

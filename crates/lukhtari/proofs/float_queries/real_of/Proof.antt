@@ -19,8 +19,11 @@ nought = refl
 returns-3 : tie.Need-returns-3
 returns-3 c =
     let r = c .before .a3 .given .0 .0 in
-    ap (λ (w : Option ℤ). record { number = r .number; place = r .place; value = w }) nought ∙ ap (λ a. realOf (outcomeOfFloat a)) (sym (c .before .a3 .given .1))
+    ap (λ (w : Option ℤ). record { number = r .number; place = r .place; value = w }) nought
+    ∙ ap (λ a. realOf (outcomeOfFloat a)) (sym (c .before .a3 .given .1))
 
 pub real-of-spec : {M : Type 1} → statement M
 real-of-spec =
-    tie.close (tie.spec (λ c. search needs) (λ c. search needs) (λ c. search needs) (λ c. ap (λ a. realOf (outcomeOfFloat a)) (sym (c .before .a .given .1))) (λ c. ap (λ a. realOf (outcomeOfFloat a)) (sym (c .before .a2 .given .1))) returns-3)
+    tie.close (tie.spec (λ c. search needs) (λ c. search needs) (λ c. search needs)
+    (λ c. ap (λ a. realOf (outcomeOfFloat a)) (sym (c .before .a .given .1)))
+    (λ c. ap (λ a. realOf (outcomeOfFloat a)) (sym (c .before .a2 .given .1))) returns-3)

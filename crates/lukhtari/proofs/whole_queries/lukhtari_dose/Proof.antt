@@ -6,4 +6,5 @@ use Rattle.lukhtari.proofs.whole_queries.lukhtari_dose.Statement.{state
 use Rattle.lukhtari.proofs.whole_queries.lukhtari_dose.Tie as tie
 
 pub lukhtari-dose-spec : {M : Type 1} → statement M
-lukhtari-dose-spec = tie.close (tie.spec (λ c κs. search needs) (λ c κs. search needs) (λ c. c .whole-of .ensures ∙ ap wholeFrom (c .before .at-position .ensures)))
+lukhtari-dose-spec = tie.close
+    (tie.spec (λ c κs. search needs) (λ c κs. search needs) (λ c. c .whole-of .ensures ∙ ap wholeFrom (c .before .at-position .ensures)))

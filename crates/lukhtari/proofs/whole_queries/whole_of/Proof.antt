@@ -16,4 +16,6 @@ returns c =
     ∙ ap (λ a. wholeFrom (outcomeOfReading a)) (sym (c .before .a .given .1))
 
 pub whole-of-spec : {M : Type 1} → statement M
-whole-of-spec = tie.close (tie.spec (λ c. search needs) (λ c. search needs) returns (λ c. ap (λ a. wholeFrom (outcomeOfReading a)) (sym (c .before .a2 .given .1))))
+whole-of-spec = tie.close
+    (tie.spec (λ c. search needs) (λ c. search needs) returns
+    (λ c. ap (λ a. wholeFrom (outcomeOfReading a)) (sym (c .before .a2 .given .1))))
