@@ -69,8 +69,8 @@ distances want =
 
 -- ---- tables
 
-abbrev pub line : Shape
-line = shapeOf 1 3 (3 ∷ 1 ∷ 1 ∷ [])
+abbrev pub threeNodes : Shape
+threeNodes = shapeOf 1 3 (3 ∷ 1 ∷ 1 ∷ [])
 
 abbrev pub plane : Shape
 plane = shapeOf 2 3 (2 ∷ 2 ∷ 1 ∷ [])
@@ -94,11 +94,11 @@ unfoldable pub flat : List ℤ → List ℤ
 flat [] = []
 flat (v ∷ vs) = (v ∷ pos 0 ∷ pos 0 ∷ pos 0 ∷ pos 0 ∷ pos 0 ∷ pos 0 ∷ pos 0 ∷ []) ++ flat vs
 
-abbrev pub at : ℤ → ℤ → ℤ → Query
-at x y z = atPosition (x ∷ y ∷ z ∷ [])
+abbrev pub atPoint : ℤ → ℤ → ℤ → Query
+atPoint x y z = atPosition (x ∷ y ∷ z ∷ [])
 
 abbrev pub start : Query
-start = at (pos 0) (pos 0) (pos 0)
+start = atPoint (pos 0) (pos 0) (pos 0)
 
 -- the file of 0, 100 with more bytes
 unfoldable pub fileWith : List ℕ → List ℕ
@@ -115,7 +115,7 @@ refusals =
     ∷ (answerFrom (shapeOf 2 5 (64 ∷ 64 ∷ 1 ∷ [])) [] (slopeAlong 2) start refusedAs 4 atPlace 0)
     -- 4 before 9; a sample of 32768 stands
     ∷ (tested (estimateOutcome plane (pos 0 ∷ []) 0) refusedAs 4 atPlace 0)
-    ∷ (tested (estimateOutcome line (pos 32768 ∷ negsuc 32767 ∷ pos 32769 ∷ []) 6) refusedAs 5 atPlace 2)
+    ∷ (tested (estimateOutcome threeNodes (pos 32768 ∷ negsuc 32767 ∷ pos 32769 ∷ []) 6) refusedAs 5 atPlace 2)
     -- 15 before 9; the place of 13 is 0 wherever the entry stands
     ∷ (backInto 0 1 3 (pos 0 ∷ []) refusedAs 15 atPlace 0)
     ∷ (backFrom 1 3 (pos 0 ∷ pos 0 ∷ pos 65537 ∷ pos 0 ∷ []) refusedAs 13 atPlace 0)
@@ -133,7 +133,7 @@ refusals =
 unfoldable pub readings : List Row
 readings =
     -- a position on a shared node is read in the upper cell
-    (answerFrom line (pos 32769 ∷ pos 0 ∷ pos 7 ∷ pos 0 ∷ pos 9 ∷ pos 0 ∷ []) dose (atPosition (at-x 256)) gives pos 7 ∷ [])
+    (answerFrom threeNodes (pos 32769 ∷ pos 0 ∷ pos 7 ∷ pos 0 ∷ pos 9 ∷ pos 0 ∷ []) dose (atPosition (at-x 256)) gives pos 7 ∷ [])
     -- the limits of the entries of a record
     ∷ (done (limits 2 8 ++ limits 3 9)
     gives pos 32768 ∷ pos 65536 ∷ pos 65536 ∷ pos 131072 ∷ pos 65536 ∷ pos 131072 ∷ pos 131072 ∷ pos 262144
@@ -144,8 +144,8 @@ readings =
     ∷ (answerFrom cube (flat (pos 0 ∷ pos 0 ∷ pos 32769 ∷ pos 0 ∷ pos 32769 ∷ pos 0 ∷ pos 0 ∷ pos 0 ∷ [])) dose start
     refusedAs 5 atPlace 16)
     -- nodes and entries, x fastest: twice the slope along y of node (0, 1, 2), and of node (1, 2)
-    ∷ (answerFrom block (only block 114 (pos 20)) (slopeAlong 1) (at (pos 0) (pos 256) (pos 512)) gives pos 10 ∷ [])
-    ∷ (answerFrom sheet (only sheet 30 (pos 20)) (slopeAlong 1) (at (pos 256) (pos 512) (pos 0)) gives pos 10 ∷ [])
+    ∷ (answerFrom block (only block 114 (pos 20)) (slopeAlong 1) (atPoint (pos 0) (pos 256) (pos 512)) gives pos 10 ∷ [])
+    ∷ (answerFrom sheet (only sheet 30 (pos 20)) (slopeAlong 1) (atPoint (pos 256) (pos 512) (pos 0)) gives pos 10 ∷ [])
     ∷ []
 
 -- ---- stages, coefficients, distances
@@ -154,9 +154,9 @@ unfoldable pub numbers : List Row
 numbers =
     -- the stages' order: x, y, z, a slope's axis last
     (answerFrom cube (flat (pos 0 ∷ negsuc 1 ∷ negsuc 0 ∷ negsuc 0 ∷ pos 3 ∷ negsuc 0 ∷ pos 0 ∷ pos 0 ∷ [])) dose
-    (at (pos 160) (pos 96) (pos 128)) gives negsuc 0 ∷ [])
+    (atPoint (pos 160) (pos 96) (pos 128)) gives negsuc 0 ∷ [])
     ∷ (answerFrom cube (flat (negsuc 0 ∷ pos 1 ∷ negsuc 0 ∷ negsuc 0 ∷ pos 0 ∷ pos 0 ∷ negsuc 1 ∷ negsuc 1 ∷ []))
-    (slopeAlong 1) (at (pos 32) (pos 96) (pos 128)) gives negsuc 1 ∷ [])
+    (slopeAlong 1) (atPoint (pos 32) (pos 96) (pos 128)) gives negsuc 1 ∷ [])
     -- coefficients, x index fastest, of twice the slope along y of corner (1, 0), and of corner (1, 0, 0); and back
     ∷ (sparse (coefficientsOf plane (only plane 6 (pos 1))) gives pos 6 ∷ pos 6 ∷ pos 7 ∷ pos 2 ∷ [])
     ∷ (sparse (coefficientsOf cube (only cube 10 (pos 1)))
