@@ -87,7 +87,8 @@ bwd a b p n q m k d f e =
     ∙ ap (λ t. t +ℤ pos n -ℤ pos n -ℤ pos m) f
     ∙ ap (λ (i : ℕ). pos i -ℤ pos n -ℤ pos m) (sym e)
     ∙ ap (λ t. t +ℤ pos m +ℤ pos k -ℤ pos n -ℤ pos m) (sym d)
-    ∙ ring! (a ∷ pos n ∷ pos m ∷ pos k ∷ []) {x = a +ℤ pos n +ℤ pos m +ℤ pos k -ℤ pos n -ℤ pos m} {y = a +ℤ pos k} (search quotes depth 40) tt
+    ∙ ring! (a ∷ pos n ∷ pos m ∷ pos k ∷ []) {x = a +ℤ pos n +ℤ pos m +ℤ pos k -ℤ pos n -ℤ pos m} {y = a +ℤ pos k}
+    (search quotes depth 40) tt
 
 -- ---- an order or an equation of two expressions, and of naturals
 module _ (ρ : List ℤ) {a b : ℤ} (s : Sides ρ a b) where

@@ -10,6 +10,9 @@ use Rattle.estimate.proofs.CallLaws.{estimated}
 use Rattle.estimate.proofs.estimate.Statement.{statement}
 use Rattle.estimate.proofs.estimate.Tie as tie
 
+abbrev begun : tie.After-records → tie.Start
+begun c = c .before .before .before .before .before .before
+
 fill-records-requires : tie.Need-fill-records-requires
 fill-records-requires c κs =
     let a = c .before .before .before .before .args in
@@ -19,7 +22,7 @@ fill-records-requires c κs =
 returns : tie.Need-returns
 unfolding estimateWrites
 returns c =
-    let b = c .before .before .before .before .before .before in
+    let b = begun c in
     let e = c .before .before .before .before .before .check-estimate .ensures in (
       e,
       c .before .fill-records .ensures

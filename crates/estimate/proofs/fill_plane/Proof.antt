@@ -32,28 +32,41 @@ Inv-loop g xs z out₀ k step ring₀ row₀ p₀ y₀ out ring row p y = Stored
 abbrev μ-loop : tie.MeasureT-loop
 μ-loop g xs z out₀ k step ring₀ row₀ p₀ y₀ out ring row p y = g .cy - y
 
+abbrev row-yz-before : tie.After-out Inv-loop μ-loop → tie.After-row-yz Inv-loop μ-loop
+row-yz-before c = c .before .before .before .before .before .before
+
+abbrev turn : tie.After-fill-row-arg Inv-loop μ-loop → tie.At-loop Inv-loop μ-loop
+turn c = c .before .before .before .before .before .before .before .before .before
+
+abbrev begun : tie.After-ring2 Inv-loop μ-loop → tie.Start Inv-loop μ-loop
+begun c = c .before .before .before .before .before .before
+
+abbrev begun-2 : tie.After-fill-row-arg Inv-loop μ-loop → tie.Start Inv-loop μ-loop
+begun-2 c = turn c .before .before .before .before .before .before .before
+
+abbrev entered : tie.After-fill-row-arg Inv-loop μ-loop → tie.Then1 Inv-loop μ-loop
+entered c = c .before .before .before .before .before .before .before
+
 loop-holds : tie.Need-loop-holds Inv-loop μ-loop
 loop-holds c =
-    let s = c .before .before .before .before .before .before in
+    let s = begun c in
     (stored-none, omega (arith, c .before .row-z .kept), refl, ring-first (s .pre .0) (s .args .z) _ _ refl (c .before .row-z .ensures))
 
 fill-row-requires : tie.Need-fill-row-requires Inv-loop μ-loop
 fill-row-requires c κs =
-    let s =
-    c .before .before .before .before .before .before .before .before .before .before .before .before .before .before .before .before in
-    let l = c .before .before .before .before .before .before .before .before .before .loop in
+    let s = begun-2 c in
+    let l = turn c .loop in
     let q = c .before .before .before .before .row-yz in (
-      (s .pre .0 .grid, stored-room (l .inv .0) (c .before .before .before .before .before .before .before .if1 .taken) (s .pre .2)),
+      (s .pre .0 .grid, stored-room (l .inv .0) (entered c .if1 .taken) (s .pre .2)),
       row-seen (s .pre .0) (l .y) (s .args .z) (q .ensures .1) (omega (arith, q .kept, l .inv .2)),
     )
 
 loop-again : tie.Need-loop-again Inv-loop μ-loop
 loop-again c =
-    let s =
-    c .before .before .before .before .before .before .before .before .before .before .before .before .before .before .before .before .before .before in
-    let l = c .before .before .before .before .before .before .before .before .before .before .before .loop in
-    let q = c .before .before .before .before .before .before .row-yz in (
-      stored-more (l .inv .0) (c .before .before .before .before .before .before .before .before .before .if1 .taken)
+    let s = begun-2 (c .before .before) in
+    let l = turn (c .before .before) .loop in
+    let q = row-yz-before c .row-yz in (
+      stored-more (l .inv .0) (entered (c .before .before) .if1 .taken)
           (c .before .fill-row .ensures)
           (row-same (s .args .g) (s .pre .0 .grid) _ (rowYZ (s .args .g) (s .args .xs .now) (l .y) (s .args .z)) (q .ensures .1)),
       omega (arith, q .kept, l .inv .1),
@@ -79,14 +92,14 @@ fill-plane-spec =
     (s .pre .0, (s .pre .0 .grid .y-low, s .pre .1, omega (arith, row-z-high (s .args .g) (s .pre .0 .grid)))))
     loop-holds
     (λ c. search needs) (λ c. search needs)
-    (λ c κs. let s = c .before .before .before .before .before .before .before .before .before .before .before in let i =
+    (λ c κs. let s = begun (c .before .before .before .before .before) in let i =
     c .before .before .before .before .loop .inv in ((s .pre .0, c .before .before .if1 .taken, s .pre .1), (i .1, i .2, i .3)))
     (λ c. search needs)
     fill-row-requires
-    (λ c. let s =
-    c .before .before .before .before .before .before .before .before .before .before .before .before .before .before .before .before .before .before in omega (arith, stored-fits (c .before .before .before .before .before .before .before .before .before .before .before .loop .inv .0) (c .before .before .before .before .before .before .before .before .before .if1 .taken) (s .pre .2), s .good))
+    (λ c. let d = c .before .before in
+    omega (arith, stored-fits (turn d .loop .inv .0) (entered d .if1 .taken) (begun-2 d .pre .2), begun-2 d .good))
     (λ c. omega arith)
-    (λ c. less-left (c .before .before .before .before .before .before .before .before .before .if1 .taken))
+    (λ c. less-left (entered (c .before .before) .if1 .taken))
     loop-again
     (λ c. stored-length (c .before .before .loop .inv .0))
     returns)

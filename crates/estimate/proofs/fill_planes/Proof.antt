@@ -15,6 +15,9 @@ Inv-loop g xs out₀ step p₀ z₀ out p z = Stored 0 (planeSize g) (planeOf g 
 abbrev μ-loop : tie.MeasureT-loop
 μ-loop g xs out₀ step p₀ z₀ out p z = g .cz - z
 
+abbrev begun : tie.After-fill-plane-arg Inv-loop μ-loop → tie.Start Inv-loop μ-loop
+begun c = c .before .before .before .before .before .before .before .before
+
 returns : tie.Need-returns Inv-loop μ-loop
 unfolding planesOf
 returns c = stored-all (c .before .before .loop .inv) (c .if1 .left)
@@ -30,9 +33,9 @@ fill-planes-spec =
     (λ c. omega (arith, row-high (c .before .before .before .args .g) (c .before .before .before .pre .0 .grid)))
     (λ c. omega (arith, plane-high (c .before .before .before .before .args .g) (c .before .before .before .before .pre .0 .grid)))
     (λ c. stored-none)
-    (λ c κs. let s = c .before .before .before .before .before .before .before .before in let h = c .before .if1 .taken in
+    (λ c κs. let s = begun c in let h = c .before .if1 .taken in
     (s .pre .0, h, stored-room (c .before .before .before .loop .inv) h (rw zero-add (s .pre .1))))
-    (λ c. let s = c .before .before .before .before .before .before .before .before .before .before in
+    (λ c. let s = begun (c .before .before) in
     omega (
       arith,
       stored-fits (c .before .before .before .before .before .loop .inv) (c .before .before .before .if1 .taken)

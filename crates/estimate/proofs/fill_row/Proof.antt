@@ -15,6 +15,15 @@ use Rattle.estimate.proofs.PassesLaws.{lower-none, lower-is, upper-is, 
 use Rattle.estimate.proofs.fill_row.Statement.{statement}
 use Rattle.estimate.proofs.fill_row.Tie as tie
 
+abbrev pass-before : tie.After-out3 → tie.After-pass
+pass-before c = c .before .before .before .before .before .before .before
+
+abbrev begun : tie.After-out → tie.Start
+begun c = c .before .before .before .before .before .before .before
+
+abbrev begun-2 : tie.After-out3 → tie.Start
+begun-2 c = c .before .before .before .before .before .before .before .before .before .before .before .before .before
+
 module _ {g : Grid} (ok : Grids g) where
   abbrev size : ℕ
   size = nodeSize g
@@ -108,13 +117,13 @@ fill-row-spec =
     (λ c. let s = c .before .before .before .before in omega (arith, entries (s .pre .0 .0), s .pre .0 .1, s .good))
     (λ c κs. let s = c .before .before .before .before .before in let ok = s .pre .0 .0 in let r = read ok (s .pre .1) in
     ((ok .mx, omega (arith, entries ok, s .pre .0 .1)), (r _ _ (omega arith), r _ _ (omega arith), r _ _ (omega arith))))
-    (λ c. let s = c .before .before .before .before .before .before .before in omega (arith, node-high (s .args .g) (s .pre .0 .0)))
-    (λ c κs. let s = c .before .before .before .before .before .before .before .before in let ok = s .pre .0 .0 in let r =
+    (λ c. let s = begun c in omega (arith, node-high (s .args .g) (s .pre .0 .0)))
+    (λ c κs. let s = begun (c .before) in let ok = s .pre .0 .0 in let r =
     read ok (s .pre .1) in (
       (ok .mx, omega (arith, entries ok, s .pre .0 .1, c .before .before .pass .kept)),
       (r _ _ (omega arith), r _ _ (omega arith), r _ _ (omega arith)),
     ))
-    (λ c κs. let s = c .before .before .before .before .before .before .before .before .before .before .before in let ok = s .pre .0 .0 in
+    (λ c κs. let s = begun (c .before .before .before .before) in let ok = s .pre .0 .0 in
     let r = read ok (s .pre .1) in (
       (
         ok .mx,
@@ -129,7 +138,7 @@ fill-row-spec =
       (r _ _ (omega arith), r _ _ (omega arith), r _ _ (omega arith)),
     ))
     (λ c. search needs)
-    (λ c. let s = c .before .before .before .before .before .before .before .before .before .before .before .before .before in
+    (λ c. let s = begun-2 c in
     result (s .pre .0 .0) (s .args .row .now) (s .args .k) (s .args .out .now) _ _ _
-    (c .before .before .before .before .before .before .before .pass .ensures) (c .before .before .before .before .pass2 .ensures)
+    (pass-before c .pass .ensures) (c .before .before .before .before .pass2 .ensures)
     (c .before .pass3 .ensures)))

@@ -29,9 +29,18 @@ Inv-loop m xs low mid high count out₀ k t₀ p₀ out t p =
 abbrev μ-loop : tie.MeasureT-loop
 μ-loop m xs low mid high count out₀ k t₀ p₀ out t p = count - t
 
+abbrev turn : tie.After-out Inv-loop μ-loop → tie.At-loop Inv-loop μ-loop
+turn c = c .before .before .before .before .before .before .before
+
+abbrev In-loop-before : tie.After-out Inv-loop μ-loop → tie.In-loop Inv-loop μ-loop
+In-loop-before c = c .before .before .before .before .before .before
+
+abbrev begun : tie.After-put-orders-arg4 Inv-loop μ-loop → tie.Start Inv-loop μ-loop
+begun c = c .before .before .before .before .before .before
+
 put-orders-requires : tie.Need-put-orders-requires Inv-loop μ-loop
 put-orders-requires c κs =
-    let s = c .before .before .before .before .before .before in
+    let s = begun c in
     let h = c .before .before .before .before .loop-test .taken in (
       (s .pre .0 .0, stored-room (c .before .before .before .before .before .loop .inv) h (s .pre .0 .1)),
       (small (s .pre .1 .0) h, small (s .pre .1 .1) h, small (s .pre .1 .2) h),
@@ -39,9 +48,9 @@ put-orders-requires c κs =
 
 loop-again : tie.Need-loop-again Inv-loop μ-loop
 loop-again c =
-    let s = c .before .before .before .before .before .before .before .before in
-    let h = c .before .before .before .before .before .before .loop-test .taken in
-    stored-more (c .before .before .before .before .before .before .before .loop .inv) h (c .before .put-orders .ensures)
+    let s = begun (c .before .before) in
+    let h = In-loop-before c .loop-test .taken in
+    stored-more (turn c .loop .inv) h (c .before .put-orders .ensures)
     (λ o i. rw (value (s .pre .1 .0) h, value (s .pre .1 .1) h, value (s .pre .1 .2) h))
 
 pub pass-spec : {M : Type 1} → statement M
@@ -55,15 +64,15 @@ pass-spec =
     (λ c. omega arith)
     (λ c. omega arith)
     put-orders-requires
-    (λ c. let s = c .before .before .before .before .before .before .before .before in
+    (λ c. let s = begun (c .before .before) in
     omega (
       arith,
-      stored-fits (c .before .before .before .before .before .before .before .loop .inv)
-          (c .before .before .before .before .before .before .loop-test .taken) (s .pre .0 .1),
+      stored-fits (turn c .loop .inv)
+          (In-loop-before c .loop-test .taken) (s .pre .0 .1),
       s .good,
     ))
     (λ c. omega arith)
-    (λ c. less-left (c .before .before .before .before .before .before .loop-test .taken))
+    (λ c. less-left (In-loop-before c .loop-test .taken))
     loop-again
     (λ c. stored-length (c .before .loop .inv))
     (λ c. stored-all (c .before .loop .inv) (c .loop-test .left)))

@@ -13,12 +13,15 @@ use borrow.Author.Needs.{needs}
 use Rattle.table_file.proofs.check_one.Statement.{statement}
 use Rattle.table_file.proofs.check_one.Tie as tie
 
+abbrev begun : tie.After-check-axes → tie.Start
+begun c = c .before .before .before .before .before .before
+
 whole : (d : tie.After-enum-told2) → complete (d .before .before .before .before .args .bytes .now) 1 ≡ done tt
 whole d = sym (d .before .before .check-complete .ensures) ∙ ap outcomeOf (d .enum-told2 .given .1)
 
 -- n as it was read
 axes-is : (d : tie.After-check-axes)
-    → outcomeOf (d .check-axes .result) ≡ axesOutcome (axesIn (d .before .before .before .before .before .before .args .bytes .now))
+    → outcomeOf (d .check-axes .result) ≡ axesOutcome (axesIn (begun d .args .bytes .now))
 axes-is d = d .check-axes .ensures ∙ ap axesOutcome (d .before .number-at .ensures)
 
 returns : tie.Need-returns
@@ -38,7 +41,7 @@ unfolding oneOutcome
 returns-3 c =
     let d = c .before .before .before in
     c .check-counts .ensures
-    ∙ ap (λ (n : ℕ). firstOf n (countOutcome (d .before .before .before .before .before .before .args .bytes .now)))
+    ∙ ap (λ (n : ℕ). firstOf n (countOutcome (begun d .args .bytes .now)))
     (d .before .number-at .ensures)
     ∙ sym (first-passed _ _ (whole (d .before .before))
     ∙ first-passed _ _ (sym (axes-is d) ∙ ap outcomeOf (c .before .enum-told4 .given .1)))

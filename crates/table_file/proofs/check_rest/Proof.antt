@@ -10,6 +10,9 @@ use borrow.Author.Needs.{needs}
 use Rattle.table_file.proofs.check_rest.Statement.{statement}
 use Rattle.table_file.proofs.check_rest.Tie as tie
 
+abbrev begun : tie.After-enum-told4 → tie.Start
+begun c = c .before .before .before .before .before .before .before
+
 two-passed : (d : tie.After-enum-told2) → twoOutcome (d .before .before .before .before .args .bytes .now) ≡ done tt
 two-passed d = sym (d .before .before .check-two .ensures) ∙ ap outcomeOf (d .enum-told2 .given .1)
 
@@ -57,6 +60,6 @@ check-rest-spec =
     (λ c. search needs)
     returns-2
     (λ c. search needs)
-    (λ c. omega (arith, c .before .before .before .before .before .before .before .pre .few))
+    (λ c. omega (arith, begun c .pre .few))
     check-samples-requires
     returns-3)

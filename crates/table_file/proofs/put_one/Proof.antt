@@ -18,6 +18,9 @@ Inv-loop bytes₀ axes counts n a₀ bytes a = (a ≤ axes) × (length bytes ≡
 abbrev μ-loop : tie.MeasureT-loop
 μ-loop bytes₀ axes counts n a₀ bytes a = axes - a
 
+abbrev begun : tie.At-loop Inv-loop μ-loop → tie.Start Inv-loop μ-loop
+begun c = c .before .before .before .before .before .before
+
 loop-holds : tie.Need-loop-holds Inv-loop μ-loop
 unfolding bytesOfAll
 loop-holds c = (omega arith, refl, refl)
@@ -26,7 +29,7 @@ loop-again : tie.Need-loop-again Inv-loop μ-loop
 loop-again c =
     let p = c .before .before in
     let l = p .before .before .before in
-    let b = l .before .before .before .before .before .before in (
+    let b = begun l in (
       omega arith,
       p .put-number2 .kept .0 ∙ l .loop .inv .1,
       put-next (b .args .t3) _ 4 (l .loop .a) (4 * (1 + l .loop .a)) _ (omega (arith, b .good .1 .1 .0)) (omega arith) refl

@@ -23,6 +23,12 @@ Inv-loop bytes₀ start samples i₀ bytes i =
 abbrev μ-loop : tie.MeasureT-loop
 μ-loop bytes₀ start samples i₀ bytes i = length samples - i
 
+abbrev put-number-before : tie.After-unsigned Inv-loop μ-loop → tie.After-put-number Inv-loop μ-loop
+put-number-before c = c .before .before .before .before .before .before .before
+
+abbrev begun : tie.At-loop Inv-loop μ-loop → tie.Start Inv-loop μ-loop
+begun c = c .before .before .before .before .before .before
+
 loop-holds : tie.Need-loop-holds Inv-loop μ-loop
 unfolding bytesOfAll
 loop-holds c = (omega arith, refl, refl)
@@ -33,7 +39,7 @@ loop-again c =
     let u = p .before in
     let x = u .before .before in
     let l = x .before .before in
-    let a = l .before .before .before .before .before .before .args in (
+    let a = begun l .args in (
       omega arith,
       p .put-number2 .kept .0 ∙ l .loop .inv .1,
       put-next (map unsignedOf (a .samples .now)) _ (4 * (1 + a .start)) (l .loop .i) (4 * (1 + a .start + l .loop .i)) _
@@ -70,7 +76,7 @@ put-two-spec =
     (λ c κs. omega (
       arith,
       c .before .before .before .before .loop .inv .1,
-      c .before .before .before .before .before .before .before .put-number .kept .0,
+      put-number-before c .put-number .kept .0,
     ))
     (λ c. omega arith)
     (λ c. omega arith)

@@ -17,17 +17,20 @@ use borrow.Author.Needs.{needs}
 use Rattle.table_file.proofs.read.Statement.{statement}
 use Rattle.table_file.proofs.read.Tie as tie
 
+abbrev begun : tie.After-node-count → tie.Start
+begun c = c .before .before .before .before .before .before
+
 one-passed : (d : tie.After-enum-told) → oneOutcome (d .before .before .before .before .args .bytes .now) ≡ done tt
 one-passed d = sym (d .before .before .check-one .ensures) ∙ ap outcomeOf (d .enum-told .given .1)
 
 one-gave : (d : tie.After-node-count)
-    → AfterOne (d .before .before .before .before .before .before .args .bytes .now) (d .before .shape-in .result .axes)
+    → AfterOne (begun d .args .bytes .now) (d .before .shape-in .result .axes)
     (d .node-count .result)
 one-gave d = after-one _ (one-passed (d .before .before)) _ (d .before .shape-in .ensures) _ (d .node-count .ensures)
 
 rest-passed : (d : tie.After-enum-told2)
-    → restOutcome (d .before .before .before .before .before .before .before .before .before .args .bytes .now)
-    (length (d .before .before .before .before .before .before .before .before .before .args .samples .now)) ≡ done tt
+    → restOutcome (begun (d .before .before .before) .args .bytes .now)
+    (length (begun (d .before .before .before) .args .samples .now)) ≡ done tt
 rest-passed d = sym (d .before .before .check-rest .ensures) ∙ ap outcomeOf (d .enum-told2 .given .1)
 
 returns : tie.Need-returns
@@ -54,7 +57,7 @@ returns-3 c =
     let f = c .before .before .before .before in
     let d = f .before .before in
     let n = d .before .before .before in
-    let old = n .before .before .before .before .before .before .args .samples .now in
+    let old = begun n .args .samples .now in
     answered-done _ _ old _ _
     (read-is _ _ ∙ first-passed _ _ (one-passed (n .before .before)) ∙ first-passed _ _ (rest-passed d)
     ∙ ap done (header-is _ _ (n .before .shape-in .ensures)))

@@ -14,6 +14,9 @@ use borrow.Author.Needs.{needs}
 use Rattle.text.proofs.put_cell_line.Statement.{statement}
 use Rattle.text.proofs.put_cell_line.Tie as tie
 
+abbrev begun : tie.After-put-word-arg → tie.Start
+begun c = c .before .before .before .before .before .before
+
 -- the word of a dose as it was lent
 same : (x : ℤ) (b : ℕ) → SFits w32 x → word (signedDecimal (toZ w64 (ofZ w64 (toZ w32 (ofZ w32 x))))) b ≡ word (signedDecimal x) b
 same x b f = ap (λ (y : ℤ). word (signedDecimal y) b) (widened x (f .sfits))
@@ -32,7 +35,7 @@ returns c =
 
 put-word-requires-2 : tie.Need-put-word-requires-2
 put-word-requires-2 c κs =
-    let b = c .before .before .before .before .before .before .before .before .before .before in
+    let b = begun (c .before .before .before .before) in
     let a = b .args in
     omega (
       arith,
@@ -43,7 +46,7 @@ put-word-requires-2 c κs =
 
 put-word-requires : tie.Need-put-word-requires
 put-word-requires c κs =
-    let b = c .before .before .before .before .before .before in
+    let b = begun c in
     let a = b .args in
     omega (arith, cell-length (a .cell) (a .cubic) (a .quintic), ap length (same (a .cubic) 32 (b .fits .cubic)))
 
@@ -52,9 +55,9 @@ put-cell-line-spec =
     tie.close
     (tie.spec
     (λ c κs. omega (arith, cell-length (c .before .before .args .cell) (c .before .before .args .cubic) (c .before .before .args .quintic)))
-    (λ c. let b = c .before .before .before .before .before .before in widen-fits (b .args .cubic) (b .fits .cubic .sfits))
+    (λ c. let b = begun c in widen-fits (b .args .cubic) (b .fits .cubic .sfits))
     put-word-requires
-    (λ c. let b = c .before .before .before .before .before .before .before .before .before .before in
+    (λ c. let b = begun (c .before .before .before .before) in
     widen-fits (b .args .quintic) (b .fits .quintic .sfits))
     put-word-requires-2
     (λ c. search needs)

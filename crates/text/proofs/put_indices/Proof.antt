@@ -6,6 +6,9 @@ use borrow.Author.Needs.{needs}
 use Rattle.text.proofs.put_indices.Statement.{statement}
 use Rattle.text.proofs.put_indices.Tie as tie
 
+abbrev begun : tie.After-put-natural-arg2 → tie.Start
+begun c = c .before .before .before .before .before .before
+
 returns : tie.Need-returns
 unfolding indices
 returns c =
@@ -20,8 +23,8 @@ put-indices-spec =
     (λ c. search needs)
     (λ c κs. omega (arith, indices-length (c .before .before .args .t3)))
     (λ c. search needs)
-    (λ c κs. omega (arith, indices-length (c .before .before .before .before .before .before .args .t3)))
+    (λ c κs. omega (arith, indices-length (begun c .args .t3)))
     (λ c. search needs)
-    (λ c κs. omega (arith, indices-length (c .before .before .before .before .before .before .before .before .before .before .args .t3)))
+    (λ c κs. omega (arith, indices-length (begun (c .before .before .before .before) .args .t3)))
     (λ c. search needs)
     returns)

@@ -5,6 +5,9 @@ use borrow.Author.Needs.{needs}
 use Rattle.text.proofs.put_refused_line.Statement.{statement}
 use Rattle.text.proofs.put_refused_line.Tie as tie
 
+abbrev begun : tie.After-put-natural-arg → tie.Start
+begun c = c .before .before .before .before .before .before .before
+
 returns : tie.Need-returns
 returns c =
     let q = c .before .before in
@@ -18,6 +21,6 @@ put-refused-line-spec =
     (tie.spec
     (λ c. search needs)
     (λ c κs. omega (arith, refused-length (c .before .before .before .args .number)))
-    (λ c κs. omega (arith, refused-length (c .before .before .before .before .before .before .before .args .number)))
+    (λ c κs. omega (arith, refused-length (begun c .args .number)))
     (λ c. search needs)
     returns)
