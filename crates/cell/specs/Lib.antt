@@ -1,2 +1,4 @@
+-- Reading order: Cell, Coefficients, Corners.
 pub mod Cell
 pub mod Coefficients
+pub mod Corners

@@ -18,7 +18,7 @@ use Rattle.lattice.proofs.PassesLaws.{passes, passes-sweep, pass-same, passes-s
 use Rattle.lattice.proofs.ShapeLaws.{pow-range}
 use Rattle.lattice.proofs.DigitsLaws.{high-digit, low-digit, pair-in, group-room}
 use Rattle.hermite.proofs.EndLaws.{end-depends, end-size}
-use Rattle.coefficients.specs.Corners.{coefficientCount}
+use Rattle.cell.specs.Coefficients.{coefficientCount}
 use Rattle.coefficients.specs.Blocks.{Sizes, ruleAt, converted, AllWithin, StartsWith, scatter}
 use Rattle.coefficients.proofs.SpotLaws.{scatter-off, scatter-at}
 

@@ -13,12 +13,12 @@ use Rattle.arith.specs.Sum.{total, times}
 use Rattle.lattice.specs.Axes.{Place, Field, origin, put, sweep, axes}
 use Rattle.lattice.specs.Records.{totalOrder, sampleLimit, entryLimit}
 use Rattle.lattice.proofs.Along.{put-at, put-off, Fresh, Distinct, distinct-axes, length-axes, fresh-axes}
+use Rattle.lattice.proofs.DigitsLaws.{Digits}
 use Rattle.hermite.specs.Hermite.{forward}
 use Rattle.hermite.proofs.BackLaws.{forward-size}
-use Rattle.cell.specs.Coefficients.{coefficients}
-use Rattle.coefficients.specs.Corners.{coefficientCount, cornerNumbers, cornerEntry}
-use Rattle.lattice.proofs.DigitsLaws.{Digits}
-use Rattle.coefficients.proofs.NumberLaws.{entry-in, numbers-entry}
+use Rattle.cell.specs.Coefficients.{coefficients, coefficientCount}
+use Rattle.cell.specs.Corners.{cornerNumbers, cornerEntry}
+use Rattle.cell.proofs.NumberLaws.{entry-in, numbers-entry}
 
 module _ (m : ℕ) (m2 : 2 ≤ m) (m3 : m ≤ 3) where
   low-put : (a t : ℕ) (p : Place) → t < 2 * m → ((b : ℕ) → p b < 2 * m) → (b : ℕ) → put a t p b < 2 * m

@@ -17,11 +17,12 @@ use Rattle.arith.proofs.Choices.{pick-true, pick-false}
 use Rattle.lattice.specs.Buffer.{at}
 use Rattle.lattice.specs.Digits.{number, digit}
 use Rattle.lattice.specs.Axes.{Place}
-use Rattle.cell.proofs.CellLaws.{number-is}
-use Rattle.coefficients.specs.Corners.{coefficientCount, cornerNumbers, cornerEntry}
-use Rattle.coefficients.specs.Blocks.{coefficientNumber, blockNumbers, coefficientIndex, scatter, fillingOrder, Filled}
 use Rattle.lattice.proofs.DigitsLaws.{Digits, digits-in, number-in, of-digits, of-number, high-digit, low-digit, pair-in, next-group}
-use Rattle.coefficients.proofs.NumberLaws.{count-split, numbers-in, numbers-entry, entry-numbers, entry-in}
+use Rattle.cell.specs.Coefficients.{coefficientCount}
+use Rattle.cell.specs.Corners.{cornerNumbers, cornerEntry}
+use Rattle.cell.proofs.CellLaws.{number-is}
+use Rattle.cell.proofs.NumberLaws.{count-split, numbers-in, numbers-entry, entry-numbers, entry-in}
+use Rattle.coefficients.specs.Blocks.{coefficientNumber, blockNumbers, coefficientIndex, scatter, fillingOrder, Filled}
 
 -- ---- counting from an end
 

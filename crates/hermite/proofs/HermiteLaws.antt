@@ -1,5 +1,5 @@
 -- One axis: coefficients and stages are linear; each coefficient and each basis number belongs to one end, and the high end is the low one mirrored.
-use mathlib.Core.Path.{_≡_, refl, sym, ap, ap₂, _∙_}
+use mathlib.Core.Path.{_≡_, refl, sym, ap, ap₂, _∙_, fun-ext}
 use mathlib.Core.List.{[], _∷_}
 use Prim.Native.Nat.{ℕ, zero, suc, _+_, _*_, _-_, _≤_, _<_}
 use native.Mathlib.Nat.{zero-add, suc-add}
@@ -57,6 +57,13 @@ stage-multiple k m N c u z x j =
     ∙ sum-ext (2 * m) (λ t. basis k m N u t *ℤ (z *ℤ x (m * c + t))) (λ t. z *ℤ (basis k m N u t *ℤ x (m * c + t))) (λ t l. *ℤ-left-comm (basis k m N u t) z (x (m * c + t)))
     ∙ sum-left (2 * m) z (λ t. basis k m N u t *ℤ x (m * c + t))
     ∙ ap (λ y. z *ℤ y) (sym (stage-linear k m N c u .is x j))
+
+-- ---- one cell and another whose numbers are the same
+
+pub forward-moved : (m c d : ℕ) (x y : ℕ → ℤ) → ((t : ℕ) → t < 2 * m → x (m * c + t) ≡ y (m * d + t)) → forward m c x ≡ forward m d y
+unfolding forward
+forward-moved m c d x y h = fun-ext (λ i.
+    sum-ext (2 * m) (λ t. share m i t *ℤ x (m * c + t)) (λ t. share m i t *ℤ y (m * d + t)) (λ t l. ap (λ z. share m i t *ℤ z) (h t l)))
 
 -- ---- a number of the high end
 

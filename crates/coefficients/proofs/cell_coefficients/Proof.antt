@@ -7,7 +7,7 @@ use lib.IntN.{ℤ}
 use denote.Ref.{now}
 use Rattle.lattice.specs.Buffer.{at}
 use Rattle.lattice.proofs.BufferLaws.{noughts-at}
-use Rattle.coefficients.specs.Corners.{coefficientCount}
+use Rattle.cell.specs.Coefficients.{coefficientCount}
 use Rattle.coefficients.specs.Blocks.{cellCoefficient, Sizes, Gathered}
 use Rattle.coefficients.proofs.BlockLaws.{sizes}
 use borrow.Author.Needs.{needs}

@@ -3,12 +3,12 @@ use lib.Dec.{leb, eqb}
 use Rattle.lattice.specs.Shape.{orders, size, shapeOutcome}
 use Rattle.cell.specs.Cell.{placeAt, cellOutcome}
 use Rattle.cell.proofs.CellLaws.{indices}
-use Rattle.coefficients.specs.Corners.{coefficientCount}
+use Rattle.cell.specs.Coefficients.{coefficientCount}
 use Rattle.lattice.specs.Answers.{outcomeOf}
 use Rattle.lattice.specs.Outcome.{refuseUnless, first}
 use Rattle.lattice.proofs.OutcomeLaws.{refused-first, first-passed, first-assoc}
 use Rattle.lattice.proofs.ShapeLaws.{shaped}
-use Rattle.coefficients.specs.Corners.{requestOutcome}
+use Rattle.coefficients.specs.Coefficients.{requestOutcome}
 use mathlib.Core.Path.{sym, ap, ap₂, _∙_}
 use borrow.Author.Needs.{needs}
 use Rattle.coefficients.proofs.check_request.Statement.{statement}

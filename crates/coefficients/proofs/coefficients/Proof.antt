@@ -13,7 +13,7 @@ use Rattle.lattice.specs.Records.{recordsField}
 use Rattle.lattice.proofs.OutcomeLaws.{refused-first, first-passed, when-done, when-refused}
 use Rattle.lattice.proofs.ShapeLaws.{orders-range}
 use Rattle.cell.specs.Cell.{placeAt, cornersOutcome}
-use Rattle.coefficients.specs.Corners.{coefficientList, requestOutcome, coefficientsOutcome, coefficientsWrites}
+use Rattle.coefficients.specs.Coefficients.{coefficientList, requestOutcome, coefficientsOutcome, coefficientsWrites}
 use Rattle.coefficients.specs.Blocks.{Gathered}
 use Rattle.coefficients.proofs.TableCell.{corners-gathered}
 use Rattle.coefficients.proofs.CallLaws.{Asked, asked, list-is}

@@ -1,14 +1,12 @@
 -- `corners::check_numbers` meets its contract: 1 and 2 first, then 15 and 9.
 use lib.Dec.{leb, eqb}
-use Rattle.lattice.specs.Outcome.{refuseUnless}
-use Rattle.lattice.specs.Shape.{ordersOf}
-use Rattle.coefficients.specs.Corners.{coefficientCount}
+use Rattle.lattice.specs.Outcome.{refuseUnless, Check, done, first}
+use Rattle.lattice.specs.Shape.{ordersOf, axesOutcome, degreeOutcome}
+use Rattle.cell.specs.Coefficients.{coefficientCount}
 use Rattle.lattice.specs.Answers.{outcomeOf}
-use Rattle.lattice.specs.Outcome.{Check, done, first}
-use Rattle.lattice.specs.Shape.{axesOutcome, degreeOutcome}
 use Rattle.lattice.proofs.OutcomeLaws.{refused-first, first-passed, first-done, first-assoc}
 use Rattle.lattice.proofs.ShapeLaws.{axes-range}
-use Rattle.coefficients.specs.Corners.{numbersOutcome}
+use Rattle.corners.specs.Corners.{numbersOutcome}
 use mathlib.Core.Path.{_≡_, sym, ap, ap₂, _∙_}
 use Prim.Native.Nat.{ℕ}
 use borrow.Author.Needs.{needs}

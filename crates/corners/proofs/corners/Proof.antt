@@ -12,8 +12,9 @@ use Rattle.lattice.specs.Shape.{ordersOf}
 use Rattle.lattice.proofs.BufferLaws.{tabulate-same}
 use Rattle.lattice.proofs.OutcomeLaws.{refused-first, first-passed, when-done, when-refused}
 use Rattle.lattice.proofs.ShapeLaws.{axes-range, orders-range}
-use Rattle.coefficients.specs.Corners.{coefficientCount, possibleOutcome, entryList, numbersOutcome, backOutcome, backWrites}
-use Rattle.coefficients.proofs.CallLaws.{Numbered, numbered}
+use Rattle.cell.specs.Coefficients.{coefficientCount}
+use Rattle.corners.specs.Corners.{possibleOutcome, entryList, numbersOutcome, backOutcome, backWrites}
+use Rattle.corners.proofs.CallLaws.{Numbered, numbered}
 use Rattle.corners.specs.Back.{entryOf}
 use borrow.Author.Needs.{needs}
 use Rattle.corners.proofs.corners.Statement.{statement}

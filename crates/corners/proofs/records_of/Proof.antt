@@ -8,7 +8,8 @@ use lib.ListN.{length}
 use denote.Ref.{now}
 use Rattle.lattice.specs.Outcome.{Check, done}
 use Rattle.lattice.specs.Buffer.{at}
-use Rattle.coefficients.specs.Corners.{coefficientCount, possibleOutcome}
+use Rattle.cell.specs.Coefficients.{coefficientCount}
+use Rattle.corners.specs.Corners.{possibleOutcome}
 use Rattle.coefficients.specs.Blocks.{Sizes}
 use Rattle.coefficients.proofs.BlockLaws.{sizes}
 use Rattle.corners.specs.Back.{entryOf}

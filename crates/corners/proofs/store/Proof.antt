@@ -20,7 +20,7 @@ use Rattle.lattice.specs.Answers.{outcomeOf}
 use Rattle.lattice.specs.Outcome.{done, refuseUnless, firstOf}
 use Rattle.lattice.specs.Buffer.{at}
 use Rattle.lattice.proofs.OutcomeLaws.{firstOf-stops, firstOf-more, done-refused}
-use Rattle.coefficients.specs.Corners.{wholeWithin}
+use Rattle.corners.specs.Corners.{wholeWithin}
 use Rattle.coefficients.specs.Blocks.{scatter}
 use Rattle.coefficients.proofs.SpotLaws.{scatter-more}
 use Rattle.corners.specs.Back.{blockTest}

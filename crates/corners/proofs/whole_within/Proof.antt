@@ -5,7 +5,7 @@ use lib.Dec.{leb, eqb}
 use mir.Facts.{toZ-ofZ}
 use borrow.Author.Tests.{eq-eqb, ne-eqb}
 use Rattle.arith.proofs.Machine.{shifted}
-use Rattle.coefficients.specs.Corners.{wholeWithin}
+use Rattle.corners.specs.Corners.{wholeWithin}
 use mathlib.Core.Path.{_≡_, sym, ap, _∙_}
 use Prim.Native.Nat.{ℕ, _≤_, _<_, _^_, _*_, _/_, _%_}
 use lib.IntN.{ℤ, natAbs}
