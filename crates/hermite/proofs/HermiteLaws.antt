@@ -1,4 +1,5 @@
--- One axis: coefficients and stages are linear; each coefficient and each basis number belongs to one end, and the high end is the low one mirrored.
+-- One axis: coefficients and stages are linear and depend on the numbers of the cell only; each coefficient and each basis number belongs to
+-- one end, and the high end is the low one mirrored.
 use mathlib.Core.Path.{_≡_, refl, sym, ap, ap₂, _∙_, fun-ext}
 use mathlib.Core.List.{[], _∷_}
 use Prim.Native.Nat.{ℕ, zero, suc, _+_, _*_, _-_, _≤_, _<_}
@@ -64,6 +65,11 @@ pub forward-moved : (m c d : ℕ) (x y : ℕ → ℤ) → ((t : ℕ) → t < 2 *
 unfolding forward
 forward-moved m c d x y h = fun-ext (λ i.
     sum-ext (2 * m) (λ t. share m i t *ℤ x (m * c + t)) (λ t. share m i t *ℤ y (m * d + t)) (λ t l. ap (λ z. share m i t *ℤ z) (h t l)))
+
+pub stage-moved : (k m N c d u : ℕ) (x y : ℕ → ℤ) → ((t : ℕ) → t < 2 * m → x (m * c + t) ≡ y (m * d + t)) → (i j : ℕ)
+    → stageSum k m N c u x i ≡ stageSum k m N d u y j
+unfolding stageSum
+stage-moved k m N c d u x y h i j = ap (λ (f : ℕ → ℤ). sum (2 * m) (λ i. f i *ℤ weightAt k m N u i)) (forward-moved m c d x y h)
 
 -- ---- a number of the high end
 
