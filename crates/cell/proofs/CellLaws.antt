@@ -32,7 +32,8 @@ place-beyond xs a l = pick-false (ltb a 3) (getD xs a 0) 0 (le-ltb a 3 l)
 -- the place of three numbers
 pub three : (x y z : ℕ) (f : Place) → x ≡ f 0 → y ≡ f 1 → z ≡ f 2 → ((a : ℕ) → 3 ≤ a → f a ≡ 0) → placeAt (x ∷ y ∷ z ∷ []) ≡ f
 unfolding placeAt pick
-three x y z f i j k none = fun-ext (from-3 (λ a. placeAt (x ∷ y ∷ z ∷ []) a ≡ f a) i j k (λ a l. place-beyond (x ∷ y ∷ z ∷ []) a l ∙ sym (none a l)))
+three x y z f i j k none =
+    fun-ext (from-3 (λ a. placeAt (x ∷ y ∷ z ∷ []) a ≡ f a) i j k (λ a l. place-beyond (x ∷ y ∷ z ∷ []) a l ∙ sym (none a l)))
 
 -- and of three numbers one by one
 pub indices : (xs : List ℕ) → placeAt (getD xs 0 0 ∷ getD xs 1 0 ∷ getD xs 2 0 ∷ []) ≡ placeAt xs
@@ -55,26 +56,32 @@ module _ (n number : ℕ) (test : ℕ → ℕ → Bool) where
     unused-passed a l k = eqb-true (p a) 0 (sym (pick-false (ltb a n) (test a (p a)) (eqb (p a) 0) (le-ltb a n k)) ∙ one-passed a l)
 
   module _ (X : ℕ → ℕ → Type 0) where
-    pub all-passed : ((a i : ℕ) → test a i ≡ true → X a i) → (xs : List ℕ) → n ≤ 3 → firstOf 3 (tests (placeAt xs)) ≡ done tt → OnUsed n X (placeAt xs)
-    all-passed f xs high h = record { used = λ a l. f a (placeAt xs a) (used-passed (placeAt xs) h high a l); unused = λ a k. other a k (decLt a 3) }
+    pub all-passed : ((a i : ℕ) → test a i ≡ true → X a i) → (xs : List ℕ) → n ≤ 3 → firstOf 3 (tests (placeAt xs)) ≡ done tt
+        → OnUsed n X (placeAt xs)
+    all-passed f xs high h = record
+        { used = λ a l. f a (placeAt xs a) (used-passed (placeAt xs) h high a l); unused = λ a k. other a k (decLt a 3) }
       where
         other : (a : ℕ) → n ≤ a → Dec (a < 3) → placeAt xs a ≡ 0
         other a k (yes l) = unused-passed (placeAt xs) h a l k
         other a k (no l) = place-beyond xs a (omega (arith, l))
 
-    pub all-pass : ((a i : ℕ) → X a i → test a i ≡ true) → (p : Place) → ((a : ℕ) → a < n → X a (p a)) → ((a : ℕ) → a < 3 → n ≤ a → p a ≡ 0) → firstOf 3 (tests p) ≡ done tt
-    all-pass f p used unused = firstOf-passes 3 (tests p) (λ a l. passes (pick (ltb a n) (test a (p a)) (eqb (p a) 0)) number a (go a l (decLt a n)))
+    pub all-pass : ((a i : ℕ) → X a i → test a i ≡ true) → (p : Place) → ((a : ℕ) → a < n → X a (p a))
+        → ((a : ℕ) → a < 3 → n ≤ a → p a ≡ 0) → firstOf 3 (tests p) ≡ done tt
+    all-pass f p used unused =
+        firstOf-passes 3 (tests p) (λ a l. passes (pick (ltb a n) (test a (p a)) (eqb (p a) 0)) number a (go a l (decLt a n)))
       where
         go : (a : ℕ) → a < 3 → Dec (a < n) → pick (ltb a n) (test a (p a)) (eqb (p a) 0) ≡ true
         go a l (yes k) = pick-true (ltb a n) (test a (p a)) (eqb (p a) 0) (lt-ltb a n k) ∙ f a (p a) (used a k)
-        go a l (no k) = pick-false (ltb a n) (test a (p a)) (eqb (p a) 0) (le-ltb a n (omega arith)) ∙ eq-eqb (p a) 0 (unused a l (omega arith))
+        go a l (no k) = pick-false (ltb a n) (test a (p a)) (eqb (p a) 0) (le-ltb a n (omega arith))
+            ∙ eq-eqb (p a) 0 (unused a l (omega arith))
 
 -- a cell that is not refused 14, and back
 pub accepted : (s : Shape) (xs : List ℕ) → s .axes ≤ 3 → cellOutcome s (placeAt xs) ≡ done tt → Accepted s (placeAt xs)
 unfolding cellOutcome
 accepted s = all-passed (s .axes) 14 (λ a i. leb (i + 2) (count s a)) (λ a i. i + 2 ≤ count s a) (λ a i. leb-true (i + 2) (count s a))
 
-pub cell-passes : (s : Shape) (cell : Place) → ((a : ℕ) → a < s .axes → cell a + 2 ≤ count s a) → ((a : ℕ) → a < 3 → s .axes ≤ a → cell a ≡ 0) → cellOutcome s cell ≡ done tt
+pub cell-passes : (s : Shape) (cell : Place) → ((a : ℕ) → a < s .axes → cell a + 2 ≤ count s a)
+    → ((a : ℕ) → a < 3 → s .axes ≤ a → cell a ≡ 0) → cellOutcome s cell ≡ done tt
 unfolding cellOutcome
 cell-passes s = all-pass (s .axes) 14 (λ a i. leb (i + 2) (count s a)) (λ a i. i + 2 ≤ count s a) (λ a i. le-leb (i + 2) (count s a))
 
@@ -128,20 +135,29 @@ module _ (s : Shape) (ok : Shaped s) (cell : Place) (here : Accepted s cell) (t 
   pub entry-at : entryIndex s (placed s cell t) ≡ base s cell + (offset s 0 (t 0) + (offset s 1 (t 1) + offset s 2 (t 2)))
   unfolding entryIndex base offset nodeStride orderStride entryNumber
   entry-at =
-      ap (λ (k : ℕ). k * entries s + number (s .axes) (λ a. orders s) (λ a. placed s cell t a % orders s)) (node-is s (λ a. placed s cell t a / orders s))
-      ∙ ap (λ (p : Place). (p 0 + count s 0 * (p 1 + count s 1 * p 2)) * entries s + number (s .axes) (λ a. orders s) (λ a. placed s cell t a % orders s)) (fun-ext placed-node)
+      ap (λ (k : ℕ). k * entries s + number (s .axes) (λ a. orders s) (λ a. placed s cell t a % orders s))
+      (node-is s (λ a. placed s cell t a / orders s))
+      ∙ ap (λ (p : Place). (p 0 + count s 0 * (p 1 + count s 1 * p 2)) * entries s + number (s .axes) (λ a. orders s)
+      (λ a. placed s cell t a % orders s)) (fun-ext placed-node)
       ∙ ap (λ (k : ℕ). node * entries s + k) order
-      ∙ regroup (cell 0) (cell 1) (cell 2) (t 0 / orders s) (t 1 / orders s) (t 2 / orders s) (count s 0) (count s 1) (entries s) (orders s) (t 0 % orders s) (t 1 % orders s) (t 2 % orders s)
+      ∙ regroup (cell 0) (cell 1) (cell 2) (t 0 / orders s) (t 1 / orders s) (t 2 / orders s) (count s 0) (count s 1) (entries s)
+      (orders s) (t 0 % orders s) (t 1 % orders s) (t 2 % orders s)
       ∙ ap (λ (k : ℕ). k * entries s + steps) (sym (node-is s cell))
-      ∙ ap (λ (k : ℕ). nodeNumber s cell * entries s + ((t 0 / orders s * entries s + t 0 % orders s * k) + rest)) (sym (pow-zero (orders s)))
-      ∙ ap (λ (k : ℕ). nodeNumber s cell * entries s + (first-step + ((t 1 / orders s * (count s 0 * entries s) + t 1 % orders s * k) + (t 2 / orders s * (count s 1 * (count s 0 * entries s)) + t 2 % orders s * (orders s * orders s))))) (sym (pow-one (orders s)))
-      ∙ ap (λ (k : ℕ). nodeNumber s cell * entries s + (first-step + ((t 1 / orders s * (count s 0 * entries s) + t 1 % orders s * orders s ^ 1) + (t 2 / orders s * (count s 1 * (count s 0 * entries s)) + t 2 % orders s * k)))) (sym (pow-two (orders s)))
+      ∙ ap (λ (k : ℕ). nodeNumber s cell * entries s + ((t 0 / orders s * entries s + t 0 % orders s * k) + rest))
+      (sym (pow-zero (orders s)))
+      ∙ ap (λ (k : ℕ). nodeNumber s cell * entries
+      s + (first-step + ((t 1 / orders s * (count s 0 * entries s) + t 1 % orders s * k)
+      + (t 2 / orders s * (count s 1 * (count s 0 * entries s)) + t 2 % orders s * (orders s * orders s))))) (sym (pow-one (orders s)))
+      ∙ ap (λ (k : ℕ). nodeNumber s cell * entries
+      s + (first-step + ((t 1 / orders s * (count s 0 * entries s) + t 1 % orders s * orders s ^ 1)
+      + (t 2 / orders s * (count s 1 * (count s 0 * entries s)) + t 2 % orders s * k)))) (sym (pow-two (orders s)))
     where
       node : ℕ
       node = cell 0 + t 0 / orders s + count s 0 * ((cell 1 + t 1 / orders s) + count s 1 * (cell 2 + t 2 / orders s))
 
       rest : ℕ
-      rest = (t 1 / orders s * (count s 0 * entries s) + t 1 % orders s * orders s) + (t 2 / orders s * (count s 1 * (count s 0 * entries s)) + t 2 % orders s * (orders s * orders s))
+      rest = (t 1 / orders s * (count s 0 * entries s) + t 1 % orders s * orders s)
+          + (t 2 / orders s * (count s 1 * (count s 0 * entries s)) + t 2 % orders s * (orders s * orders s))
 
       steps : ℕ
       steps = (t 0 / orders s * entries s + t 0 % orders s * 1) + rest
@@ -149,10 +165,12 @@ module _ (s : Shape) (ok : Shaped s) (cell : Place) (here : Accepted s cell) (t 
       first-step : ℕ
       first-step = t 0 / orders s * entries s + t 0 % orders s * orders s ^ 0
 
-      order : number (s .axes) (λ a. orders s) (λ a. placed s cell t a % orders s) ≡ t 0 % orders s + (t 1 % orders s * orders s + t 2 % orders s * (orders s * orders s))
+      order : number (s .axes) (λ a. orders s)
+          (λ a. placed s cell t a % orders s) ≡ t 0 % orders s + (t 1 % orders s * orders s + t 2 % orders s * (orders s * orders s))
       order =
           ap (λ (p : Place). number (s .axes) (λ a. orders s) p) (fun-ext placed-order)
-          ∙ number-is (orders s) (s .axes) (λ a. t a % orders s) (ok .axes-low) (ok .axes-high) (λ a l. ap (λ (k : ℕ). k % orders s) (num .unused a l) ∙ zero-mod (orders s))
+          ∙ number-is (orders s) (s .axes) (λ a. t a % orders s) (ok .axes-low) (ok .axes-high)
+          (λ a l. ap (λ (k : ℕ). k % orders s) (num .unused a l) ∙ zero-mod (orders s))
 
   pub entry-below : entryIndex s (placed s cell t) < size s
   entry-below = index-below s (placed s cell t) placed-in placed-none

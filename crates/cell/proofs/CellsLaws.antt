@@ -41,7 +41,8 @@ module _ (s : Shape) (ok : Shaped s) where
   -- no more cells than nodes
   pub cells-few : cellCount s ≤ nodes s
   unfolding cellCount span nodes
-  cells-few = mul-le-mul (along-range 0 (lit< tt) .1) (mul-le-mul (along-range 1 (lit< tt) .1) (mul-le-mul (along-range 2 (lit< tt) .1) (omega arith)))
+  cells-few = mul-le-mul (along-range 0 (lit< tt) .1)
+      (mul-le-mul (along-range 1 (lit< tt) .1) (mul-le-mul (along-range 2 (lit< tt) .1) (omega arith)))
 
   cell-digit : (i a : ℕ) → a < 3 → placeAt (cellAt s i) a ≡ digit (cellsAlong s) i a
   unfolding placeAt cellAt
@@ -82,7 +83,8 @@ module _ (s : Shape) (ok : Shaped s) where
   unfolding cellAt
   cell-between i = record {
     least = λ a l. omega arith;
-    most = λ a l. let e = getD-tabulate 3 (digit (cellsAlong s) i) a 0 l in let k = digit-below (cellsAlong s) i a (along-range a l .0) in let m = along-range a l .2 in omega arith;
+    most = λ a l. let e = getD-tabulate 3 (digit (cellsAlong s) i) a 0 l in let k = digit-below (cellsAlong s) i a (along-range a l .0) in
+        let m = along-range a l .2 in omega arith;
   }
 
 -- ---- three at a time
@@ -92,11 +94,13 @@ unfolding tabulate
 three-same x y z f i j k = cc
 
 -- the cell by the cells along each axis
-pub cell-is : (s : Shape) (cells : List ℕ) (i : ℕ) → cells ≡ tabulate 3 (cellsAlong s) → tabulate 3 (digit (λ a. getD cells a 0) i) ≡ cellAt s i
+pub cell-is : (s : Shape) (cells : List ℕ) (i : ℕ) → cells ≡ tabulate 3 (cellsAlong s)
+    → tabulate 3 (digit (λ a. getD cells a 0) i) ≡ cellAt s i
 unfolding cellAt digit tabulate
 cell-is s cells i e = ap (λ (cs : List ℕ). tabulate 3 (digit (λ a. getD cs a 0) i)) e
 
-pub total-is : (s : Shape) (cells : List ℕ) → cells ≡ tabulate 3 (cellsAlong s) → getD cells 0 0 * (getD cells 1 0 * getD cells 2 0) ≡ cellCount s
+pub total-is : (s : Shape) (cells : List ℕ) → cells ≡ tabulate 3 (cellsAlong s)
+    → getD cells 0 0 * (getD cells 1 0 * getD cells 2 0) ≡ cellCount s
 unfolding cellCount span tabulate
 total-is s cells e =
     ap (λ (cs : List ℕ). getD cs 0 0 * (getD cs 1 0 * getD cs 2 0)) e

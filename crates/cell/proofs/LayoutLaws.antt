@@ -22,7 +22,8 @@ use Rattle.cell.proofs.CornerLaws.{corner-below, corners-rows}
 abbrev pub cornerTest : List ℤ → ℕ → List ℤ → Layout → ℕ → Check
 cornerTest limits n rs l c = recordOutcome (limitIn limits) n rs (startOf l c)
 
-module _ (s : Shape) (cell : List ℕ) (l : Layout) (rs : List ℤ) (limits : List ℤ) (ok : Shaped s) (long : length rs ≡ size s) (here : Accepted s (placeAt cell)) (laid : Laid s (placeAt cell) l)
+module _ (s : Shape) (cell : List ℕ) (l : Layout) (rs : List ℤ) (limits : List ℤ) (ok : Shaped s) (long : length rs ≡ size s)
+    (here : Accepted s (placeAt cell)) (laid : Laid s (placeAt cell) l)
     (row : (e : ℕ) → e < l .orders ^ 3 → at limits e ≡ pos (limitOf (l .orders) e)) where
   pub few : (c : ℕ) → c < 2 ^ s .axes → c < 8
   few c h = lt-of-lt-of-le h (pow-mono (ok .axes-high))
@@ -33,7 +34,9 @@ module _ (s : Shape) (cell : List ℕ) (l : Layout) (rs : List ℤ) (limits : Li
 
   row-at : (e : ℕ) → e < entries s → at limits e ≡ pos (limitOf (orders s) e)
   unfolding entries
-  row-at e h = row e (rw (laid .orders-are) (lt-of-lt-of-le h (pow-le-pow-right {n = orders s} (let k = orders-range (s .degree) .0 in omega arith) (ok .axes-high)))) ∙ ap (λ (m : ℕ). pos (limitOf m e)) (laid .orders-are)
+  row-at e h = row e (rw (laid .orders-are)
+      (lt-of-lt-of-le h (pow-le-pow-right {n = orders s} (let k = orders-range (s .degree) .0 in omega arith) (ok .axes-high)))) ∙ ap (λ
+      (m : ℕ). pos (limitOf m e)) (laid .orders-are)
 
   limits-are : (e : ℕ) → e < entries s → limitIn limits e ≡ limitOf (orders s) e
   limits-are e h = ap natAbs (row-at e h)
@@ -50,7 +53,8 @@ module _ (s : Shape) (cell : List ℕ) (l : Layout) (rs : List ℤ) (limits : Li
       let g = laid .entries-are in
       omega arith
 
-  test-is : (c : ℕ) → cornerTest limits (l .entries) rs l c ≡ recordOutcome (limitOf (orders s)) (entries s) rs (cornerStart s (placeAt cell) c)
+  test-is : (c : ℕ) → cornerTest limits (l .entries) rs l c ≡ recordOutcome (limitOf (orders s)) (entries s) rs
+      (cornerStart s (placeAt cell) c)
   unfolding recordOutcome
   test-is c = rw (start-is c, laid .entries-are) (firstOf-same (entries s) _ _ (λ e h. rw (limits-are e h) refl))
 

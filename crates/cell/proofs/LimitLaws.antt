@@ -19,13 +19,17 @@ test limits rs start e = refuseUnless (leb (natAbs (at rs (start + e))) (limitIn
 
 module _ (limits rs : List ℤ) (start e : ℕ) where
   -- what the code's test of two elements says
-  pub limit-told : (r : Bool) → mag (at rs (start + e)) < 2 ^ 31 → mag (at limits e) < 2 ^ 31 → r ≡ ltb (natAbs (toZ w32 (ofZ w32 (at limits e)))) (natAbs (toZ w32 (ofZ w32 (at rs (start + e))))) → r ≡ ltb (limitIn limits e) (natAbs (at rs (start + e)))
+  pub limit-told : (r : Bool) → mag (at rs (start + e)) < 2 ^ 31 → mag (at limits e) < 2 ^ 31
+      → r ≡ ltb (natAbs (toZ w32 (ofZ w32 (at limits e)))) (natAbs (toZ w32 (ofZ w32 (at rs (start + e)))))
+      → r ≡ ltb (limitIn limits e) (natAbs (at rs (start + e)))
   limit-told r i j h = h ∙ rw (element (at rs (start + e)) i, element (at limits e) j) refl
 
   pub test-stopped : ltb (limitIn limits e) (natAbs (at rs (start + e))) ≡ true → test limits rs start e ≡ refused 5 (start + e)
   test-stopped h =
-      ap (λ (b : Bool). refuseUnless b 5 (start + e)) (lt-leb (natAbs (at rs (start + e))) (limitIn limits e) (ltb-true (limitIn limits e) (natAbs (at rs (start + e))) h))
+      ap (λ (b : Bool). refuseUnless b 5 (start + e))
+      (lt-leb (natAbs (at rs (start + e))) (limitIn limits e) (ltb-true (limitIn limits e) (natAbs (at rs (start + e))) h))
 
   pub test-passed : ltb (limitIn limits e) (natAbs (at rs (start + e))) ≡ false → test limits rs start e ≡ done tt
   test-passed h =
-      ap (λ (b : Bool). refuseUnless b 5 (start + e)) (le-leb (natAbs (at rs (start + e))) (limitIn limits e) (ltb-false (limitIn limits e) (natAbs (at rs (start + e))) h))
+      ap (λ (b : Bool). refuseUnless b 5 (start + e))
+      (le-leb (natAbs (at rs (start + e))) (limitIn limits e) (ltb-false (limitIn limits e) (natAbs (at rs (start + e))) h))

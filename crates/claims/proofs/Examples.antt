@@ -13,12 +13,14 @@ use Rattle.lattice.specs.Records.{nodeNumber, samplesField, entryNumber, entryI
 use Rattle.hermite.specs.Hermite.{multiplier, mirrored, share, forward, solved, backward, weight, weightAt, divisor, stageSum}
 use Rattle.cell.specs.Cell.{placeAt, cellOutcome, cornerPlace, cornerEntries, entryOutcome, cornersOutcome}
 use Rattle.cell.specs.Coefficients.{coefficients}
-use Rattle.coefficients.specs.Corners.{requestOutcome, numbersOutcome, coefficientList, coefficientsOutcome, cornerNumbers, coefficientsField, doubledEntry, entryAllowed, possibleOutcome, entryList, backOutcome}
-use Rattle.estimate.specs.Estimate.{left, right, byOrder, estimate, records, tableRecords, recordsOf, estimateOutcome, estimateWrites}
-use Rattle.evaluate.specs.Evaluate.{orderOn, lastAxis, weightOn, sumOver, exactSum, divisorOn, exactDivisor, stageOn, toEighth, toUnit, inEighths, before, answerBy, askAt}
-use Rattle.query.specs.Queries.{wantOutcome, askedOutcome, reading, stepsOutcome, testedOutcome, byCell, positionAt, positionOutcome, cellOf, positionCell, positionStep, byPosition}
+use Rattle.cell.specs.Corners.{cornerNumbers}
 use Rattle.table_file.specs.Numbers.{numberAt, bytesOf, bytesOfAll}
 use Rattle.table_file.specs.File.{sectionOne, sectionTwo, fileOf, complete, countIn, nodesIn, countOutcome, oneOutcome, nothingAfter, twoOutcome, readCheck}
+use Rattle.estimate.specs.Estimate.{left, right, byOrder, estimate, records, tableRecords, recordsOf, estimateOutcome, estimateWrites}
+use Rattle.coefficients.specs.Coefficients.{requestOutcome, coefficientList, coefficientsOutcome}
+use Rattle.corners.specs.Corners.{numbersOutcome, coefficientsField, doubledEntry, entryAllowed, possibleOutcome, entryList, backOutcome}
+use Rattle.evaluate.specs.Evaluate.{orderOn, lastAxis, weightOn, sumOver, exactSum, divisorOn, exactDivisor, stageOn, toEighth, toUnit, inEighths, before, answerBy, askAt}
+use Rattle.query.specs.Queries.{wantOutcome, askedOutcome, reading, stepsOutcome, testedOutcome, byCell, positionAt, positionOutcome, cellOf, positionCell, positionStep, byPosition}
 use Rattle.claims.specs.Third.{queried, cellRead, stepRead, bothCalls, allowedDistance}
 use Rattle.claims.specs.Examples.{Row, recordsFrom, coefficientsOf, coefficientsFrom, backInto, firstStage, exactly, answerTo, table, AllRows}
 use Rattle.claims.specs.Pinned.{answerFrom, notZero, sparse, among, numbered, limits, leftOver, distances, only, flat, fileWith, refusals, readings, numbers, pins}

@@ -20,14 +20,16 @@ use Rattle.lattice.proofs.BufferLaws.{tabulate-same}
 use Rattle.lattice.proofs.DigitsLaws.{digits-in}
 use Rattle.lattice.proofs.ShapeLaws.{orders-range, shaped}
 use Rattle.cell.specs.Cell.{placeAt, cornersOutcome, cornerPlace}
+use Rattle.cell.specs.Coefficients.{coefficientCount}
 use Rattle.cell.proofs.CellLaws.{cell-passes}
 use Rattle.cell.proofs.CornerLaws.{corners-pass, corner-inside}
-use Rattle.coefficients.specs.Corners.{coefficientCount, coefficientList, requestOutcome, coefficientsOutcome, coefficientsWrites, entryList, backOutcome}
-use Rattle.coefficients.proofs.TableCell.{cell-same}
-use Rattle.coefficients.proofs.NumberLaws.{count-split}
-use Rattle.coefficients.proofs.Demand.{Possible, written-coefficients, done-or-13, done-possible, only-records, written-records}
+use Rattle.cell.proofs.NumberLaws.{count-split}
 use Rattle.estimate.specs.Estimate.{Estimable, tableRecords, recordsOf}
 use Rattle.estimate.proofs.CallLaws.{estimated, records-length}
+use Rattle.coefficients.specs.Coefficients.{coefficientList, requestOutcome, coefficientsOutcome, coefficientsWrites}
+use Rattle.coefficients.proofs.TableCell.{cell-same}
+use Rattle.corners.specs.Corners.{entryList, backOutcome}
+use Rattle.corners.proofs.Demand.{Possible, written-coefficients, done-or-13, done-possible, only-records, written-records}
 use Rattle.claims.specs.Third.{AcceptedTable}
 use Rattle.claims.specs.Second.{Converts, Asked, FromEstimates, Measured, FromRecords, BackAsked, CornersOf, ConvertsBack, Back, SecondDemand}
 use Rattle.estimated.proofs.Estimated.{lent, field-same, field-within}

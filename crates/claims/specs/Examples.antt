@@ -10,8 +10,9 @@ use Rattle.lattice.specs.Buffer.{tabulate}
 use Rattle.lattice.specs.Shape.{shapeOf, ordersOf, orders, size}
 use Rattle.lattice.specs.Axes.{origin, along}
 use Rattle.lattice.specs.Records.{recordsField}
-use Rattle.coefficients.specs.Corners.{coefficientList, coefficientsOutcome, entryList, backOutcome}
 use Rattle.estimate.specs.Estimate.{tableRecords, recordsOf, estimateOutcome}
+use Rattle.coefficients.specs.Coefficients.{coefficientList, coefficientsOutcome}
+use Rattle.corners.specs.Corners.{entryList, backOutcome}
 use Rattle.evaluate.specs.Evaluate.{Want, dose, slopeAlong, exactSum, exactDivisor, toEighth, inEighths}
 use Rattle.claims.specs.Third.{atPosition, bothCalls, asked}
 

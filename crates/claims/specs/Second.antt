@@ -14,8 +14,10 @@ use Rattle.lattice.specs.Shape.{orders, ordersOf, size, axesOutcome, degreeOutc
 use Rattle.lattice.specs.Axes.{Place, Field}
 use Rattle.lattice.specs.Records.{recordsField, entryLimit}
 use Rattle.cell.specs.Cell.{placeAt, Accepted, InCorners}
-use Rattle.coefficients.specs.Corners.{coefficientCount, coefficientList, coefficientsOutcome, coefficientsWrites, PermittedCorners, HasCoefficients, backOutcome, backWrites}
+use Rattle.cell.specs.Coefficients.{coefficientCount}
 use Rattle.estimate.specs.Estimate.{tableRecords, estimateWrites}
+use Rattle.coefficients.specs.Coefficients.{coefficientList, coefficientsOutcome, coefficientsWrites}
+use Rattle.corners.specs.Corners.{PermittedCorners, HasCoefficients, backOutcome, backWrites}
 use Rattle.claims.specs.Third.{AcceptedTable}
 
 -- ---- forward

@@ -18,7 +18,7 @@ use Rattle.lattice.proofs.PassesLaws.{passes, passes-sweep, pass-same, passes-s
 use Rattle.lattice.proofs.ShapeLaws.{pow-range}
 use Rattle.lattice.proofs.DigitsLaws.{high-digit, low-digit, pair-in, group-room}
 use Rattle.hermite.proofs.EndLaws.{end-depends, end-size}
-use Rattle.coefficients.specs.Corners.{coefficientCount}
+use Rattle.cell.specs.Coefficients.{coefficientCount}
 use Rattle.coefficients.specs.Blocks.{Sizes, ruleAt, converted, AllWithin, StartsWith, scatter}
 use Rattle.coefficients.proofs.SpotLaws.{scatter-off, scatter-at}
 
@@ -69,16 +69,19 @@ module _ (m r : ℕ) (R : ℕ → ℕ → ℤ) where
   abbrev pub Rows : ℕ → List ℤ → Type 0
   Rows g zs = (k j : ℕ) → k < m → j < g → at zs (r * k + j) ≡ R k j
 
-  pub rows-more : (g : ℕ) → g < r → (z : ℕ → ℤ) → ((k : ℕ) → k < m → z k ≡ R k g) → (old : List ℤ) → m * r ≤ length old → Rows g old → Rows (g + 1) (scatter m (λ k. r * k + g) z old)
+  pub rows-more : (g : ℕ) → g < r → (z : ℕ → ℤ) → ((k : ℕ) → k < m → z k ≡ R k g) → (old : List ℤ) → m * r ≤ length old → Rows g old
+      → Rows (g + 1) (scatter m (λ k. r * k + g) z old)
   rows-more g hg z is old long h k j l q = go (ℕ-discrete j g)
     where
       go : Dec (j ≡ g) → at (scatter m (λ k. r * k + g) z old) (r * k + j) ≡ R k j
       go (yes e) =
           rw e
-          (scatter-at (λ k. r * k + g) z old k m l (let p = pair-in r k g hg m l in omega arith) (λ i p. sym (high-digit r k g hg) ∙ ap (λ (x : ℕ). x / r) p ∙ high-digit r i g hg) ∙ is k l)
+          (scatter-at (λ k. r * k + g) z old k m l (let p = pair-in r k g hg m l in omega arith)
+          (λ i p. sym (high-digit r k g hg) ∙ ap (λ (x : ℕ). x / r) p ∙ high-digit r i g hg) ∙ is k l)
       go (no n) =
           let p : j < g = omega arith in
-          scatter-off (λ k. r * k + g) z old (r * k + j) m (λ i s e. n (sym (low-digit r k j (omega arith)) ∙ ap (λ (x : ℕ). x % r) e ∙ low-digit r i g hg)) ∙ h k j l p
+          scatter-off (λ k. r * k + g) z old (r * k + j) m
+          (λ i s e. n (sym (low-digit r k j (omega arith)) ∙ ap (λ (x : ℕ). x % r) e ∙ low-digit r i g hg)) ∙ h k j l p
 
   pub rows-all : (zs : List ℤ) → Rows r zs → (i : ℕ) → i < m * r → at zs i ≡ R (i / r) (i % r)
   rows-all zs h i l = ap (at zs) (sym (div-add-mod i r)) ∙ h (i / r) (i % r) (place-in m r i l) (mod-lt i (some-groups i m r l))
@@ -99,20 +102,31 @@ module _ (back : Bool) {m n r : ℕ} (ok : Sizes m n r) (c : ℕ) (xs : ℕ → 
 
   pub after-next : (i : ℕ) (ys zs : List ℤ) → After i ys → StartsWith (m * r) (pass m r (ruleAt back m c i) (at ys)) zs → After (suc i) zs
   unfolding passes
-  after-next i ys zs h z = record { long = z .long; is = λ k l. z .is k l ∙ pass-same m r (ruleAt back m c i) (depends i) (at ys) (passes m r (ruleAt back m c) i xs) (h .is) k l }
+  after-next i ys zs h z = record {
+    long = z .long;
+    is = λ k l. z .is k l
+        ∙ pass-same m r (ruleAt back m c i) (depends i) (at ys) (passes m r (ruleAt back m c) i xs) (h .is) k l;
+  }
 
   -- no pass is beyond 64 bits
   pub after-low : AllWithin (2 ^ 31) (m ^ n) xs → (i : ℕ) → i ≤ 3 → (zs : List ℤ) → After i zs → AllWithin (2 ^ 50) (m * r) (at zs)
   after-low h i l zs z k q =
       rw (z .is k q)
       (le-trans
-      (passes-size m r (ruleAt back m c) 32 (λ a x B j p e. end-size back m (ok .orders-low) (ok .orders-high) (eqb (digit (λ b. 2) c a) 1) x B j p e) xs (2 ^ 31) (λ k q. h k (subst (λ (e : ℕ). k < e) (ok .groups-are) q)) i k q)
+      (passes-size m r (ruleAt back m c) 32
+      (λ a x B j p e. end-size back m (ok .orders-low) (ok .orders-high) (eqb (digit (λ b. 2) c a) 1) x B j p e) xs (2 ^ 31)
+      (λ k q. h k (subst (λ (e : ℕ). k < e) (ok .groups-are) q)) i k q)
       (le-trans (mul-le-mul-right (2 ^ 31) (pow-le-pow-right {n = 32} (lit< tt) {i = i} {j = 3} l)) (lit≤ tt)))
 
   -- as many passes as there are axes
-  pub after-all : AllWithin (2 ^ 31) (m ^ n) xs → (i : ℕ) → i ≡ n → (zs : List ℤ) → After i zs → StartsWith (m ^ n) (converted back m n c xs) zs × AllWithin (2 ^ 50) (m ^ n) (at zs)
+  pub after-all : AllWithin (2 ^ 31) (m ^ n) xs → (i : ℕ) → i ≡ n → (zs : List ℤ) → After i zs
+      → StartsWith (m ^ n) (converted back m n c xs) zs × AllWithin (2 ^ 50) (m ^ n) (at zs)
   unfolding converted
   after-all h i e zs z = (
-    record { long = z .long; is = λ k l. z .is k (in-groups ok k l) ∙ ap (λ (j : ℕ). passes m r (ruleAt back m c) j xs k) e ∙ passes-sweep m n r (orders-some ok) (groups-is ok) (ruleAt back m c) depends xs k l },
+    record {
+      long = z .long;
+      is = λ k l. z .is k (in-groups ok k l) ∙ ap (λ (j : ℕ). passes m r (ruleAt back m c) j xs k) e
+          ∙ passes-sweep m n r (orders-some ok) (groups-is ok) (ruleAt back m c) depends xs k l;
+    },
     λ k l. after-low h i (subst (λ (j : ℕ). j ≤ 3) (sym e) (ok .axes-high)) zs z k (in-groups ok k l),
   )

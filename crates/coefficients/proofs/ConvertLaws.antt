@@ -1,7 +1,6 @@
--- A corner's block, converted, is the corner's coefficients; converted back, its doubled entries: from the rule of each end, axis by axis.
+-- A corner's block, converted, is the corner's coefficients: from the rule of each end, axis by axis.
 use mathlib.Core.Path.{_≡_, refl, sym, ap, _∙_, fun-ext}
-use mathlib.Core.Bool.{Bool, true, false}
-use mathlib.Core.List.{List}
+use mathlib.Core.Bool.{Bool, false}
 use Prim.Native.Nat.{ℕ, zero, suc, _+_, _*_, _-_, _/_, _%_, _^_, _≤_, _<_}
 use native.Mathlib.Decide.{decLt}
 use native.Mathlib.Omega.{arith}
@@ -9,104 +8,84 @@ use lib.Dec.{eqb, lit<}
 use lib.IntN.{ℤ, _*ℤ_}
 use Rattle.arith.specs.Choice.{pick}
 use Rattle.arith.proofs.Sums.{sum-ext}
-use Rattle.lattice.specs.Buffer.{at}
 use Rattle.lattice.specs.Digits.{number, digit}
-use Rattle.lattice.specs.Axes.{Place, origin, sweep, axes}
+use Rattle.lattice.specs.Axes.{Place, origin, axes}
 use Rattle.lattice.proofs.Along.{Fresh, distinct-axes, each-axes}
 use Rattle.lattice.proofs.Local.{used, Paired, sweep-carries}
-use Rattle.lattice.proofs.DigitsLaws.{digit-below, Digits, digits-in, number-in, of-digits, of-number, high-digit, low-digit}
-use Rattle.hermite.specs.Hermite.{multiplier, mirrored, forward, backward, fromEnd, endRule}
+use Rattle.lattice.proofs.DigitsLaws.{digit-below, Digits, digits-in, number-in, of-digits, high-digit, low-digit}
+use Rattle.hermite.specs.Hermite.{multiplier, mirrored, forward, fromEnd, endRule}
 use Rattle.hermite.proofs.HermiteLaws.{forward-low, forward-high}
-use Rattle.hermite.proofs.BackLaws.{backward-low, backward-high, solved-ext}
 use Rattle.hermite.proofs.EndLaws.{end-depends}
 use Rattle.cell.specs.Coefficients.{coefficients}
-use Rattle.coefficients.specs.Corners.{cornerEntry, coefficientsField, doubledEntry}
-use Rattle.coefficients.specs.Blocks.{coefficientNumber, blockNumbers, coefficientIndex, ruleAt, converted}
-use Rattle.coefficients.proofs.Inverse.{depends-carries, agree}
-use Rattle.coefficients.proofs.SpotLaws.{mirror-low, mirror-high, numbers-are, block-in, spot-number}
+use Rattle.cell.specs.Corners.{cornerEntry}
+use Rattle.coefficients.specs.Blocks.{coefficientNumber, blockNumbers, ruleAt, converted}
+use Rattle.coefficients.proofs.Below.{depends-carries, agree}
+use Rattle.coefficients.proofs.SpotLaws.{mirror-low, mirror-high, block-in}
 
 -- ---- one axis
 
-from-low : (m t : ℕ) → m * 0 + t ≡ t
+pub from-low : (m t : ℕ) → m * 0 + t ≡ t
 from-low m t = omega arith
 
 module _ (m : ℕ) (m2 : 2 ≤ m) (m3 : m ≤ 3) where
   -- the coefficient of number k of the high end
-  high-place : (k : ℕ) → k < m → coefficientNumber m (m * 1 + k) ≡ 2 * m - 1 - k
+  pub high-place : (k : ℕ) → k < m → coefficientNumber m (m * 1 + k) ≡ 2 * m - 1 - k
   high-place k l =
       let z : m * 1 + k ≡ m + k = omega arith in
       let w : 3 * m - 1 - (m + k) ≡ 2 * m - 1 - k = omega arith in
       ap (coefficientNumber m) z ∙ mirror-high m (m + k) (omega arith) ∙ w
 
   -- the coefficients of an end, counted from it
-  forward-end : (e : ℕ) → e < 2 → (x y : ℕ → ℤ) → ((t : ℕ) → t < m → x (m * e + t) ≡ y t) → (k : ℕ) → k < m → forward m 0 x (coefficientNumber m (m * e + k)) ≡ endRule false m (eqb e 1) y k
+  forward-end : (e : ℕ) → e < 2 → (x y : ℕ → ℤ) → ((t : ℕ) → t < m → x (m * e + t) ≡ y t) → (k : ℕ) → k < m
+      → forward m 0 x (coefficientNumber m (m * e + k)) ≡ endRule false m (eqb e 1) y k
   unfolding endRule fromEnd pick
   forward-end zero l x y h k p =
-      ap (λ (i : ℕ). forward m 0 x (coefficientNumber m i)) (from-low m k) ∙ ap (forward m 0 x) (mirror-low m k p) ∙ forward-low m 0 m2 m3 x k p
+      ap (λ (i : ℕ). forward m 0 x (coefficientNumber m i)) (from-low m k) ∙ ap (forward m 0 x) (mirror-low m k p)
+      ∙ forward-low m 0 m2 m3 x k p
       ∙ sum-ext m (λ o. multiplier m k o *ℤ x (m * 0 + o)) (λ o. multiplier m k o *ℤ y o) (λ o q. ap (λ z. multiplier m k o *ℤ z) (h o q))
   forward-end (suc zero) l x y h k p =
       ap (forward m 0 x) (high-place k p) ∙ forward-high m 0 m2 m3 x k p
-      ∙ sum-ext m (λ o. multiplier m k o *ℤ mirrored o (x (m * 0 + (m + o)))) (λ o. multiplier m k o *ℤ mirrored o (y o)) (λ o q. ap (λ z. multiplier m k o *ℤ mirrored o z) (ap x (there m o) ∙ h o q))
+      ∙ sum-ext m (λ o. multiplier m k o *ℤ mirrored o (x (m * 0 + (m + o)))) (λ o. multiplier m k o *ℤ mirrored o (y o))
+      (λ o q. ap (λ z. multiplier m k o *ℤ mirrored o z) (ap x (there m o) ∙ h o q))
     where
       there : (m o : ℕ) → m * 0 + (m + o) ≡ m * 1 + o
       there m o = omega arith
   forward-end (suc (suc e)) l x y h k p = absurd (omega arith)
 
-  -- the doubled numbers of an end, from its coefficients counted from it
-  backward-end : (e : ℕ) → e < 2 → (x y : ℕ → ℤ) → ((t : ℕ) → t < m → x (coefficientNumber m (m * e + t)) ≡ y t) → (o : ℕ) → o < m → backward m x (m * e + o) ≡ endRule true m (eqb e 1) y o
-  unfolding endRule fromEnd pick
-  backward-end zero l x y h o p =
-      ap (backward m x) (from-low m o) ∙ backward-low m m2 m3 x o p ∙ solved-ext m m2 m3 x y o p (λ t q. sym (ap x (ap (coefficientNumber m) (from-low m t) ∙ mirror-low m t q)) ∙ h t q)
-  backward-end (suc zero) l x y h o p =
-      let z : m * 1 + o ≡ m + o = omega arith in
-      ap (backward m x) z ∙ backward-high m m2 m3 x o ∙ ap (mirrored o) (solved-ext m m2 m3 (λ k. x (2 * m - 1 - k)) y o p (λ t q. sym (ap x (high-place t q)) ∙ h t q))
-  backward-end (suc (suc e)) l x y h o p = absurd (omega arith)
-
 -- only the numbers of the block count
-pub converted-same : (back : Bool) (m n c : ℕ) → 2 ≤ m → m ≤ 3 → (xs ys : ℕ → ℤ) → ((j : ℕ) → j < m ^ n → xs j ≡ ys j) → (k : ℕ) → k < m ^ n → converted back m n c xs k ≡ converted back m n c ys k
+pub converted-same : (back : Bool) (m n c : ℕ) → 2 ≤ m → m ≤ 3 → (xs ys : ℕ → ℤ) → ((j : ℕ) → j < m ^ n → xs j ≡ ys j) → (k : ℕ)
+    → k < m ^ n → converted back m n c xs k ≡ converted back m n c ys k
 unfolding converted
 converted-same back m n c m2 m3 xs ys h k l =
-    agree n m (ruleAt back m c) (each-axes n _ (λ a l. depends-carries n m (end-depends back m m2 m3 (eqb (digit (λ b. 2) c a) 1)) a l)) (λ p. xs (number n (λ b. m) p)) (λ p. ys (number n (λ b. m) p))
+    agree n m (ruleAt back m c) (each-axes n _ (λ a l. depends-carries n m (end-depends back m m2 m3 (eqb (digit (λ b. 2) c a) 1)) a l))
+    (λ p. xs (number n (λ b. m) p)) (λ p. ys (number n (λ b. m) p))
     (λ p d. h (number n (λ b. m) p) (number-in n m p d)) (digit (λ b. m) k) (digits-in n m k (omega arith) l)
 
--- ---- all axes of a corner
+-- ---- all axes
 
 -- place s on axis a is that of order t; 0 on an unused axis
-record Order (m n : ℕ) (F : ℕ → ℕ → ℕ) (a s t : ℕ) : Type 0 where
-  is : s ≡ F a t
-  below : t < m
-  none : n ≤ a → t ≡ 0
+pub record Order (m n : ℕ) (F : ℕ → ℕ → ℕ) (a s t : ℕ) : Type 0 where
+  pub is : s ≡ F a t
+  pub below : t < m
+  pub none : n ≤ a → t ≡ 0
 
-module _ (m n : ℕ) (m2 : 2 ≤ m) (m3 : m ≤ 3) (low : 1 ≤ n) (high : n ≤ 3) (c : ℕ) (hc : c < 2 ^ n) where
-  some : 0 < m
-  some = omega arith
-
-  abbrev end : ℕ → ℕ
-  end a = digit (λ b. 2) c a
-
-  -- number t of the corner's end, and its coefficient
-  abbrev joined : ℕ → ℕ → ℕ
-  joined a t = m * end a + t
-
-  abbrev counted : ℕ → ℕ → ℕ
-  counted a t = coefficientNumber m (m * end a + t)
-
-  end-low : (a : ℕ) → end a < 2
-  end-low a = digit-below (λ b. 2) c a (lit< tt)
-
+module _ (m n : ℕ) where
   -- a fact of the orders of a used axis
-  reads : (F : ℕ → ℕ → ℕ) (x y : ℕ → ℤ) (a : ℕ) → a < n → ((s t : ℕ) → Order m n F a s t → x s ≡ y t) → (t : ℕ) → t < m → x (F a t) ≡ y t
+  pub reads : (F : ℕ → ℕ → ℕ) (x y : ℕ → ℤ) (a : ℕ) → a < n → ((s t : ℕ) → Order m n F a s t → x s ≡ y t) → (t : ℕ) → t < m
+      → x (F a t) ≡ y t
   reads F x y a l h t q = h (F a t) t (record { is = refl; below = q; none = λ b. absurd (apart b) })
     where
       apart : n ≤ a → ⊥
       apart b = omega arith
 
-  orders-in : (F : ℕ → ℕ → ℕ) (p q : Place) → ((a : ℕ) → Order m n F a (p a) (q a)) → (p ≡ (λ a. F a (q a))) × Digits n m q
+  pub orders-in : (F : ℕ → ℕ → ℕ) (p q : Place) → ((a : ℕ) → Order m n F a (p a) (q a)) → (p ≡ (λ a. F a (q a))) × Digits n m q
   orders-in F p q h = (fun-ext (λ a. h a .is), record { used = λ a l. h a .below; unused = λ a l. h a .none l })
 
   -- number k of the block on each axis
-  paired : (F G : ℕ → ℕ → ℕ) (p : Place) (k : ℕ) → k < m ^ n → ((a : ℕ) → p a ≡ F a (digit (λ b. m) k a)) → ((a : ℕ) → n ≤ a → p a ≡ G a (digit (λ b. m) k a)) → Paired (Order m n F) (Order m n G) (axes n) p (digit (λ b. m) k)
-  paired F G p k hk f g = record {
+  pub paired : 0 < m → (F G : ℕ → ℕ → ℕ) (p : Place) (k : ℕ) → k < m ^ n
+      → ((a : ℕ) → p a ≡ F a (digit (λ b. m) k a)) → ((a : ℕ) → n ≤ a → p a ≡ G a (digit (λ b. m) k a))
+      → Paired (Order m n F) (Order m n G) (axes n) p (digit (λ b. m) k)
+  paired some F G p k hk f g = record {
     done = λ a z. record { is = f a; below = digit-below (λ b. m) k a some; none = order .unused a };
     left = λ a z. record { is = g a (beyond a z); below = digit-below (λ b. m) k a some; none = order .unused a };
   }
@@ -121,43 +100,53 @@ module _ (m n : ℕ) (m2 : 2 ≤ m) (m3 : m ≤ 3) (low : 1 ≤ n) (high : n ≤
           go (yes l) = absurd (used n a l f)
           go (no l) = omega (arith, l)
 
-  -- on an unused axis a number and its coefficient are 0
-  both-none : (k : ℕ) → k < m ^ n → (a : ℕ) → n ≤ a → coefficientNumber m (blockNumbers m c k a) ≡ blockNumbers m c k a
-  both-none k hk a l = let z = block-in m n some c k hc hk .unused a l in ap (coefficientNumber m) z ∙ mirror-low m 0 some ∙ sym z
+-- ---- all axes of a corner
 
-  -- number k of the corner's block is its coefficient
-  module _ (r : ℕ → ℤ) where
-    entries-are : (p q : Place) → ((a : ℕ) → Order m n joined a (p a) (q a)) → r (cornerEntry m n p) ≡ r (m ^ n * c + number n (λ b. m) q)
-    unfolding cornerEntry
-    entries-are p q h =
-        ap r
-        (ap (λ (e : Place). m ^ n * number n (λ b. 2) e + number n (λ b. m) (λ a. p a % m)) (fun-ext (λ a. ap (λ (k : ℕ). k / m) (h a .is) ∙ high-digit m (end a) (q a) (h a .below)))
-        ∙ ap (λ (o : Place). m ^ n * number n (λ b. 2) end + number n (λ b. m) o) (fun-ext (λ a. ap (λ (k : ℕ). k % m) (h a .is) ∙ low-digit m (end a) (q a) (h a .below)))
-        ∙ ap (λ (k : ℕ). m ^ n * k + number n (λ b. m) q) (of-digits n 2 c hc))
+abbrev pub end : ℕ → ℕ → ℕ
+end c a = digit (λ b. 2) c a
 
-    pub forward-block : (k : ℕ) → k < m ^ n → converted false m n c (λ j. r (m ^ n * c + j)) k ≡ coefficients m n origin (λ t. r (cornerEntry m n t)) (λ a. coefficientNumber m (blockNumbers m c k a))
-    unfolding coefficients blockNumbers converted
-    forward-block k hk =
-        sym (sweep-carries (Order m n counted) (Order m n joined) (λ a. forward m 0) (ruleAt false m c) (axes n) (distinct-axes n)
-        (each-axes n _ (λ a l x y j t s h. ap (forward m 0 x) (s .is) ∙ forward-end m m2 m3 (end a) (end-low a) x y (reads joined x y a l h) t (s .below)))
-        (λ t. r (cornerEntry m n t)) (λ q. r (m ^ n * c + number n (λ b. m) q)) entries-are (λ a. coefficientNumber m (blockNumbers m c k a)) (digit (λ b. m) k)
-        (paired counted joined (λ a. coefficientNumber m (blockNumbers m c k a)) k hk (λ a. refl) (both-none k hk)))
+pub end-low : (c a : ℕ) → end c a < 2
+end-low c a = digit-below (λ b. 2) c a (lit< tt)
 
-  -- and number k of the coefficients converted back is its doubled entry
-  module _ (cs : List ℤ) where
-    spots-are : (p q : Place) → ((a : ℕ) → Order m n counted a (p a) (q a)) → coefficientsField m n cs p ≡ at cs (coefficientIndex m c (number n (λ b. m) q))
-    unfolding coefficientsField blockNumbers
-    spots-are p q h =
-        let z = orders-in counted p q h in
-        let k = number-in n m q (z .1) in
-        ap (at cs)
-        (ap (number n (λ b. 2 * m)) (z .0 ∙ ap (λ (o : Place). λ a. coefficientNumber m (m * end a + o a)) (sym (of-number n m q (z .1))))
-        ∙ sym (spot-number m n some c (number n (λ b. m) q) hc k low high))
+-- number t of the corner's end, and its coefficient
+abbrev pub joined : ℕ → ℕ → ℕ → ℕ → ℕ
+joined m c a t = m * end c a + t
 
-    pub backward-block : (k : ℕ) → k < m ^ n → converted true m n c (λ j. at cs (coefficientIndex m c j)) k ≡ doubledEntry m n cs (m ^ n * c + k)
-    unfolding doubledEntry blockNumbers converted
-    backward-block k hk =
-        sym (ap (sweep (axes n) (λ a. backward m) (coefficientsField m n cs)) (numbers-are m n some c k hc hk)
-        ∙ sweep-carries (Order m n joined) (Order m n counted) (λ a. backward m) (ruleAt true m c) (axes n) (distinct-axes n)
-        (each-axes n _ (λ a l x y j t s h. ap (backward m x) (s .is) ∙ backward-end m m2 m3 (end a) (end-low a) x y (reads counted x y a l h) t (s .below)))
-        (coefficientsField m n cs) (λ q. at cs (coefficientIndex m c (number n (λ b. m) q))) spots-are (blockNumbers m c k) (digit (λ b. m) k) (paired joined counted (blockNumbers m c k) k hk (λ a. refl) (λ a l. sym (both-none k hk a l))))
+abbrev pub counted : ℕ → ℕ → ℕ → ℕ → ℕ
+counted m c a t = coefficientNumber m (m * end c a + t)
+
+-- on an unused axis a number and its coefficient are 0
+pub both-none : (m n c : ℕ) → 0 < m → c < 2 ^ n → (k : ℕ) → k < m ^ n → (a : ℕ) → n ≤ a
+    → coefficientNumber m (blockNumbers m c k a) ≡ blockNumbers m c k a
+both-none m n c some hc k hk a l =
+    let z = block-in m n some c k hc hk .unused a l in
+    ap (coefficientNumber m) z ∙ mirror-low m 0 some ∙ sym z
+
+-- number k of the corner's block is its coefficient
+module _ (m n : ℕ) (m2 : 2 ≤ m) (m3 : m ≤ 3) (c : ℕ) (hc : c < 2 ^ n) (r : ℕ → ℤ) where
+  some : 0 < m
+  some = omega arith
+
+  entries-are : (p q : Place) → ((a : ℕ) → Order m n (joined m c) a (p a) (q a))
+      → r (cornerEntry m n p) ≡ r (m ^ n * c + number n (λ b. m) q)
+  unfolding cornerEntry
+  entries-are p q h =
+      ap r
+      (ap (λ (e : Place). m ^ n * number n (λ b. 2) e + number n (λ b. m) (λ a. p a % m))
+      (fun-ext (λ a. ap (λ (k : ℕ). k / m) (h a .is) ∙ high-digit m (end c a) (q a) (h a .below)))
+      ∙ ap (λ (o : Place). m ^ n * number n (λ b. 2) (end c) + number n (λ b. m) o)
+      (fun-ext (λ a. ap (λ (k : ℕ). k % m) (h a .is) ∙ low-digit m (end c a) (q a) (h a .below)))
+      ∙ ap (λ (k : ℕ). m ^ n * k + number n (λ b. m) q) (of-digits n 2 c hc))
+
+  pub forward-block : (k : ℕ) → k < m ^ n
+      → converted false m n c (λ j. r (m ^ n * c + j)) k
+      ≡ coefficients m n origin (λ t. r (cornerEntry m n t)) (λ a. coefficientNumber m (blockNumbers m c k a))
+  unfolding coefficients blockNumbers converted
+  forward-block k hk =
+      sym (sweep-carries (Order m n (counted m c)) (Order m n (joined m c)) (λ a. forward m 0) (ruleAt false m c) (axes n) (distinct-axes n)
+      (each-axes n _ (λ a l x y j t s h.
+      ap (forward m 0 x) (s .is) ∙ forward-end m m2 m3 (end c a) (end-low c a) x y (reads m n (joined m c) x y a l h) t (s .below)))
+      (λ t. r (cornerEntry m n t)) (λ q. r (m ^ n * c + number n (λ b. m) q)) entries-are
+      (λ a. coefficientNumber m (blockNumbers m c k a)) (digit (λ b. m) k)
+      (paired m n some (counted m c) (joined m c) (λ a. coefficientNumber m (blockNumbers m c k a)) k hk (λ a. refl)
+      (both-none m n c some hc k hk)))

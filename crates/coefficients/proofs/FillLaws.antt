@@ -12,7 +12,7 @@ use Rattle.lattice.proofs.DigitsLaws.{Digits, of-number, high-digit, low-digit}
 use Rattle.cell.specs.declared.Layout.{Layout}
 use Rattle.cell.specs.Cell.{startOf}
 use Rattle.cell.specs.Coefficients.{coefficients}
-use Rattle.coefficients.specs.Corners.{cornerEntry}
+use Rattle.cell.specs.Corners.{cornerEntry}
 use Rattle.coefficients.specs.Blocks.{Sizes, coefficientNumber, blockNumbers, coefficientIndex, gathered, cellCoefficient, converted, Gathered}
 use Rattle.coefficients.proofs.Sizes.{coefficient-within}
 use Rattle.coefficients.proofs.BlockLaws.{orders-some}
@@ -22,7 +22,9 @@ use Rattle.coefficients.proofs.ConvertLaws.{converted-same, forward-blo
 module _ {m n r : ℕ} (ok : Sizes m n r) (l : Layout) (rs : List ℤ) (g : Gathered m n l rs) (c : ℕ) (hc : c < 2 ^ n) where
   entry-is : (j : ℕ) → j < m ^ n → at rs (startOf l c + j) ≡ gathered (m ^ n) l rs (m ^ n * c + j)
   unfolding gathered
-  entry-is j h = sym (ap (λ (i : ℕ). at rs (startOf l i + (m ^ n * c + j) % m ^ n)) (high-digit (m ^ n) c j h) ∙ ap (λ (i : ℕ). at rs (startOf l c + i)) (low-digit (m ^ n) c j h))
+  entry-is j h =
+      sym (ap (λ (i : ℕ). at rs (startOf l i + (m ^ n * c + j) % m ^ n)) (high-digit (m ^ n) c j h)
+      ∙ ap (λ (i : ℕ). at rs (startOf l c + i)) (low-digit (m ^ n) c j h))
 
   module _ (xs : ℕ → ℤ) (hx : (j : ℕ) → j < m ^ n → xs j ≡ at rs (startOf l c + j)) (k : ℕ) (hk : k < m ^ n) where
     place : Place
@@ -35,15 +37,19 @@ module _ {m n r : ℕ} (ok : Sizes m n r) (l : Layout) (rs : List ℤ) (g : Gath
     block-place : converted false m n c xs k ≡ coefficients m n origin (λ t. gathered (m ^ n) l rs (cornerEntry m n t)) place
     unfolding place
     block-place =
-        converted-same false m n c (ok .orders-low) (ok .orders-high) xs (λ j. gathered (m ^ n) l rs (m ^ n * c + j)) (λ j h. hx j h ∙ entry-is j h) k hk
-        ∙ forward-block m n (ok .orders-low) (ok .orders-high) (ok .axes-low) (ok .axes-high) c hc (gathered (m ^ n) l rs) k hk
+        converted-same false m n c (ok .orders-low) (ok .orders-high) xs (λ j. gathered (m ^ n) l rs (m ^ n * c + j))
+        (λ j h. hx j h ∙ entry-is j h) k hk
+        ∙ forward-block m n (ok .orders-low) (ok .orders-high) c hc (gathered (m ^ n) l rs) k hk
 
     pub block-is : converted false m n c xs k ≡ cellCoefficient m n l rs (coefficientIndex m c k)
     unfolding place
     block-is =
         block-place
         ∙ ap (coefficients m n origin (λ t. gathered (m ^ n) l rs (cornerEntry m n t)))
-        (sym (ap (digit (λ a. 2 * m)) (spot-number m n (orders-some ok) c k hc hk (ok .axes-low) (ok .axes-high)) ∙ of-number n (2 * m) place place-in))
+        (sym (ap (digit (λ a. 2 * m)) (spot-number m n (orders-some ok) c k hc hk (ok .axes-low) (ok .axes-high))
+        ∙ of-number n (2 * m) place place-in))
 
     pub block-low : natAbs (converted false m n c xs k) ≤ 2 ^ 30
-    block-low = le-trans (le-of-eq (ap natAbs block-place)) (coefficient-within m (ok .orders-low) (ok .orders-high) n (ok .axes-high) (gathered (m ^ n) l rs) (g .within) place place-in)
+    block-low =
+        le-trans (le-of-eq (ap natAbs block-place))
+        (coefficient-within m (ok .orders-low) (ok .orders-high) n (ok .axes-high) (gathered (m ^ n) l rs) (g .within) place place-in)

@@ -1,14 +1,8 @@
-pub mod NumberLaws
-pub mod Inverse
+pub mod Below
 pub mod Sizes
-pub mod Whole
 pub mod SpotLaws
 pub mod BlockLaws
 pub mod ConvertLaws
 pub mod FillLaws
 pub mod TableCell
 pub mod CallLaws
-pub mod OneCell
-pub mod Possible
-pub mod Calls
-pub mod Demand

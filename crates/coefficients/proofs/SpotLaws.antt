@@ -1,4 +1,5 @@
--- Where the coefficients of the corners stand: every coefficient belongs to one number of one corner; after any number of them these stand and all others are 0.
+-- Where the coefficients of the corners stand: every coefficient belongs to one number of one corner; after any number of them these stand
+-- and all others are 0.
 use mathlib.Core.Path.{_≡_, refl, sym, ap, subst, _∙_, fun-ext}
 use mathlib.Core.Bool.{Bool}
 use mathlib.Core.List.{List}
@@ -17,11 +18,12 @@ use Rattle.arith.proofs.Choices.{pick-true, pick-false}
 use Rattle.lattice.specs.Buffer.{at}
 use Rattle.lattice.specs.Digits.{number, digit}
 use Rattle.lattice.specs.Axes.{Place}
-use Rattle.cell.proofs.CellLaws.{number-is}
-use Rattle.coefficients.specs.Corners.{coefficientCount, cornerNumbers, cornerEntry}
-use Rattle.coefficients.specs.Blocks.{coefficientNumber, blockNumbers, coefficientIndex, scatter, fillingOrder, Filled}
 use Rattle.lattice.proofs.DigitsLaws.{Digits, digits-in, number-in, of-digits, of-number, high-digit, low-digit, pair-in, next-group}
-use Rattle.coefficients.proofs.NumberLaws.{count-split, numbers-in, numbers-entry, entry-numbers, entry-in}
+use Rattle.cell.specs.Coefficients.{coefficientCount}
+use Rattle.cell.specs.Corners.{cornerNumbers, cornerEntry}
+use Rattle.cell.proofs.CellLaws.{number-is}
+use Rattle.cell.proofs.NumberLaws.{count-split, numbers-in, numbers-entry, entry-numbers, entry-in}
+use Rattle.coefficients.specs.Blocks.{coefficientNumber, blockNumbers, coefficientIndex, scatter, fillingOrder, Filled}
 
 -- ---- counting from an end
 
@@ -49,10 +51,12 @@ module _ (m : ℕ) where
       go (yes h) = ap (coefficientNumber m) (mirror-low t h) ∙ mirror-low t h
       go (no h) =
           let e : m ≤ t = omega (arith, h) in
-          ap (coefficientNumber m) (mirror-high t e) ∙ mirror-high (3 * m - 1 - t) (omega arith) ∙ (let z : 3 * m - 1 - (3 * m - 1 - t) ≡ t = omega arith in z)
+          ap (coefficientNumber m) (mirror-high t e) ∙ mirror-high (3 * m - 1 - t) (omega arith)
+          ∙ (let z : 3 * m - 1 - (3 * m - 1 - t) ≡ t = omega arith in z)
 
   pub mirror-digits : (n : ℕ) → 0 < m → (p : Place) → Digits n (2 * m) p → Digits n (2 * m) (λ a. coefficientNumber m (p a))
-  mirror-digits n some p d = record { used = λ a l. mirror-in (p a) (d .used a l); unused = λ a l. ap (coefficientNumber m) (d .unused a l) ∙ mirror-low 0 some }
+  mirror-digits n some p d =
+      record { used = λ a l. mirror-in (p a) (d .used a l); unused = λ a l. ap (coefficientNumber m) (d .unused a l) ∙ mirror-low 0 some }
 
 -- ---- where a number of a corner stands
 
@@ -87,7 +91,8 @@ module _ (m n : ℕ) (some : 0 < m) where
   spot-turn K l =
       let two : 0 < 2 * m = omega arith in
       let d = digits-in n (2 * m) K two l in
-      ap (λ (p : Place). number n (λ b. 2 * m) (λ a. coefficientNumber m (p a))) (numbers-entry m n some _ (mirror-digits m n some (digit (λ b. 2 * m) K) d))
+      ap (λ (p : Place). number n (λ b. 2 * m) (λ a. coefficientNumber m (p a)))
+      (numbers-entry m n some _ (mirror-digits m n some (digit (λ b. 2 * m) K) d))
       ∙ ap (number n (λ b. 2 * m)) (same-mirrored (digit (λ b. 2 * m) K) d) ∙ of-digits n (2 * m) K l
 
   module _ (c k : ℕ) (hc : c < 2 ^ n) (hk : k < m ^ n) where
@@ -126,30 +131,38 @@ scatter-length place f old zero = refl
 scatter-length place f old (suc k) = length-set (scatter k place f old) (place k) (f k) ∙ scatter-length place f old k
 
 -- what stands at a place that is written once, and at one that is not
-pub scatter-off : (place : ℕ → ℕ) (f : ℕ → ℤ) (old : List ℤ) (i n : ℕ) → ((k : ℕ) → k < n → i ≡ place k → ⊥) → at (scatter n place f old) i ≡ at old i
+pub scatter-off : (place : ℕ → ℕ) (f : ℕ → ℤ) (old : List ℤ) (i n : ℕ) → ((k : ℕ) → k < n → i ≡ place k → ⊥)
+    → at (scatter n place f old) i ≡ at old i
 unfolding scatter
 scatter-off place f old i zero h = refl
-scatter-off place f old i (suc n) h = getD-set-other (scatter n place f old) (place n) i (f n) (pos 0) (h n (omega arith)) ∙ scatter-off place f old i n (λ k l. h k (omega arith))
+scatter-off place f old i (suc n) h = getD-set-other (scatter n place f old) (place n) i (f n) (pos 0) (h n (omega arith))
+    ∙ scatter-off place f old i n (λ k l. h k (omega arith))
 
-pub scatter-at : (place : ℕ → ℕ) (f : ℕ → ℤ) (old : List ℤ) (k n : ℕ) → k < n → place k < length old → ((j : ℕ) → place k ≡ place j → k ≡ j) → at (scatter n place f old) (place k) ≡ f k
+pub scatter-at : (place : ℕ → ℕ) (f : ℕ → ℤ) (old : List ℤ) (k n : ℕ) → k < n → place k < length old
+    → ((j : ℕ) → place k ≡ place j → k ≡ j) → at (scatter n place f old) (place k) ≡ f k
 unfolding scatter
 scatter-at place f old k zero l room one = absurd (not-suc-le-zero l)
 scatter-at place f old k (suc n) l room one = go (λ h. scatter-at place f old k n h room one) (ℕ-discrete k n)
   where
-    go : (k < n → at (scatter n place f old) (place k) ≡ f k) → Dec (k ≡ n) → at (set (scatter n place f old) (place n) (f n)) (place k) ≡ f k
-    go before (yes e) = rw e (getD-set-same (scatter n place f old) (place n) (f n) (pos 0) (rw (scatter-length place f old n) (subst (λ (i : ℕ). place i < length old) e room)))
+    go : (k < n → at (scatter n place f old) (place k) ≡ f k) → Dec (k ≡ n)
+        → at (set (scatter n place f old) (place n) (f n)) (place k) ≡ f k
+    go before (yes e) = rw e (getD-set-same (scatter n place f old) (place n) (f n) (pos 0)
+        (rw (scatter-length place f old n) (subst (λ (i : ℕ). place i < length old) e room)))
     go before (no e) = getD-set-other (scatter n place f old) (place n) (place k) (f n) (pos 0) (λ p. e (one n p)) ∙ before (omega arith)
 
 -- one number more, as code writes it
-pub scatter-more : (place : ℕ → ℕ) (f : ℕ → ℤ) (old now : List ℤ) (k p : ℕ) (v : ℤ) → now ≡ scatter k place f old → p ≡ place k → v ≡ f k → set now p v ≡ scatter (k + 1) place f old
+pub scatter-more : (place : ℕ → ℕ) (f : ℕ → ℤ) (old now : List ℤ) (k p : ℕ) (v : ℤ) → now ≡ scatter k place f old → p ≡ place k → v ≡ f k
+    → set now p v ≡ scatter (k + 1) place f old
 unfolding scatter
 scatter-more place f old now k p v e q h = rw (e, q, h) (ap (λ (i : ℕ). scatter i place f old) (sym (add-one k)))
 
 -- some numbers, then more
-pub scatter-add : (place : ℕ → ℕ) (f : ℕ → ℤ) (old : List ℤ) (i n : ℕ) → scatter n (λ k. place (i + k)) (λ k. f (i + k)) (scatter i place f old) ≡ scatter (i + n) place f old
+pub scatter-add : (place : ℕ → ℕ) (f : ℕ → ℤ) (old : List ℤ) (i n : ℕ)
+    → scatter n (λ k. place (i + k)) (λ k. f (i + k)) (scatter i place f old) ≡ scatter (i + n) place f old
 unfolding scatter
 scatter-add place f old i zero = ap (λ (k : ℕ). scatter k place f old) (sym (add-zero i))
-scatter-add place f old i (suc n) = ap (λ (xs : List ℤ). set xs (place (i + n)) (f (i + n))) (scatter-add place f old i n) ∙ ap (λ (k : ℕ). scatter k place f old) (sym (add-suc i n))
+scatter-add place f old i (suc n) = ap (λ (xs : List ℤ). set xs (place (i + n)) (f (i + n))) (scatter-add place f old i n)
+    ∙ ap (λ (k : ℕ). scatter k place f old) (sym (add-suc i n))
 
 -- a test that only one more number passes
 next-test : (i k : ℕ) → (i ≡ k → ⊥) → ltb i (suc k) ≡ ltb i k
@@ -161,7 +174,8 @@ next-test i k n = go (decLt i k)
 
 module _ (m n : ℕ) (some : 0 < m) (f : ℕ → ℤ) where
   -- one coefficient more
-  stands-more : (i : ℕ) (xs : List ℤ) (v : ℤ) → i < coefficientCount m n → coefficientCount m n ≤ length xs → v ≡ f (spotOf m n some i) → Filled m n f i xs → Filled m n f (suc i) (set xs (spotOf m n some i) v)
+  stands-more : (i : ℕ) (xs : List ℤ) (v : ℤ) → i < coefficientCount m n → coefficientCount m n ≤ length xs → v ≡ f (spotOf m n some i)
+      → Filled m n f i xs → Filled m n f (suc i) (set xs (spotOf m n some i) v)
   stands-more i xs v l long e h K hk = go (ℕ-discrete K (spotOf m n some i))
     where
       s : ℕ
@@ -174,23 +188,28 @@ module _ (m n : ℕ) (some : 0 < m) (f : ℕ → ℤ) where
           ∙ sym (pick-true (ltb (fillingOrder m n K) (suc i)) (f K) (pos 0) (lt-ltb (fillingOrder m n K) (suc i) (omega arith)))
       go (no p) =
           getD-set-other xs s K v (pos 0) p ∙ h K hk
-          ∙ ap (λ (t : Bool). pick t (f K) (pos 0)) (sym (next-test (fillingOrder m n K) i (λ q. p (sym (spot-turn m n some K hk) ∙ ap (spotOf m n some) q))))
+          ∙ ap (λ (t : Bool). pick t (f K) (pos 0))
+          (sym (next-test (fillingOrder m n K) i (λ q. p (sym (spot-turn m n some K hk) ∙ ap (spotOf m n some) q))))
 
   -- a corner's block more
-  module _ (low : 1 ≤ n) (high : n ≤ 3) (c : ℕ) (hc : c < 2 ^ n) (F : ℕ → ℤ) (old : List ℤ) (long : coefficientCount m n ≤ length old) (is : (k : ℕ) → k < m ^ n → F k ≡ f (coefficientIndex m c k)) (h : Filled m n f (m ^ n * c) old) where
+  module _ (low : 1 ≤ n) (high : n ≤ 3) (c : ℕ) (hc : c < 2 ^ n) (F : ℕ → ℤ) (old : List ℤ) (long : coefficientCount m n ≤ length old)
+      (is : (k : ℕ) → k < m ^ n → F k ≡ f (coefficientIndex m c k)) (h : Filled m n f (m ^ n * c) old) where
     stands-part : (k : ℕ) → k ≤ m ^ n → Filled m n f (m ^ n * c + k) (scatter k (coefficientIndex m c) F old)
     unfolding scatter
     stands-part zero l = subst (λ (i : ℕ). Filled m n f i old) (sym (add-zero (m ^ n * c))) h
     stands-part (suc k) l =
         let hk : k < m ^ n = omega arith in
         let e = spot-is m n some c k hc hk low high in
-        subst (λ (i : ℕ). Filled m n f i (set (scatter k (coefficientIndex m c) F old) (coefficientIndex m c k) (F k))) (sym (add-suc (m ^ n * c) k))
+        subst (λ (i : ℕ). Filled m n f i (set (scatter k (coefficientIndex m c) F old) (coefficientIndex m c k) (F k)))
+        (sym (add-suc (m ^ n * c) k))
         (subst (λ (j : ℕ). Filled m n f (suc (m ^ n * c + k)) (set (scatter k (coefficientIndex m c) F old) j (F k))) (sym e)
-        (stands-more (m ^ n * c + k) (scatter k (coefficientIndex m c) F old) (F k) (entry-of m n some c k hc hk) (rw (scatter-length (coefficientIndex m c) F old k) long) (is k hk ∙ ap f e) (stands-part k (omega arith))))
+        (stands-more (m ^ n * c + k) (scatter k (coefficientIndex m c) F old) (F k) (entry-of m n some c k hc hk)
+        (rw (scatter-length (coefficientIndex m c) F old k) long) (is k hk ∙ ap f e) (stands-part k (omega arith))))
 
     pub stands-corner : Filled m n f (m ^ n * (c + 1)) (scatter (m ^ n) (coefficientIndex m c) F old)
     stands-corner =
-        subst (λ (i : ℕ). Filled m n f i (scatter (m ^ n) (coefficientIndex m c) F old)) (next-group (m ^ n) c) (stands-part (m ^ n) (le-refl (m ^ n)))
+        subst (λ (i : ℕ). Filled m n f i (scatter (m ^ n) (coefficientIndex m c) F old)) (next-group (m ^ n) c)
+        (stands-part (m ^ n) (le-refl (m ^ n)))
 
   -- nothing stands where nothing was written
   pub stands-none : (xs : List ℤ) → ((K : ℕ) → at xs K ≡ pos 0) → Filled m n f 0 xs
@@ -199,7 +218,9 @@ module _ (m n : ℕ) (some : 0 < m) (f : ℕ → ℤ) where
   -- and after all corners every coefficient
   pub stands-all : (xs : List ℤ) → Filled m n f (m ^ n * 2 ^ n) xs → (K : ℕ) → K < coefficientCount m n → at xs K ≡ f K
   unfolding fillingOrder
-  stands-all xs h K l = h K l ∙ pick-true (ltb (fillingOrder m n K) (m ^ n * 2 ^ n)) (f K) (pos 0) (lt-ltb (fillingOrder m n K) (m ^ n * 2 ^ n) (rw (mul-comm (m ^ n) (2 ^ n) ∙ sym (count-split m n)) (turn-low K l)))
+  stands-all xs h K l = h K l
+      ∙ pick-true (ltb (fillingOrder m n K) (m ^ n * 2 ^ n)) (f K) (pos 0)
+      (lt-ltb (fillingOrder m n K) (m ^ n * 2 ^ n) (rw (mul-comm (m ^ n) (2 ^ n) ∙ sym (count-split m n)) (turn-low K l)))
     where
       turn-low : (K : ℕ) → K < coefficientCount m n → fillingOrder m n K < coefficientCount m n
       turn-low K l = entry-in m n some _ (mirror-digits m n some (digit (λ b. 2 * m) K) (digits-in n (2 * m) K (omega arith) l))

@@ -1,4 +1,5 @@
--- How the code works a cell off, corner by corner: a corner's block of numbers is converted along each axis by the rule of the corner's end there.
+-- How the code works a cell off, corner by corner: a corner's block of numbers is converted along each axis by the rule of the corner's end
+-- there.
 use mathlib.Core.Path.{_≡_}
 use Prim.Native.Nat.{ℕ, zero, suc, _+_, _*_, _-_, _/_, _%_, _^_, _≤_, _<_}
 use mathlib.Core.Bool.{Bool}
@@ -14,8 +15,8 @@ use Rattle.lattice.specs.Records.{entryLimit}
 use Rattle.hermite.specs.Hermite.{endRule}
 use Rattle.cell.specs.declared.Layout.{Layout}
 use Rattle.cell.specs.Cell.{startOf, Small}
-use Rattle.cell.specs.Coefficients.{coefficients}
-use Rattle.coefficients.specs.Corners.{coefficientCount, cornerNumbers, cornerEntry}
+use Rattle.cell.specs.Coefficients.{coefficients, coefficientCount}
+use Rattle.cell.specs.Corners.{cornerNumbers, cornerEntry}
 
 -- the sizes of a corner's block: m orders, n axes, m^n numbers in r groups
 pub record Sizes (m n r : ℕ) : Type 0 where

@@ -1,3 +1,3 @@
--- Reading order: Corners, then Blocks.
-pub mod Corners
+-- Reading order: Coefficients, then Blocks.
+pub mod Coefficients
 pub mod Blocks

@@ -8,8 +8,8 @@ use Rattle.arith.specs.Int.{floorDiv}
 use Rattle.lattice.specs.Outcome.{Check, refuseUnless}
 use Rattle.lattice.specs.Buffer.{at}
 use Rattle.cell.specs.Cell.{limitIn}
-use Rattle.coefficients.specs.Corners.{wholeWithin, entryAllowed, doubledEntry}
 use Rattle.coefficients.specs.Blocks.{coefficientIndex}
+use Rattle.corners.specs.Corners.{wholeWithin, entryAllowed, doubledEntry}
 
 -- the first k numbers are the coefficients of corner c, counted from it, each within 32 bits
 pub record Gathers (m c k : ℕ) (cs xs : List ℤ) : Type 0 where

@@ -1,1 +1,3 @@
+-- Reading order: Corners, then Back.
+pub mod Corners
 pub mod Back

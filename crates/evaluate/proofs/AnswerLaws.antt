@@ -1,10 +1,11 @@
--- What an answer reads, for every rounding: the corners' records only, and no place on the axes worked off; and what it is on one axis.
+-- What an answer reads, for every rounding: the numbers of the corners only, whichever cell they are of, and no place on the axes worked
+-- off; and what it is on one axis.
 use mathlib.Core.Path.{_≡_, refl, sym, ap, subst, _∙_, fun-ext}
 use mathlib.Core.Bool.{Bool, true, false}
 use mathlib.Core.List.{List, [], _∷_}
-use Prim.Native.Nat.{ℕ, zero, suc, _*_, _≤_, _<_}
+use Prim.Native.Nat.{ℕ, zero, suc, _+_, _*_, _≤_, _<_}
 use native.Mathlib.Omega.{arith}
-use native.Mathlib.Decide.{ℕ-discrete}
+use native.Mathlib.Decide.{ℕ-discrete, decLt}
 use lib.Dec.{eqb, lit≤}
 use lib.IntN.{ℤ, pos, _*ℤ_}
 use borrow.Author.Tests.{ne-eqb, eq-eqb}
@@ -13,10 +14,10 @@ use Rattle.arith.specs.Choice.{pick}
 use Rattle.arith.proofs.Choices.{pick-true, pick-false}
 use Rattle.lattice.specs.Axes.{Place, Field, origin, put, along, sweep, axes, without}
 use Rattle.lattice.proofs.Along.{put-at, put-off, Each, each-axes, each-without, Fresh, Distinct, distinct-axes, distinct-without, fresh-out, fresh-back}
-use Rattle.lattice.proofs.Local.{Depends, linear-depends, sweep-local, used, OnAxis, on-used}
+use Rattle.lattice.proofs.Local.{Carries, sweep-carries, used}
 use Rattle.hermite.specs.Hermite.{stageSum}
 use Rattle.hermite.specs.Stage.{Smooth}
-use Rattle.hermite.proofs.HermiteLaws.{stage-linear}
+use Rattle.hermite.proofs.HermiteLaws.{stage-moved}
 use Rattle.cell.specs.Cell.{AtEnds, InCorners}
 use Rattle.evaluate.specs.Evaluate.{Want, dose, slopeAlong, Ask, orderOn, lastAxis, divisorOn, stageOn, toEighth, toUnit, inEighths, before, answerBy}
 use Rattle.evaluate.specs.Wants.{wantOf, orderOf}
@@ -74,41 +75,61 @@ module _ (q : Ask) where
   unfolding before
   fresh-before = fresh-out last-axis (axes (q .n))
 
-module _ (round : Rounding) (q : Ask) where
-  -- ---- the corners only
+-- ---- the corners only, in whichever cell
 
-  Any : ℕ → ℕ → Type 0
-  Any a j = Unit {0}
+-- on one axis: a number of cell c, and the same number of cell d
+pub record SameNumber (m c d i j : ℕ) : Type 0 where
+  pub number : ℕ
+  pub low : number < 2 * m
+  pub one : i ≡ m * c + number
+  pub other : j ≡ m * d + number
 
-  Ends : ℕ → ℕ → Type 0
-  Ends = OnAxis (q .n) (λ a. AtEnds (q .m) (q .cell a))
+-- on each used axis the same number of two cells, place 0 on an unused one
+abbrev pub Alike : ℕ → ℕ → Place → Place → ℕ → ℕ → ℕ → Type 0
+Alike m n c d a i j = (a < n → SameNumber m (c a) (d a) i j) × (n ≤ a → (i ≡ 0) × (j ≡ 0))
 
-  -- a stage reads the two ends of its cell
-  stage-depends : (a : ℕ) → a < q .n → Depends (stageOn q a) (Any a) (Ends a)
-  unfolding stageOn stage-linear Ends
-  stage-depends a l =
-      linear-depends (stage-linear (orderOn (q .want) a) (q .m) (q .N a) (q .cell a) (q .step a))
-      (λ j t e k. (λ h. record { low = omega arith; high = omega arith }, λ h. absurd (not-both l h)))
+-- the same asked of another cell
+abbrev pub inCell : Ask → Place → Ask
+inCell q d = record { m = q .m; n = q .n; want = q .want; N = q .N; cell = d; step = q .step }
+
+module _ (round : Rounding) (q : Ask) (d : Place) where
+  abbrev Any : ℕ → ℕ → ℕ → Type 0
+  Any a i j = Unit {0}
+
+  abbrev Pair : ℕ → ℕ → ℕ → Type 0
+  Pair = Alike (q .m) (q .n) (q .cell) d
+
+  -- a stage reads the numbers of its cell
+  stage-carries : (a : ℕ) → a < q .n → Carries (stageOn q a) (stageOn (inCell q d) a) (Any a) (Pair a)
+  unfolding stageOn
+  stage-carries a l x y j k s h =
+      stage-moved (orderOn (q .want) a) (q .m) (q .N a) (q .cell a) (d a) (q .step a) x y
+      (λ t e. h (q .m * q .cell a + t) (q .m * d a + t)
+      (λ k. record { number = t; low = e; one = refl; other = refl }, λ k. absurd (not-both l k))) j k
     where
       not-both : {a n : ℕ} → a < n → n ≤ a → ⊥
       not-both l k = omega arith
 
-  eighth-depends : (a : ℕ) → a < q .n → Depends (toEighth round q a) (Any a) (Ends a)
-  unfolding toEighth
-  eighth-depends a l x y j s h = ap (λ z. round z (divisorOn q a)) (stage-depends a l x y j s h)
+  eighth-carries : (a : ℕ) → a < q .n → Carries (toEighth round q a) (toEighth round (inCell q d) a) (Any a) (Pair a)
+  unfolding toEighth divisorOn
+  eighth-carries a l x y j k s h = ap (λ z. round z (divisorOn q a)) (stage-carries a l x y j k s h)
 
-  unit-depends : (a : ℕ) → a < q .n → Depends (toUnit round q a) (Any a) (Ends a)
-  unfolding toUnit
-  unit-depends a l x y j s h = ap (λ z. round z (8 * divisorOn q a)) (stage-depends a l x y j s h)
+  unit-carries : (a : ℕ) → a < q .n → Carries (toUnit round q a) (toUnit round (inCell q d) a) (Any a) (Pair a)
+  unfolding toUnit divisorOn
+  unit-carries a l x y j k s h = ap (λ z. round z (8 * divisorOn q a)) (stage-carries a l x y j k s h)
 
-  pub answer-local : lastAxis (q .n) (q .want) < q .n → (g h : Field) → ((p : Place) → InCorners (q .m) (q .n) (q .cell) p → g p ≡ h p)
-      → answerBy round q g ≡ answerBy round q h
-  unfolding answerBy before Any Ends inEighths
-  answer-local last g h eq =
-      unit-depends l last (λ t. sweep ls (toEighth round q) (inEighths g) (put l t origin)) (λ t. sweep ls (toEighth round q) (inEighths h) (put l t origin)) 0 tt
-      (λ t e. sweep-local Any Ends (toEighth round q) ls (distinct-before q) (each-before q (λ a. Depends (toEighth round q a) (Any a) (Ends a)) (λ a k n. eighth-depends a k))
-      (inEighths g) (inEighths h) (λ p x. ap (λ z. pos 8 *ℤ z) (eq p (on-used x))) (put l t origin)
-      (record { done = λ b f. tt; left = λ b f. other t e b f (ℕ-discrete b l) }))
+  -- cells with the same numbers have the same answers
+  pub answer-moved : lastAxis (q .n) (q .want) < q .n → (g h : Field)
+      → ((p r : Place) → ((a : ℕ) → Alike (q .m) (q .n) (q .cell) d a (p a) (r a)) → g p ≡ h r)
+      → answerBy round q g ≡ answerBy round (inCell q d) h
+  unfolding answerBy before inEighths
+  answer-moved last g h eq =
+      unit-carries l last (λ t. sweep ls (toEighth round q) (inEighths g) (put l t origin))
+      (λ t. sweep ls (toEighth round (inCell q d)) (inEighths h) (put l t origin)) 0 0 tt
+      (λ s t e. sweep-carries Any Pair (toEighth round q) (toEighth round (inCell q d)) ls (distinct-before q)
+      (each-before q (λ a. Carries (toEighth round q a) (toEighth round (inCell q d) a) (Any a) (Pair a)) (λ a k n. eighth-carries a k))
+      (inEighths g) (inEighths h) (λ p r x. ap (λ z. pos 8 *ℤ z) (eq p r x)) (put l s origin) (put l t origin)
+      (record { done = λ b f. tt; left = λ b f. other s t e b f (ℕ-discrete b l) }))
     where
       l : ℕ
       l = lastAxis (q .n) (q .want)
@@ -116,9 +137,31 @@ module _ (round : Rounding) (q : Ask) where
       ls : List ℕ
       ls = without l (axes (q .n))
 
-      other : (t : ℕ) → Ends l t → (b : ℕ) → Fresh b ls → Dec (b ≡ l) → Ends b (put l t origin b)
-      other t e b f (yes p) = subst (λ (i : ℕ). Ends i (put l t origin i)) (sym p) (subst (Ends l) (sym (put-at l t origin)) e)
-      other t e b f (no n) = (λ k. absurd (used (q .n) b k (fresh-back b l (axes (q .n)) n f)), λ k. put-off l t b origin n)
+      other : (s t : ℕ) → Pair l s t → (b : ℕ) → Fresh b ls → Dec (b ≡ l) → Pair b (put l s origin b) (put l t origin b)
+      other s t e b f (yes p) =
+          subst (λ (i : ℕ). Pair i (put l s origin i) (put l t origin i)) (sym p) (rw (put-at l s origin, put-at l t origin) e)
+      other s t e b f (no n) =
+          (λ k. absurd (used (q .n) b k (fresh-back b l (axes (q .n)) n f)), λ k. (put-off l s b origin n, put-off l t b origin n))
+
+module _ (round : Rounding) (q : Ask) where
+  -- in one cell
+  pub answer-local : lastAxis (q .n) (q .want) < q .n → (g h : Field) → ((p : Place) → InCorners (q .m) (q .n) (q .cell) p → g p ≡ h p)
+      → answerBy round q g ≡ answerBy round q h
+  answer-local last g h eq =
+      answer-moved round q (q .cell) last g h (λ p r x. ap g (fun-ext (λ a. same p r x a (decLt a (q .n)))) ∙ eq r (inside p r x))
+    where
+      same : (p r : Place) → ((a : ℕ) → Alike (q .m) (q .n) (q .cell) (q .cell) a (p a) (r a)) → (a : ℕ) → Dec (a < q .n) → p a ≡ r a
+      same p r x a (yes l) = let e = x a .0 l in e .one ∙ sym (e .other)
+      same p r x a (no l) = let e = x a .1 (omega (arith, l)) in e .0 ∙ sym (e .1)
+
+      ends : (m c j t : ℕ) → j ≡ m * c + t → t < 2 * m → AtEnds m c j
+      ends m c j t e l = record { low = omega arith; high = omega arith }
+
+      inside : (p r : Place) → ((a : ℕ) → Alike (q .m) (q .n) (q .cell) (q .cell) a (p a) (r a)) → InCorners (q .m) (q .n) (q .cell) r
+      inside p r x = record {
+        used = λ a l. let e = x a .0 l in ends (q .m) (q .cell a) (r a) (e .number) (e .other) (e .low);
+        unused = λ a l. x a .1 l .1;
+      }
 
   -- ---- no place on the axes worked off
 
@@ -134,15 +177,18 @@ module _ (round : Rounding) (q : Ask) where
       go (yes e) = subst (λ (i : ℕ). put a t p i ≡ put a t r i) (sym e) (put-at a t p ∙ sym (put-at a t r))
       go (no n) = put-off a t b p n ∙ h b (n, f) ∙ sym (put-off a t b r n)
 
-  stages-anywhere : (g : Field) (ls : List ℕ) (p r : Place) → Beside ls p r → sweep ls (toEighth round q) g p ≡ sweep ls (toEighth round q) g r
+  stages-anywhere : (g : Field) (ls : List ℕ) (p r : Place) → Beside ls p r
+      → sweep ls (toEighth round q) g p ≡ sweep ls (toEighth round q) g r
   unfolding sweep Beside toEighth stageOn stageSum
   stages-anywhere g [] p r h = ap g (fun-ext (λ b. h b tt))
   stages-anywhere g (a ∷ ls) p r h =
-      ap (λ (x : ℕ → ℤ). round (stageOn q a x 0) (divisorOn q a)) (fun-ext (λ t. stages-anywhere g ls (put a t p) (put a t r) (beside-put a ls p r h t)))
+      ap (λ (x : ℕ → ℤ). round (stageOn q a x 0) (divisorOn q a))
+      (fun-ext (λ t. stages-anywhere g ls (put a t p) (put a t r) (beside-put a ls p r h t)))
 
   -- the answer, at any place that is 0 on the unused axes
   pub answer-anywhere : (g : Field) (p : Place) → ((a : ℕ) → q .n ≤ a → p a ≡ 0)
-      → answerBy round q g ≡ along (lastAxis (q .n) (q .want)) (toUnit round q (lastAxis (q .n) (q .want))) (sweep (before q) (toEighth round q) (inEighths g)) p
+      → answerBy round q g
+      ≡ along (lastAxis (q .n) (q .want)) (toUnit round q (lastAxis (q .n) (q .want))) (sweep (before q) (toEighth round q) (inEighths g)) p
   unfolding answerBy before toUnit stageOn stageSum Beside
   answer-anywhere g p none =
       ap (λ (x : ℕ → ℤ). round (stageOn q l x 0) (8 * divisorOn q l))

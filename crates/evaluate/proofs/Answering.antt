@@ -1,4 +1,5 @@
--- The stages of a cell that a query has tested, worked off axis by axis, a slope's axis last: they read the records only, no sum of theirs leaves 64 bits, and they give
+-- The stages of a cell that a query has tested, worked off axis by axis, a slope's axis last: they read the records only, no sum of theirs
+-- leaves 64 bits, and they give
 -- the answer of the definition.
 use mathlib.Core.Path.{_≡_, refl, sym, ap, ap₂, subst, _∙_, fun-ext}
 use mathlib.Core.List.{List, [], _∷_}
@@ -59,7 +60,9 @@ cap-is (a ∷ ls) = omega arith
 
 -- what is left of the orders of three axes after k + 1 stages
 few-orders : (m n k o : ℕ) → 2 ≤ m → m ≤ 3 → n ≤ 3 → o + (m - 1) * suc k ≤ (m - 1) * n → (k ≤ 2) × (o + 2 * k ≤ 4)
-few-orders m n k o m2 m3 n3 h = by-m (λ m. o + (m - 1) * suc k ≤ (m - 1) * n → (k ≤ 2) × (o + 2 * k ≤ 4)) (λ h. (omega arith, omega arith)) (λ h. (omega arith, omega arith)) m m2 m3 h
+few-orders m n k o m2 m3 n3 h =
+    by-m (λ m. o + (m - 1) * suc k ≤ (m - 1) * n → (k ≤ 2) × (o + 2 * k ≤ 4)) (λ h. (omega arith, omega arith))
+    (λ h. (omega arith, omega arith)) m m2 m3 h
 
 small-cap : (ls : List ℕ) (o : ℕ) → length ls ≤ 2 → o + 2 * length ls ≤ 4 → capOf ls * 2 ^ o ≤ 2 ^ 21
 unfolding capOf cap
@@ -81,7 +84,8 @@ counted w x b c e y some h k = le-of-mul-le-mul-left (le-trans h (le-of-eq (ap (
 -- ---- the stages
 
 -- an entry of the corners is a number of the cell
-number-of : (s : Shape) (cell p : Place) → Accepted s cell → InCorners (orders s) (s .axes) cell p → Numbers s (λ a. p a - orders s * cell a) × (p ≡ placed s cell (λ a. p a - orders s * cell a))
+number-of : (s : Shape) (cell p : Place) → Accepted s cell → InCorners (orders s) (s .axes) cell p
+    → Numbers s (λ a. p a - orders s * cell a) × (p ≡ placed s cell (λ a. p a - orders s * cell a))
 number-of s cell p here h = (record { used = low; unused = none }, fun-ext (λ a. whole a (decLt a (s .axes))))
   where
     low : (a : ℕ) → a < s .axes → p a - orders s * cell a < 2 * orders s
@@ -96,7 +100,11 @@ number-of s cell p here h = (record { used = low; unused = none }, fun-ext (λ a
 
 placed-corners : (s : Shape) (cell t : Place) → Accepted s cell → Numbers s t → InCorners (orders s) (s .axes) cell (placed s cell t)
 placed-corners s cell t here h =
-    record { used = λ a l. record { low = omega arith; high = (let k = h .used a l in omega arith) }; unused = λ a l. rw (here .unused a l, h .unused a l) (omega arith) }
+    record {
+      used = λ a l. record { low = omega arith; high = (let k = h .used a l in omega arith) };
+      unused =
+          λ a l. rw (here .unused a l, h .unused a l) (omega arith);
+    }
 
 -- ---- the strides of an axis
 
@@ -121,16 +129,19 @@ later-counts s step [] (v ∷ vs) h = absurd h
 later-counts s step (a ∷ ls) [] h = absurd h
 later-counts s step (a ∷ ls) (v ∷ vs) h = refl
 
-held : {s : Shape} {want : Want} {step : Place} {a : ℕ} (order : ℕ) (from to : Bool) {v : Strides} {x : Axis} → order ≡ orderOn want a → IsAxis s step a v
+held : {s : Shape} {want : Want} {step : Place} {a : ℕ} (order : ℕ) (from to : Bool) {v : Strides} {x : Axis} → order ≡ orderOn want a
+    → IsAxis s step a v
     → Made (orders s) order from to v x → Holds s want step (eighthsIn from) (eighthsIn to) a (x .shift) x
 held {s} {want} {step} {a} order from to {v} {x} k i h =
     let f = shifted order (orders s) from to (h .folds .smooth) (h .folds .m-low) (h .folds .m-high) in
     record {
-      folds = subst (λ (u : ℕ). Folds (orderOn want a) (orders s) u (x .basis)) (i .step-is) (subst (λ (k : ℕ). Folds k (orders s) (v .step) (x .basis)) k (h .folds));
+      folds = subst (λ (u : ℕ). Folds (orderOn want a) (orders s) u (x .basis)) (i .step-is)
+          (subst (λ (k : ℕ). Folds k (orders s) (v .step) (x .basis)) k (h .folds));
       node-is = h .node-is ∙ i .node-is;
       order-is = h .order-is ∙ i .order-is;
       some = worth-some from;
-      shift-is = ap (λ (n : ℕ). 2 ^ (n + 1) * eighthsIn from) (h .shift-is) ∙ f .is ∙ ap (λ (k : ℕ). divisor k (orders s) steps * eighthsIn to) k;
+      shift-is = ap (λ (n : ℕ). 2 ^ (n + 1) * eighthsIn from) (h .shift-is) ∙ f .is
+          ∙ ap (λ (k : ℕ). divisor k (orders s) steps * eighthsIn to) k;
     }
 
 -- a stage for each axis
@@ -140,7 +151,8 @@ later-same m [] (x ∷ xs) h = absurd h
 later-same m (v ∷ vs) [] h = absurd h
 later-same m (v ∷ vs) (x ∷ xs) h = refl
 
-all-held : (s : Shape) (want : Want) (step : Place) (ls : List ℕ) (vs : List Strides) (xs : List Axis) → AreAxes s step ls vs → Each (λ a. orderOn want a ≡ 0) ls
+all-held : (s : Shape) (want : Want) (step : Place) (ls : List ℕ) (vs : List Strides) (xs : List Axis) → AreAxes s step ls vs
+    → Each (λ a. orderOn want a ≡ 0) ls
     → AllMade (orders s) vs xs → AllHeld s want step ls xs
 unfolding eighthsIn
 all-held s want step [] [] [] i k h = tt
@@ -151,11 +163,13 @@ all-held s want step (a ∷ ls) (v ∷ vs) [] i k h = absurd h
 all-held s want step (a ∷ ls) (v ∷ vs) (x ∷ xs) i k h = (
   subst (λ (n : ℕ). Holds s want step (counts ls) 1 a n x)
       (h .0 .shift-is ∙ ap (λ (b : Bool). shiftOf 0 (orders s) b true) (later-same (orders s) vs xs (h .1)))
-      (subst (λ (c : ℕ). Holds s want step c 1 a (x .shift) x) (later-counts s step ls vs (i .1)) (held 0 (later vs) true (sym (k .0)) (i .0) (h .0))),
+      (subst (λ (c : ℕ). Holds s want step c 1 a (x .shift) x) (later-counts s step ls vs (i .1))
+      (held 0 (later vs) true (sym (k .0)) (i .0) (h .0))),
   all-held s want step ls vs xs (i .1) (k .1) (h .1),
 )
 
-module _ {round : Rounding} (sound : Sound round) (s : Shape) (rs : List ℤ) (cell step : Place) (want : Want) (l : Layout) (ready : Ready s rs cell step want l) where
+module _ {round : Rounding} (sound : Sound round) (s : Shape) (rs : List ℤ) (cell step : Place) (want : Want) (l : Layout)
+    (ready : Ready s rs cell step want l) where
   abbrev m : ℕ
   m = orders s
 
@@ -184,13 +198,15 @@ module _ {round : Rounding} (sound : Sound round) (s : Shape) (rs : List ℤ) (c
   pub limited : (p : Place) → InCorners m (s .axes) cell p → natAbs (recordsField s rs p) ≤ entryLimit m (s .axes) p
   limited p h =
       let n = number-of s cell p here h in
-      subst (λ (p : Place). natAbs (recordsField s rs p) ≤ entryLimit m (s .axes) p) (sym (n .1)) (corners-within s rs cell (ready .corners) ok here (λ a. p a - m * cell a) (n .0))
+      subst (λ (p : Place). natAbs (recordsField s rs p) ≤ entryLimit m (s .axes) p) (sym (n .1))
+      (corners-within s rs cell (ready .corners) ok here (λ a. p a - m * cell a) (n .0))
 
   abbrev pub PlainHere : ℕ → Type 0
   PlainHere = Plain round sound q m2 m3 some (recordsField s rs) limited
 
   -- one more stage, of axis a
-  module _ (a to k : ℕ) (ls : List ℕ) (x : Axis) (xs : List Axis) (hx : Holds s want step (counts ls) to a k x) (hs : AllHeld s want step ls xs)
+  module _ (a to k : ℕ) (ls : List ℕ) (x : Axis) (xs : List Axis) (hx : Holds s want step (counts ls) to a k x)
+      (hs : AllHeld s want step ls xs)
       (fresh : Fresh a ls) (used : a < s .axes) (d : Distinct ls) (plains : Each PlainHere ls) (t : Place) (left : Left s (a ∷ ls) t) where
     below-all : (ms : List ℕ) → Each PlainHere ms → Each (λ a. a < s .axes) ms
     below-all [] h = tt
@@ -205,21 +221,27 @@ module _ {round : Rounding} (sound : Sound round) (s : Shape) (rs : List ℤ) (c
     number-size : (u : ℕ) → u < 2 * m → natAbs (after round m xs (at rs) (place t + offset s a u)) ≤ capOf ls * 2 ^ order * 2 ^ (u % m)
     unfolding askAt
     number-size u l =
-        counted (counts ls) (natAbs (after round m xs (at rs) (place t + offset s a u))) (cap (length ls)) (capOf ls) (2 ^ order) (2 ^ (u % m)) (hx .some)
+        counted (counts ls) (natAbs (after round m xs (at rs) (place t + offset s a u))) (cap (length ls)) (capOf ls) (2 ^ order)
+        (2 ^ (u % m)) (hx .some)
         (le-trans (le-of-eq (sym (ap natAbs value ∙ abs-mul (pos (counts ls)) (after round m xs (at rs) (place t + offset s a u)))))
-        (reads-size round sound q m2 m3 some (recordsField s rs) limited ls d plains a fresh used (placed s cell t) (placed-corners s cell t here (left .numbers)) u l))
+        (reads-size round sound q m2 m3 some (recordsField s rs) limited ls d plains a fresh used (placed s cell t)
+        (placed-corners s cell t here (left .numbers)) u l))
         (cap-is ls)
       where
-        value : got s ok cell here sound rs want step ls (put a (m * cell a + u) (placed s cell t)) ≡ pos (counts ls) *ℤ after round m xs (at rs) (place t + offset s a u)
+        value : got s ok cell here sound rs want step ls (put a (m * cell a + u) (placed s cell t)) ≡ pos (counts ls) *ℤ after round m xs
+            (at rs) (place t + offset s a u)
         value =
             ap (got s ok cell here sound rs want step ls) (placed-put s ok cell here a u t)
-            ∙ after-is s ok cell here sound rs want step ls xs hs d (below-all ls plains) (put a u t) (left-put s ok cell here a ls u t fresh used l left)
-            ∙ ap (λ (i : ℕ). pos (counts ls) *ℤ after round m xs (at rs) i) (index-put s ok cell here a u t (axis-low (ok .axes-high)) (left .worked-off .0))
+            ∙ after-is s ok cell here sound rs want step ls xs hs d (below-all ls plains) (put a u t)
+            (left-put s ok cell here a ls u t fresh used l left)
+            ∙ ap (λ (i : ℕ). pos (counts ls) *ℤ after round m xs (at rs) i)
+            (index-put s ok cell here a u t (axis-low (ok .axes-high)) (left .worked-off .0))
 
     small : capOf ls * 2 ^ order ≤ 2 ^ 21
     unfolding noughts
     small =
-        let h = few-orders m (s .axes) (length ls) order m2 m3 (ok .axes-high) (orders-left m (s .axes) m2 (a ∷ ls) (fresh, d) (used, below-all ls plains) (placed s cell t)) in
+        let h = few-orders m (s .axes) (length ls) order m2 m3 (ok .axes-high)
+        (orders-left m (s .axes) m2 (a ∷ ls) (fresh, d) (used, below-all ls plains) (placed s cell t)) in
         small-cap ls order (h .0) (h .1)
 
     -- the numbers of the two ends
@@ -232,13 +254,16 @@ module _ {round : Rounding} (sound : Sound round) (s : Shape) (rs : List ℤ) (c
     end-high : (o : ℕ) → o < m → numbersAt m number (place t + x .node) (x .order) o ≡ number (place t + offset s a (m + o))
     end-high o l = number-at m number (place t + x .node) (x .order) o l ∙ highs hx number (place t) o l
 
-    pub safe-more : ((t : Place) → Left s ls t → Safe round m (length rs) xs (at rs) (place t)) → Safe round m (length rs) (x ∷ xs) (at rs) (place t)
+    pub safe-more : ((t : Place) → Left s ls t → Safe round m (length rs) xs (at rs) (place t))
+        → Safe round m (length rs) (x ∷ xs) (at rs) (place t)
     safe-more rest = (
       λ o l. (
         subst (λ (i : ℕ). Safe round m (length rs) xs (at rs) (place t + i)) (low-at hx o l) (moved o (omega arith)),
-        subst (Safe round m (length rs) xs (at rs)) (ap (λ (i : ℕ). place t + i) (high-at hx o l) ∙ assoc (place t) (x .node) (o * x .order)) (moved (m + o) (omega arith)),
+        subst (Safe round m (length rs) xs (at rs))
+            (ap (λ (i : ℕ). place t + i) (high-at hx o l) ∙ assoc (place t) (x .node) (o * x .order)) (moved (m + o) (omega arith)),
       ),
-      stage-fits (hx .folds) (numbersAt m number (place t) (x .order)) (numbersAt m number (place t + x .node) (x .order)) (λ u. number (place t + offset s a u)) end-low end-high
+      stage-fits (hx .folds) (numbersAt m number (place t) (x .order)) (numbersAt m number (place t + x .node) (x .order))
+          (λ u. number (place t + offset s a u)) end-low end-high
           (capOf ls * 2 ^ order) number-size small,
     )
       where
@@ -259,7 +284,8 @@ module _ {round : Rounding} (sound : Sound round) (s : Shape) (rs : List ℤ) (c
   safe [] (x ∷ xs) h d e t left = absurd h
   safe (a ∷ ls) [] h d e t left = absurd h
   safe (a ∷ ls) (x ∷ xs) h d e t left =
-      safe-more a 1 (shiftOf 0 m (later xs) true) ls x xs (h .0) (h .1) (d .0) (e .0 .used) (d .1) (e .1) t left (safe ls xs (h .1) (d .1) (e .1))
+      safe-more a 1 (shiftOf 0 m (later xs) true) ls x xs (h .0) (h .1) (d .0) (e .0 .used) (d .1) (e .1) t left
+      (safe ls xs (h .1) (d .1) (e .1))
 
   -- ---- the stages of all axes
 
@@ -280,7 +306,8 @@ module _ {round : Rounding} (sound : Sound round) (s : Shape) (rs : List ℤ) (c
 
     last-held : (z : Axis) → Made m order (later vs) false b z → Holds s want step (counts prior) 8 (lastAxis (s .axes) want) (z .shift) z
     unfolding eighthsIn
-    last-held z h = subst (λ (c : ℕ). Holds s want step c 8 (lastAxis (s .axes) want) (z .shift) z) (later-counts s step prior vs are) (held order (later vs) false order-is last-is h)
+    last-held z h = subst (λ (c : ℕ). Holds s want step c 8 (lastAxis (s .axes) want) (z .shift) z) (later-counts s step prior vs are)
+        (held order (later vs) false order-is last-is h)
 
     others-held : (xs : List Axis) → AllMade m vs xs → AllHeld s want step prior xs
     others-held xs = all-held s want step prior vs xs are (none-before prior plain)
@@ -300,32 +327,41 @@ module _ {round : Rounding} (sound : Sound round) (s : Shape) (rs : List ℤ) (c
           smooth = subst (λ (i : ℕ). Smooth i m) (sym order-is) (order-smooth want (lastAxis (s .axes) want) m);
           m-low = m2;
           m-high = m3;
-          steps-in = (subst (λ (u : ℕ). u ≤ steps) (sym (last-is .step-is)) (ready .steps-low (lastAxis (s .axes) want) (ready .last)), all-steps prior vs plain are);
+          steps-in = (
+            subst (λ (u : ℕ). u ≤ steps) (sym (last-is .step-is)) (ready .steps-low (lastAxis (s .axes) want) (ready .last)),
+            all-steps prior vs plain are,
+          );
           safe = safe-all;
         }))
       where
-        safe-all : (z : Axis) (xs : List Axis) → Made m order (later vs) false b z → AllMade m vs xs → Safe round m (length rs) (z ∷ xs) (at rs) (place (λ a. 0))
+        safe-all : (z : Axis) (xs : List Axis) → Made m order (later vs) false b z → AllMade m vs xs
+            → Safe round m (length rs) (z ∷ xs) (at rs) (place (λ a. 0))
         safe-all z xs hz hx =
             safe-more (lastAxis (s .axes) want) 8 (z .shift) prior z xs (last-held z hz) (others-held xs hx)
             (fresh-before q) (ready .last) (distinct-before q) plain (λ a. 0)
             (nought s ok cell here sound rs want step)
             (safe prior xs (others-held xs hx) (distinct-before q) plain)
 
-    pub worked-answer : (r : ℤ) → WorkedOff round (l .orders) order b vs (at rs) (l .base) r → r ≡ answerBy round (askAt s want cell step) (recordsField s rs)
+    pub worked-answer : (r : ℤ) → WorkedOff round (l .orders) order b vs (at rs) (l .base) r
+        → r ≡ answerBy round (askAt s want cell step) (recordsField s rs)
     worked-answer r w =
-        finish (subst (λ (m : ℕ). WorkedOff round m order b vs (at rs) (base s cell) r) (ready .laid .orders-are) (subst (λ (p : ℕ). WorkedOff round (l .orders) order b vs (at rs) p r) (ready .laid .base-is) w))
+        finish (subst (λ (m : ℕ). WorkedOff round m order b vs (at rs) (base s cell) r) (ready .laid .orders-are)
+        (subst (λ (p : ℕ). WorkedOff round (l .orders) order b vs (at rs) p r) (ready .laid .base-is) w))
       where
         finish : WorkedOff round m order b vs (at rs) (base s cell) r → r ≡ answerBy round (askAt s want cell step) (recordsField s rs)
-        finish w = w .is ∙ sym (answer-is s ok cell here sound rs want step (w .last) (w .others) (ready .last) (last-held (w .last) (w .made-last)) (others-held (w .others) (w .made)))
+        finish w = w .is ∙ sym (answer-is s ok cell here sound rs want step (w .last) (w .others) (ready .last)
+            (last-held (w .last) (w .made-last)) (others-held (w .others) (w .made)))
 
   -- the answer fits 32 bits
   pub answer-fits : natAbs (answerBy round (askAt s want cell step) (recordsField s rs)) < 2 ^ 24
   unfolding askAt
   answer-fits =
-      answer-below round sound q m2 m3 some (recordsField s rs) limited (ready .last) (ready .steps-low) (ready .here .unused) (ready .shape .axes-high)
+      answer-below round sound q m2 m3 some (recordsField s rs) limited (ready .last) (ready .steps-low) (ready .here .unused)
+      (ready .shape .axes-high)
 
   -- n axes, of which a is the last
-  module _ (n a : ℕ) (en : s .axes ≡ n) (ea : lastAxis (s .axes) want ≡ a) (order : ℕ) (order-is : (n : ℕ) → order ≡ orderOn want (lastAxis n want)) (b : Strides) (vs : List Strides)
+  module _ (n a : ℕ) (en : s .axes ≡ n) (ea : lastAxis (s .axes) want ≡ a) (order : ℕ)
+      (order-is : (n : ℕ) → order ≡ orderOn want (lastAxis n want)) (b : Strides) (vs : List Strides)
       (last-is : IsAxis s step a b) (are : AreAxes s step (without a (axes n)) vs) where
     last-in : IsAxis s step (lastAxis (s .axes) want) b
     last-in = subst (λ (i : ℕ). IsAxis s step i b) (sym ea) last-is
@@ -337,28 +373,38 @@ module _ {round : Rounding} (sound : Sound round) (s : Shape) (rs : List ℤ) (c
     pub workable-in : Workable round (l .orders) order b vs (length rs) (at rs) (l .base)
     workable-in = workable order (order-is (s .axes)) b vs last-in are-in
 
-    pub answer-in : (r : ℤ) → WorkedOff round (l .orders) order b vs (at rs) (l .base) r → r ≡ answerBy round (askAt s want cell step) (recordsField s rs)
+    pub answer-in : (r : ℤ) → WorkedOff round (l .orders) order b vs (at rs) (l .base) r
+        → r ≡ answerBy round (askAt s want cell step) (recordsField s rs)
     answer-in = worked-answer order (order-is (s .axes)) b vs last-in are-in
 
 -- the axes of a layout
 module _ (s : Shape) (cell : Place) (xs : List ℕ) (l : Layout) (laid : Laid s cell l) where
   pub is-axis : (a : ℕ) → a < 3 → IsAxis s (placeAt xs) a (stridesOf (getD xs a 0) (getD (l .strides) a 0) (l .orders ^ a))
   unfolding placeAt orderStride
-  is-axis a h = record { step-is = sym (pick-true (ltb a 3) (getD xs a 0) 0 (lt-ltb a 3 h)); node-is = by-3 (λ a. getD (l .strides) a 0 ≡ nodeStride s a) (laid .stride-x) (laid .stride-y) (laid .stride-z) a h; order-is = ap (λ (m : ℕ). m ^ a) (laid .orders-are) }
+  is-axis a h = record {
+    step-is = sym (pick-true (ltb a 3) (getD xs a 0) 0 (lt-ltb a 3 h));
+    node-is =
+        by-3 (λ a. getD (l .strides) a 0 ≡ nodeStride s a) (laid .stride-x) (laid .stride-y) (laid .stride-z) a h;
+    order-is =
+        ap (λ (m : ℕ). m ^ a) (laid .orders-are);
+  }
 
 -- two axes, and a third between them where there is one
-pub are-axes : (s : Shape) (step : Place) (three : Bool) (i j : ℕ) (a b : Strides) → IsAxis s step i a → IsAxis s step j b → AreAxes s step (also three j (i ∷ [])) (also three b (a ∷ []))
+pub are-axes : (s : Shape) (step : Place) (three : Bool) (i j : ℕ) (a b : Strides) → IsAxis s step i a → IsAxis s step j b
+    → AreAxes s step (also three j (i ∷ [])) (also three b (a ∷ []))
 are-axes s step true i j a b h k = (k, (h, tt))
 are-axes s step false i j a b h k = (h, tt)
 
 -- ---- what the calls return
 
-module _ {round : Rounding} (sound : Sound round) (s : Shape) (rs : List ℤ) (cell : Place) (xs : List ℕ) (order axis : ℕ) (l : Layout) (ready : Ready s rs cell (placeAt xs) (wantOf order axis) l) where
+module _ {round : Rounding} (sound : Sound round) (s : Shape) (rs : List ℤ) (cell : Place) (xs : List ℕ) (order axis : ℕ) (l : Layout)
+    (ready : Ready s rs cell (placeAt xs) (wantOf order axis) l) where
   pub orders-low : l .orders ≤ 3
   orders-low = subst (λ (i : ℕ). i ≤ 3) (sym (ready .laid .orders-are)) (orders-range (s .degree) .1)
 
   -- the strides that the code finds
-  pub found : (a : ℕ) → a < 3 → (v : Strides) → v ≡ stridesOf (getD xs a 0) (getD (l .strides) a 0) (l .orders ^ a) → IsAxis s (placeAt xs) a v
+  pub found : (a : ℕ) → a < 3 → (v : Strides) → v ≡ stridesOf (getD xs a 0) (getD (l .strides) a 0) (l .orders ^ a)
+      → IsAxis s (placeAt xs) a v
   found a h v e = subst (IsAxis s (placeAt xs) a) (sym e) (is-axis s cell xs l (ready .laid) a h)
 
   -- the stages' result r is the answer, and fits 32 bits
@@ -366,7 +412,8 @@ module _ {round : Rounding} (sound : Sound round) (s : Shape) (rs : List ℤ) (c
     pub fits : SFits w32 (toZ w64 (ofZ w64 r))
     fits =
         sfits-abs (toZ w64 (ofZ w64 r)) (lt-of-lt-of-le
-        (subst (λ z. natAbs z < 2 ^ 24) (sym (read r ok ∙ e)) (answer-fits sound s rs cell (placeAt xs) (wantOf order axis) l ready)) (lit≤ tt))
+        (subst (λ z. natAbs z < 2 ^ 24) (sym (read r ok ∙ e)) (answer-fits sound s rs cell (placeAt xs) (wantOf order axis) l ready))
+        (lit≤ tt))
 
     pub cast : toZ w32 (ofZ w32 (toZ w64 (ofZ w64 r))) ≡ answerBy round (askAt s (wantOf order axis) cell (placeAt xs)) (recordsField s rs)
     cast = toZ-ofZ {w = w32} fits ∙ read r ok ∙ e

@@ -34,7 +34,8 @@ use Rattle.evaluate.proofs.EndLaws.{stage-of}
 
 -- ---- one stage
 
--- what a stage of shift k along an axis of the code holds of axis a of a cell; of its numbers one counts `from` eighths, of its stage's `to`
+-- what a stage of shift k along an axis of the code holds of axis a of a cell; of its numbers one counts `from` eighths, of its stage's
+-- `to`
 pub record Holds (s : Shape) (want : Want) (step : Place) (from to a k : ℕ) (x : Axis) : Type 0 where
   pub folds : Folds (orderOn want a) (orders s) (step a) (x .basis)
   pub node-is : x .node ≡ nodeStride s a
@@ -69,17 +70,21 @@ module _ {s : Shape} {want : Want} {step : Place} {from to a k : ℕ} {x : Axis}
         assoc i f n = omega arith
 
     -- the definition's stage of numbers X, which count `from` eighths each
-    worked-is : {round : Rounding} → Sound round → (c j : ℕ) (X : ℕ → ℤ) → ((t : ℕ) → t < 2 * orders s → X (orders s * c + t) ≡ pos from *ℤ g (i + offset s a t))
-        → round (stageSum (orderOn want a) (orders s) steps c (step a) X j) (divisor (orderOn want a) (orders s) steps * to) ≡ worked round k x g i
+    worked-is : {round : Rounding} → Sound round → (c j : ℕ) (X : ℕ → ℤ)
+        → ((t : ℕ) → t < 2 * orders s → X (orders s * c + t) ≡ pos from *ℤ g (i + offset s a t))
+        → round (stageSum (orderOn want a) (orders s) steps c (step a) X j)
+        (divisor (orderOn want a) (orders s) steps * to) ≡ worked round k x g i
     unfolding worked
     worked-is {round} sound c j X e =
         ap₂ round
         (stage-of (orderOn want a) (orders s) steps c (step a) X (λ t. pos from *ℤ g (i + offset s a t)) j e
         ∙ stage-multiple (orderOn want a) (orders s) steps 0 (step a) (pos from) (λ t. g (i + offset s a t)) 0)
         (sym (h .shift-is) ∙ mul-comm (2 ^ (k + 1)) from)
-        ∙ sound .common from (stageSum (orderOn want a) (orders s) steps 0 (step a) (λ t. g (i + offset s a t)) 0) (2 ^ (k + 1)) (h .some) (pow-pos (k + 1))
+        ∙ sound .common from (stageSum (orderOn want a) (orders s) steps 0 (step a) (λ t. g (i + offset s a t)) 0) (2 ^ (k + 1)) (h .some)
+        (pow-pos (k + 1))
         ∙ ap (λ z. round z (2 ^ (k + 1)))
-        (sym (stage-folded (h .folds) (λ o. g (i + o * x .order)) (λ o. g (i + x .node + o * x .order)) (λ t. g (i + offset s a t)) lows highs))
+        (sym (stage-folded (h .folds) (λ o. g (i + o * x .order)) (λ o. g (i + x .node + o * x .order))
+        (λ t. g (i + offset s a t)) lows highs))
 
 -- ---- all stages
 
@@ -93,7 +98,8 @@ abbrev pub AllHeld : Shape → Want → Place → List ℕ → List Axis → Typ
 AllHeld s want step [] [] = Unit {0}
 AllHeld s want step [] (x ∷ xs) = ⊥
 AllHeld s want step (a ∷ ls) [] = ⊥
-AllHeld s want step (a ∷ ls) (x ∷ xs) = Holds s want step (counts ls) 1 a (shiftOf 0 (orders s) (later xs) true) x × AllHeld s want step ls xs
+AllHeld s want step (a ∷ ls) (x ∷ xs) = Holds s want step (counts ls) 1 a (shiftOf 0 (orders s) (later xs) true) x
+    × AllHeld s want step ls xs
 
 -- numbers of a cell, 0 on the axes of a list
 pub record Left (s : Shape) (ls : List ℕ) (t : Place) : Type 0 where
@@ -126,9 +132,11 @@ module _ (s : Shape) (ok : Shaped s) (cell : Place) (here : Accepted s cell) whe
       go b (yes e) =
           subst (λ (i : ℕ). put a (orders s * cell a + u) (placed s cell t) i ≡ orders s * cell i + put a u t i) (sym e)
           (put-at a (orders s * cell a + u) (placed s cell t) ∙ ap (λ (i : ℕ). orders s * cell a + i) (sym (put-at a u t)))
-      go b (no n) = put-off a (orders s * cell a + u) b (placed s cell t) n ∙ ap (λ (i : ℕ). orders s * cell b + i) (sym (put-off a u b t n))
+      go b (no n) = put-off a (orders s * cell a + u) b (placed s cell t) n
+          ∙ ap (λ (i : ℕ). orders s * cell b + i) (sym (put-off a u b t n))
 
-  pub left-put : (a : ℕ) (ls : List ℕ) (u : ℕ) (t : Place) → Fresh a ls → a < s .axes → u < 2 * orders s → Left s (a ∷ ls) t → Left s ls (put a u t)
+  pub left-put : (a : ℕ) (ls : List ℕ) (u : ℕ) (t : Place) → Fresh a ls → a < s .axes → u < 2 * orders s → Left s (a ∷ ls) t
+      → Left s ls (put a u t)
   left-put a ls u t f l k h =
       record {
         numbers = record { used = λ b i. used b i (ℕ-discrete b a); unused = λ b i. put-off a u b t (apart b i) ∙ h .numbers .unused b i };
@@ -153,17 +161,21 @@ module _ (s : Shape) (ok : Shaped s) (cell : Place) (here : Accepted s cell) whe
     abbrev pub got : List ℕ → Field
     got ls = sweep ls (toEighth round q) (inEighths (recordsField s rs))
 
-    pub after-is : (ls : List ℕ) (xs : List Axis) → AllHeld s want step ls xs → Distinct ls → Each (λ a. a < s .axes) ls → (t : Place) → Left s ls t
+    pub after-is : (ls : List ℕ) (xs : List Axis) → AllHeld s want step ls xs → Distinct ls → Each (λ a. a < s .axes) ls → (t : Place)
+        → Left s ls t
         → got ls (placed s cell t) ≡ pos (counts ls) *ℤ after round (orders s) xs (at rs) (index t)
     unfolding sweep inEighths recordsField after toEighth stageOn divisorOn askAt index
     after-is [] [] m d e t h = ap (λ (i : ℕ). pos 8 *ℤ at rs i) (entry-at s ok cell here t (h .numbers))
     after-is [] (x ∷ xs) m d e t h = absurd m
     after-is (a ∷ ls) [] m d e t h = absurd m
     after-is (a ∷ ls) (x ∷ xs) m d e t h =
-        ap (round (stageSum (orderOn want a) (orders s) steps (cell a) (step a) (λ j. got ls (put a j (placed s cell t))) (placed s cell t a))) (sym (mul-one (divisor (orderOn want a) (orders s) steps)))
-        ∙ worked-is (m .0) (after round (orders s) xs (at rs)) (index t) sound (cell a) (placed s cell t a) (λ j. got ls (put a j (placed s cell t)))
+        ap (round (stageSum (orderOn want a) (orders s) steps (cell a) (step a) (λ j. got ls (put a j (placed s cell t)))
+        (placed s cell t a))) (sym (mul-one (divisor (orderOn want a) (orders s) steps)))
+        ∙ worked-is (m .0) (after round (orders s) xs (at rs)) (index t) sound (cell a) (placed s cell t a)
+        (λ j. got ls (put a j (placed s cell t)))
         (λ u l. ap (got ls) (placed-put a u t) ∙ after-is ls xs (m .1) (d .1) (e .1) (put a u t) (left-put a ls u t (d .0) (e .0) l h)
-        ∙ ap (λ (i : ℕ). pos (counts ls) *ℤ after round (orders s) xs (at rs) i) (index-put a u t (below a (e .0) (ok .axes-high)) (h .worked-off .0)))
+        ∙ ap (λ (i : ℕ). pos (counts ls) *ℤ after round (orders s) xs (at rs) i)
+        (index-put a u t (below a (e .0) (ok .axes-high)) (h .worked-off .0)))
         ∙ sym (pos-one-*ℤ (after round (orders s) (x ∷ xs) (at rs) (index t)))
       where
         below : (a : ℕ) → a < s .axes → s .axes ≤ 3 → a < 3
@@ -184,15 +196,20 @@ module _ (s : Shape) (ok : Shaped s) (cell : Place) (here : Accepted s cell) whe
         each [] = tt
         each (a ∷ ls) = (refl, each ls)
 
-    pub answer-is : (z : Axis) (xs : List Axis) → l < s .axes → Holds s want step (counts (before q)) 8 l (z .shift) z → AllHeld s want step (before q) xs
+    pub answer-is : (z : Axis) (xs : List Axis) → l < s .axes → Holds s want step (counts (before q)) 8 l (z .shift) z
+        → AllHeld s want step (before q) xs
         → answerBy round q (recordsField s rs) ≡ worked round (z .shift) z (after round (orders s) xs (at rs)) (base s cell)
     unfolding toUnit stageOn divisorOn askAt
     answer-is z xs last hz hx =
         answer-anywhere round q (recordsField s rs) (placed s cell (λ a. 0)) none
-        ∙ ap (round (stageSum (orderOn want l) (orders s) steps (cell l) (step l) X (placed s cell (λ a. 0) l))) (mul-comm 8 (divisor (orderOn want l) (orders s) steps))
+        ∙ ap (round (stageSum (orderOn want l) (orders s) steps (cell l) (step l) X (placed s cell (λ a. 0) l)))
+        (mul-comm 8 (divisor (orderOn want l) (orders s) steps))
         ∙ worked-is hz (after round (orders s) xs (at rs)) (index (λ a. 0)) sound (cell l) (placed s cell (λ a. 0) l) X
-        (λ u k. ap (got (before q)) (placed-put l u (λ a. 0)) ∙ after-is (before q) xs hx (distinct-before q) (each-before q (λ a. a < s .axes) (λ a i n. i)) (put l u (λ a. 0)) (left-put l (before q) u (λ a. 0) (fresh-before q) last k nought)
-        ∙ ap (λ (i : ℕ). pos (counts (before q)) *ℤ after round (orders s) xs (at rs) i) (index-put l u (λ a. 0) (below (ok .axes-high)) refl))
+        (λ u k. ap (got (before q)) (placed-put l u (λ a. 0))
+        ∙ after-is (before q) xs hx (distinct-before q) (each-before q (λ a. a < s .axes) (λ a i n. i)) (put l u (λ a. 0))
+        (left-put l (before q) u (λ a. 0) (fresh-before q) last k nought)
+        ∙ ap (λ (i : ℕ). pos (counts (before q)) *ℤ after round (orders s) xs (at rs) i)
+        (index-put l u (λ a. 0) (below (ok .axes-high)) refl))
         ∙ ap (worked round (z .shift) z (after round (orders s) xs (at rs))) index-base
       where
         X : ℕ → ℤ

@@ -1,4 +1,5 @@
--- The numbers of two ends, by index: what a stage of the code asks for of them, and that it makes of them the number of the definition's stage.
+-- The numbers of two ends, by index: what a stage of the code asks for of them, and that it makes of them the number of the definition's
+-- stage.
 use mathlib.Core.Path.{_≡_, refl, sym, ap, ap₂, subst, _∙_}
 use mathlib.Core.List.{List, [], _∷_}
 use Prim.Native.Nat.{ℕ, _+_, _*_, _-_, _^_, _≤_, _<_}
@@ -27,7 +28,8 @@ use Rattle.evaluate.specs.Stages.{numbersAt, IsEnd, AreEnds, AtBoth, pla
 
 -- ---- a stage of the 2m numbers y, wherever they stand
 
-pub stage-of : (k m N c u : ℕ) (x y : ℕ → ℤ) (j : ℕ) → ((t : ℕ) → t < 2 * m → x (m * c + t) ≡ y t) → stageSum k m N c u x j ≡ stageSum k m N 0 u y 0
+pub stage-of : (k m N c u : ℕ) (x y : ℕ → ℤ) (j : ℕ) → ((t : ℕ) → t < 2 * m → x (m * c + t) ≡ y t)
+    → stageSum k m N c u x j ≡ stageSum k m N 0 u y 0
 unfolding stage-linear
 stage-of k m N c u x y j h =
     stage-linear k m N c u .is x j
@@ -49,7 +51,8 @@ number-none m g p orderStride o h = pick-false (ltb o m) (g (p + o * orderStride
 module _ (m : ℕ) (g : ℕ → ℤ) (p orderStride : ℕ) (a b : ℤ) (ea : a ≡ g p) (eb : b ≡ g (p + orderStride)) where
   end-numbers : (c : ℤ) → 2 ≤ m → c ≡ numbersAt m g p orderStride 2 → IsEnd m g p orderStride (a ∷ b ∷ c ∷ [])
   end-numbers c h ec =
-      by-3 (λ o. at (a ∷ b ∷ c ∷ []) o ≡ numbersAt m g p orderStride o) (ea ∙ ap g (omega arith) ∙ sym (number-at m g p orderStride 0 (omega arith)))
+      by-3 (λ o. at (a ∷ b ∷ c ∷ []) o ≡ numbersAt m g p orderStride o)
+      (ea ∙ ap g (omega arith) ∙ sym (number-at m g p orderStride 0 (omega arith)))
       (eb ∙ ap g (omega arith) ∙ sym (number-at m g p orderStride 1 (omega arith))) ec
 
   pub end-of-two : m ≡ 2 → IsEnd m g p orderStride (a ∷ b ∷ pos 0 ∷ [])
@@ -72,7 +75,8 @@ module _ (xs : List ℤ) (p : ℕ) where
 
   pub part-end : (m q orderStride : ℕ) (r : List ℤ) → IsEnd m (at part) q orderStride r → IsEnd m (at xs) (p + q) orderStride r
   unfolding numbersAt
-  part-end m q orderStride r h o l = h o l ∙ ap (λ z. pick (ltb o m) z (pos 0)) (part-at (q + o * orderStride) ∙ ap (at xs) (assoc p q (o * orderStride)))
+  part-end m q orderStride r h o l = h o l
+      ∙ ap (λ z. pick (ltb o m) z (pos 0)) (part-at (q + o * orderStride) ∙ ap (at xs) (assoc p q (o * orderStride)))
     where
       assoc : (p q i : ℕ) → p + (q + i) ≡ p + q + i
       assoc p q i = omega arith
@@ -87,20 +91,28 @@ load-same b low high low′ high′ e f = ap₂ _+_ (one (b .low) low low′ e) 
   where
     one : (r : List ℤ) (x y : ℕ → ℤ) → ((o : ℕ) → o < 3 → x o ≡ y o)
         → total 3 (λ o. natAbs (at r o) * natAbs (x o)) ≡ total 3 (λ o. natAbs (at r o) * natAbs (y o))
-    one r x y e = total-ext 3 (λ o. natAbs (at r o) * natAbs (x o)) (λ o. natAbs (at r o) * natAbs (y o)) (λ o l. ap (λ z. natAbs (at r o) * natAbs z) (e o l))
+    one r x y e = total-ext 3 (λ o. natAbs (at r o) * natAbs (x o)) (λ o. natAbs (at r o) * natAbs (y o))
+        (λ o l. ap (λ z. natAbs (at r o) * natAbs z) (e o l))
 
 -- two ends that hold the numbers of axis x from p on
 module _ {m : ℕ} {x : Axis} {g : ℕ → ℤ} {p : ℕ} {e : Ends} (h : Prepared m x) (ends : AreEnds m g p (x .order) (x .node) e) where
   -- what a stage asks for
-  pub stage-asks : (k : ℕ) → k ≤ 44 → load (x .basis) (numbersAt m g p (x .order)) (numbersAt m g (p + x .node) (x .order)) ≤ 2 ^ 63 - 2 ^ 45
-      → ((k ≤ 44) × (load (x .basis) (at (e .low)) (at (e .high)) ≤ 2 ^ 63 - 2 ^ 45)) × (m ≡ 2 → (at (e .low) 2 ≡ pos 0) × (at (e .high) 2 ≡ pos 0))
+  pub stage-asks : (k : ℕ) → k ≤ 44
+      → load (x .basis) (numbersAt m g p (x .order)) (numbersAt m g (p + x .node) (x .order)) ≤ 2 ^ 63 - 2 ^ 45
+      → ((k ≤ 44) × (load (x .basis) (at (e .low)) (at (e .high)) ≤ 2 ^ 63 - 2 ^ 45))
+      × (m ≡ 2 → (at (e .low) 2 ≡ pos 0) × (at (e .high) 2 ≡ pos 0))
   stage-asks k l s = (
     (l, le-trans (le-of-eq (load-same (x .basis) _ _ _ _ (ends .low) (ends .high))) s),
-    λ two. (ends .low 2 (lit< tt) ∙ number-none m g p (x .order) 2 (omega arith), ends .high 2 (lit< tt) ∙ number-none m g (p + x .node) (x .order) 2 (omega arith)),
+    λ two. (
+      ends .low 2 (lit< tt) ∙ number-none m g p (x .order) 2 (omega arith),
+      ends .high 2 (lit< tt)
+          ∙ number-none m g (p + x .node) (x .order) 2 (omega arith),
+    ),
   )
 
   -- and what it gives
-  pub stage-gives : (round : Rounding) (k : ℕ) → round (weighted (x .basis) (at (e .low)) (at (e .high))) (2 ^ (k + 1)) ≡ worked round k x g p
+  pub stage-gives : (round : Rounding) (k : ℕ)
+      → round (weighted (x .basis) (at (e .low)) (at (e .high))) (2 ^ (k + 1)) ≡ worked round k x g p
   unfolding worked weighted
   stage-gives round k =
       ap (λ z. round z (2 ^ (k + 1)))
@@ -108,12 +120,14 @@ module _ {m : ℕ} {x : Axis} {g : ℕ → ℤ} {p : ℕ} {e : Ends} (h : Prepar
       (one (at (x .basis .high)) (λ o i l. h .none o i l .1) (at (e .high)) (p + x .node) (ends .high)))
     where
       -- of order m and above nothing counts
-      one : (r : ℕ → ℤ) → ((o : ℕ) → m ≤ o → o < 3 → r o ≡ pos 0) → (y : ℕ → ℤ) (p : ℕ) → ((o : ℕ) → o < 3 → y o ≡ numbersAt m g p (x .order) o)
+      one : (r : ℕ → ℤ) → ((o : ℕ) → m ≤ o → o < 3 → r o ≡ pos 0) → (y : ℕ → ℤ) (p : ℕ)
+          → ((o : ℕ) → o < 3 → y o ≡ numbersAt m g p (x .order) o)
           → sum 3 (λ o. r o *ℤ y o) ≡ sum 3 (λ o. r o *ℤ g (p + o * x .order))
       one r none y p is =
           end-sum m (h .m-low) (h .m-high) r y none r (λ o. g (p + o * x .order)) (λ o l. refl)
           (λ o l. is o (let k = h .m-high in omega arith) ∙ number-at m g p (x .order) o l)
-          ∙ sym (end-sum m (h .m-low) (h .m-high) r (λ o. g (p + o * x .order)) none r (λ o. g (p + o * x .order)) (λ o l. refl) (λ o l. refl))
+          ∙ sym (end-sum m (h .m-low) (h .m-high) r (λ o. g (p + o * x .order)) none r (λ o. g (p + o * x .order)) (λ o l. refl)
+          (λ o l. refl))
 
 -- ---- where the numbers of two ends stand
 
@@ -132,7 +146,8 @@ module _ (m orderStride nodeStride : ℕ) where
       again m o = omega arith
 
   -- what holds at each number of two ends holds at each place
-  pub at-place : (P : ℕ → Type 0) (p : ℕ) → AtBoth m P p orderStride nodeStride → (t : ℕ) → t < 2 * m → P (p + placeOf m orderStride nodeStride t)
+  pub at-place : (P : ℕ → Type 0) (p : ℕ) → AtBoth m P p orderStride nodeStride → (t : ℕ) → t < 2 * m
+      → P (p + placeOf m orderStride nodeStride t)
   at-place P p h =
       by-place m (λ t. P (p + placeOf m orderStride nodeStride t)) (λ o l. subst (λ (i : ℕ). P (p + i)) (sym (place-low o l)) (h o l .0))
       (λ o l. subst P (assoc p nodeStride (o * orderStride) ∙ ap (λ (i : ℕ). p + i) (sym (place-high o))) (h o l .1))

@@ -53,13 +53,15 @@ order-at m (suc n) a s p l = go (λ k. order-at m n a s p k) (ℕ-discrete a n)
     go : (a < n → total n (λ b. put a s p b % m) ≡ s % m + total n (λ b. put a 0 p b % m)) → Dec (a ≡ n)
         → total n (λ b. put a s p b % m) + put a s p n % m ≡ s % m + (total n (λ b. put a 0 p b % m) + put a 0 p n % m)
     go r (yes e) =
-        let f = total-ext n (λ b. put a s p b % m) (λ b. put a 0 p b % m) (λ i k. ap (λ (j : ℕ). j % m) (put-off a s i p (λ q. apart k (q ∙ e)) ∙ sym (put-off a 0 i p (λ q. apart k (q ∙ e))))) in
+        let f = total-ext n (λ b. put a s p b % m) (λ b. put a 0 p b % m)
+        (λ i k. ap (λ (j : ℕ). j % m) (put-off a s i p (λ q. apart k (q ∙ e)) ∙ sym (put-off a 0 i p (λ q. apart k (q ∙ e))))) in
         let g : put a s p n % m ≡ s % m = ap (λ (j : ℕ). j % m) (subst (λ (i : ℕ). put a s p i ≡ s) e (put-at a s p)) in
         let h : put a 0 p n % m ≡ 0 = ap (λ (j : ℕ). j % m) (subst (λ (i : ℕ). put a 0 p i ≡ 0) e (put-at a 0 p)) ∙ zero-mod m in
         omega arith
     go r (no k) =
         let f = r (below a n l k) in
-        let g : put a s p n % m ≡ put a 0 p n % m = ap (λ (j : ℕ). j % m) (put-off a s n p (turn a n k) ∙ sym (put-off a 0 n p (turn a n k))) in
+        let g : put a s p n % m ≡ put a 0 p n % m =
+        ap (λ (j : ℕ). j % m) (put-off a s n p (turn a n k) ∙ sym (put-off a 0 n p (turn a n k))) in
         omega arith
 
 -- each order is below m, so the other axes have at most m − 1 each
@@ -71,7 +73,8 @@ orders-most m (suc n) p h = let e = orders-most m n p h in let f = mod-below (p 
     mod-below : (x m : ℕ) → 0 < m → x % m ≤ m - 1
     mod-below x m h = let k = mod-lt x h in omega arith
 
-pub orders-left : (m n : ℕ) → 2 ≤ m → (ls : List ℕ) → Distinct ls → Each (λ a. a < n) ls → (p : Place) → totalOrder m n (noughts ls p) + (m - 1) * length ls ≤ (m - 1) * n
+pub orders-left : (m n : ℕ) → 2 ≤ m → (ls : List ℕ) → Distinct ls → Each (λ a. a < n) ls → (p : Place)
+    → totalOrder m n (noughts ls p) + (m - 1) * length ls ≤ (m - 1) * n
 unfolding noughts
 orders-left m n h [] d e p = let k = orders-most m n p (omega arith) in omega arith
 orders-left m n h (a ∷ ls) d e p =
@@ -89,8 +92,10 @@ cap zero = 262144
 cap (suc k) = 2 * cap k
 
 -- moved along a used axis to a number of the cell, a corner's entry stays one
-pub corners-put : {m n : ℕ} {cell : Place} (a t : ℕ) (p : Place) → a < n → t < 2 * m → InCorners m n cell p → InCorners m n cell (put a (m * cell a + t) p)
-corners-put {m} {n} {cell} a t p l k h = record { used = λ b i. one b i (ℕ-discrete b a); unused = λ b i. put-off a (m * cell a + t) b p (apart b i) ∙ h .unused b i }
+pub corners-put : {m n : ℕ} {cell : Place} (a t : ℕ) (p : Place) → a < n → t < 2 * m → InCorners m n cell p
+    → InCorners m n cell (put a (m * cell a + t) p)
+corners-put {m} {n} {cell} a t p l k h =
+    record { used = λ b i. one b i (ℕ-discrete b a); unused = λ b i. put-off a (m * cell a + t) b p (apart b i) ∙ h .unused b i }
   where
     apart : (b : ℕ) → n ≤ b → b ≡ a → ⊥
     apart b i e = omega arith
@@ -99,7 +104,8 @@ corners-put {m} {n} {cell} a t p l k h = record { used = λ b i. one b i (ℕ-di
     here = record { low = omega arith; high = omega arith }
 
     one : (b : ℕ) → b < n → Dec (b ≡ a) → AtEnds m (cell b) (put a (m * cell a + t) p b)
-    one b i (yes e) = subst (λ (c : ℕ). AtEnds m (cell c) (put a (m * cell a + t) p c)) (sym e) (subst (AtEnds m (cell a)) (sym (put-at a (m * cell a + t) p)) here)
+    one b i (yes e) = subst (λ (c : ℕ). AtEnds m (cell c) (put a (m * cell a + t) p c)) (sym e)
+        (subst (AtEnds m (cell a)) (sym (put-at a (m * cell a + t) p)) here)
     one b i (no e) = subst (AtEnds m (cell b)) (sym (put-off a (m * cell a + t) b p e)) (h .used b i)
 
 module _ (round : Rounding) (sound : Sound round) (q : Ask) (m2 : 2 ≤ q .m) (m3 : q .m ≤ 3) (some : (a : ℕ) → 0 < q .N a) (g : Field)
@@ -117,13 +123,15 @@ module _ (round : Rounding) (sound : Sound round) (q : Ask) (m2 : 2 ≤ q .m) (m
       → (t : ℕ) → t < 2 * q .m → natAbs (got ls (put a (q .m * q .cell a + t) p)) ≤ bound ls (put a 0 p) * 2 ^ (t % q .m)
   reads ls a p fresh l h small t k =
       le-trans (small (put a (q .m * q .cell a + t) p) (corners-put a t p l k h))
-      (le-of-eq (regroup (cap (length ls)) (2 ^ totalOrder (q .m) (q .n) (noughts ls (put a (q .m * q .cell a + t) p))) (2 ^ (t % q .m)) (2 ^ totalOrder (q .m) (q .n) (noughts ls (put a 0 p)))
+      (le-of-eq (regroup (cap (length ls)) (2 ^ totalOrder (q .m) (q .n) (noughts ls (put a (q .m * q .cell a + t) p))) (2 ^ (t % q .m))
+      (2 ^ totalOrder (q .m) (q .n) (noughts ls (put a 0 p)))
       (ap (λ (i : ℕ). 2 ^ i) order ∙ pow-add 2 (t % q .m) (totalOrder (q .m) (q .n) (noughts ls (put a 0 p))))))
     where
       regroup : (c x y z : ℕ) → x ≡ y * z → c * x ≡ c * z * y
       regroup c x y z e = rw e (omega arith)
 
-      order : totalOrder (q .m) (q .n) (noughts ls (put a (q .m * q .cell a + t) p)) ≡ t % q .m + totalOrder (q .m) (q .n) (noughts ls (put a 0 p))
+      order : totalOrder (q .m) (q .n) (noughts ls (put a (q .m * q .cell a + t) p)) ≡ t % q .m + totalOrder (q .m) (q .n)
+          (noughts ls (put a 0 p))
       order =
           ap (totalOrder (q .m) (q .n)) (noughts-put ls a (q .m * q .cell a + t) p fresh)
           ∙ order-at (q .m) (q .n) a (q .m * q .cell a + t) (noughts ls p) l
@@ -136,7 +144,8 @@ module _ (round : Rounding) (sound : Sound round) (q : Ask) (m2 : 2 ≤ q .m) (m
     pub step : q .step a ≤ q .N a
     pub used : a < q .n
 
-  pub stages-size : (ls : List ℕ) → Distinct ls → Each Plain ls → (p : Place) → InCorners (q .m) (q .n) (q .cell) p → natAbs (got ls p) ≤ bound ls p
+  pub stages-size : (ls : List ℕ) → Distinct ls → Each Plain ls → (p : Place) → InCorners (q .m) (q .n) (q .cell) p
+      → natAbs (got ls p) ≤ bound ls p
   unfolding sweep inEighths toEighth stageOn divisorOn noughts cap entryLimit
   stages-size [] d e p h = le-trans (le-of-eq (abs-mul (pos 8) (g p))) (let k = limited p h in omega arith)
   stages-size (a ∷ ls) d e p h =
@@ -150,13 +159,15 @@ module _ (round : Rounding) (sound : Sound round) (q : Ask) (m2 : 2 ≤ q .m) (m
       regroup c w = omega arith
 
   -- what the stage of an axis reads, after those of a list
-  pub reads-size : (ls : List ℕ) → Distinct ls → Each Plain ls → (a : ℕ) → Fresh a ls → a < q .n → (p : Place) → InCorners (q .m) (q .n) (q .cell) p
+  pub reads-size : (ls : List ℕ) → Distinct ls → Each Plain ls → (a : ℕ) → Fresh a ls → a < q .n → (p : Place)
+      → InCorners (q .m) (q .n) (q .cell) p
       → (t : ℕ) → t < 2 * q .m → natAbs (got ls (put a (q .m * q .cell a + t) p)) ≤ bound ls (put a 0 p) * 2 ^ (t % q .m)
   reads-size ls d e a f l p h = reads ls a p f l h (stages-size ls d e)
 
   -- ---- the answer
 
-  module _ (last : lastAxis (q .n) (q .want) < q .n) (steps-in : (a : ℕ) → a < q .n → q .step a ≤ q .N a) (none : (a : ℕ) → q .n ≤ a → q .cell a ≡ 0) where
+  module _ (last : lastAxis (q .n) (q .want) < q .n) (steps-in : (a : ℕ) → a < q .n → q .step a ≤ q .N a)
+      (none : (a : ℕ) → q .n ≤ a → q .cell a ≡ 0) where
     abbrev l : ℕ
     l = lastAxis (q .n) (q .want)
 
@@ -184,14 +195,16 @@ module _ (round : Rounding) (sound : Sound round) (q : Ask) (m2 : 2 ≤ q .m) (m
     unfolding toUnit stageOn divisorOn
     answer-size =
         le-trans (le-of-eq (ap natAbs (answer-anywhere round q g corner corner-none)))
-        (unit-size (orderOn (q .want) l) (q .m) (q .N l) (q .cell l) (q .step l) (λ t. got (before q) (put l t corner)) (bound (before q) (put l 0 corner))
+        (unit-size (orderOn (q .want) l) (q .m) (q .N l) (q .cell l) (q .step l) (λ t. got (before q) (put l t corner))
+        (bound (before q) (put l 0 corner))
         (reads-size (before q) (distinct-before q) plain-before l (fresh-before q) last corner corner-in) round sound
         (order-smooth (q .want) l (q .m)) m2 m3 (some l) (steps-in l last) (corner l))
 
     no-order : totalOrder (q .m) (q .n) (noughts (before q) (put l 0 corner)) ≡ 0
     unfolding noughts
     no-order =
-        let h = orders-left (q .m) (q .n) m2 (l ∷ before q) (fresh-before q, distinct-before q) (last, below (before q) plain-before) corner in
+        let h = orders-left (q .m) (q .n) m2 (l ∷ before q) (fresh-before q, distinct-before q)
+        (last, below (before q) plain-before) corner in
         let e = stages-before in
         let f : (q .m - 1) * q .n ≡ (q .m - 1) * suc (length (before q)) = ap (λ (i : ℕ). (q .m - 1) * i) e in
         omega arith

@@ -23,7 +23,8 @@ pub axes-before : (n a : ℕ) → 2 ≤ n → n ≤ 3 → a < n → without a (a
 unfolding axes without pick beside
 axes-before n a h k l =
     by-m (λ n. a < n → without a (axes n) ≡ also (eqb n 3) (beside 2 a) (beside 0 a ∷ []))
-    (by-2 (λ a. without a (axes 2) ≡ also (eqb 2 3) (beside 2 a) (beside 0 a ∷ [])) refl refl a) (by-3 (λ a. without a (axes 3) ≡ also (eqb 3 3) (beside 2 a) (beside 0 a ∷ [])) refl refl refl a) n h k l
+    (by-2 (λ a. without a (axes 2) ≡ also (eqb 2 3) (beside 2 a) (beside 0 a ∷ [])) refl refl a)
+    (by-3 (λ a. without a (axes 3) ≡ also (eqb 3 3) (beside 2 a) (beside 0 a ∷ [])) refl refl refl a) n h k l
 
 pub beside-low : (outer a : ℕ) → outer < 3 → beside outer a < 3
 unfolding beside pick
@@ -44,13 +45,16 @@ pub made-prepared : {m order : ℕ} {from to : Bool} {a : Strides} {x : Axis} �
 made-prepared h = record { m-low = h .folds .m-low; m-high = h .folds .m-high; none = folds-none (h .folds) }
 
 pub made-small : {m order : ℕ} {from to : Bool} {a : Strides} {x : Axis} → Made m order from to a x → x .shift ≤ 44
-made-small {m} {order} {from} {to} h = subst (λ (i : ℕ). i ≤ 44) (sym (h .shift-is)) (shifted order m from to (h .folds .smooth) (h .folds .m-low) (h .folds .m-high) .low)
+made-small {m} {order} {from} {to} h =
+    subst (λ (i : ℕ). i ≤ 44) (sym (h .shift-is)) (shifted order m from to (h .folds .smooth) (h .folds .m-low) (h .folds .m-high) .low)
 
-pub steps-of : (a b c : Strides) (three : Bool) → AllSteps (c ∷ also three b (a ∷ [])) → (a .step ≤ steps) × (c .step ≤ steps) × (three ≡ true → b .step ≤ steps)
+pub steps-of : (a b c : Strides) (three : Bool) → AllSteps (c ∷ also three b (a ∷ [])) → (a .step ≤ steps) × (c .step ≤ steps)
+    × (three ≡ true → b .step ≤ steps)
 steps-of a b c true h = (h .1 .1 .0, h .0, λ e. h .1 .0)
 steps-of a b c false h = (h .1 .0, h .0, λ e. apart false e refl)
 
-module _ {round : Rounding} {m order : ℕ} {a c : Strides} (b : Strides) {x z : Axis} (made-x : Made m 0 false true a x) (made-z : Made m order true false c z) where
+module _ {round : Rounding} {m order : ℕ} {a c : Strides} (b : Strides) {x z : Axis} (made-x : Made m 0 false true a x)
+    (made-z : Made m order true false c z) where
   pub two-ask : {n : ℕ} {g : ℕ → ℤ} {p : ℕ} (three : Bool) → three ≡ false → Workable round m order c (also three b (a ∷ [])) n g p
       → (AllPrepared m (z ∷ x ∷ []) × (z .shift ≤ 44)) × Safe round m n (z ∷ x ∷ []) g p
   two-ask true e w = apart true refl e
@@ -64,11 +68,14 @@ module _ {round : Rounding} {m order : ℕ} {a c : Strides} (b : Strides) {x z :
   module _ {y : Axis} (made-y : Made m 0 true true b y) where
     pub three-ask : {n : ℕ} {g : ℕ → ℤ} {p : ℕ} (three : Bool) → three ≡ true → Workable round m order c (also three b (a ∷ [])) n g p
         → (AllPrepared m (z ∷ y ∷ x ∷ []) × (z .shift ≤ 44)) × Safe round m n (z ∷ y ∷ x ∷ []) g p
-    three-ask true e w =
-        (((made-prepared made-z, (made-prepared made-y, (made-prepared made-x, tt))), made-small made-z), w .safe z (y ∷ x ∷ []) made-z (made-y, (made-x, tt)))
+    three-ask true e w = (
+      ((made-prepared made-z, (made-prepared made-y, (made-prepared made-x, tt))), made-small made-z),
+      w .safe z (y ∷ x ∷ []) made-z (made-y, (made-x, tt)),
+    )
     three-ask false e w = apart false e refl
 
-    pub three-give : {g : ℕ → ℤ} {p : ℕ} {r : ℤ} (three : Bool) → three ≡ true → r ≡ worked round (z .shift) z (after round m (y ∷ x ∷ []) g) p
+    pub three-give : {g : ℕ → ℤ} {p : ℕ} {r : ℤ} (three : Bool) → three ≡ true
+        → r ≡ worked round (z .shift) z (after round m (y ∷ x ∷ []) g) p
         → WorkedOff round m order c (also three b (a ∷ [])) g p r
     three-give true e is = record { last = z; others = y ∷ x ∷ []; made-last = made-z; made = (made-y, (made-x, tt)); is = is }
     three-give false e is = apart false e refl

@@ -48,7 +48,8 @@ sumOver ls w = sweep ls (λ a x j. sum w x)
 
 unfoldable pub exactSum : Ask → Field → ℤ
 exactSum q g =
-    sumOver (axes (q .n)) (2 * q .m) (λ i. coefficients (q .m) (q .n) (q .cell) g i *ℤ product (axes (q .n)) (λ a. weightOn q a (i a))) origin
+    sumOver (axes (q .n)) (2 * q .m)
+    (λ i. coefficients (q .m) (q .n) (q .cell) g i *ℤ product (axes (q .n)) (λ a. weightOn q a (i a))) origin
 
 unfoldable pub divisorOn : Ask → ℕ → ℕ
 divisorOn q a = divisor (orderOn (q .want) a) (q .m) (q .N a)

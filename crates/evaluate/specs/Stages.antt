@@ -72,7 +72,8 @@ abbrev pub Safe : Rounding → ℕ → ℕ → List Axis → (ℕ → ℤ) → �
 Safe round m n [] g p = p < n
 Safe round m n (x ∷ xs) g p =
     AtBoth m (Safe round m n xs g) p (x .order) (x .node)
-    × (load (x .basis) (numbersAt m (after round m xs g) p (x .order)) (numbersAt m (after round m xs g) (p + x .node) (x .order)) ≤ 2 ^ 63 - 2 ^ 45)
+    × (load (x .basis) (numbersAt m (after round m xs g) p (x .order))
+    (numbersAt m (after round m xs g) (p + x .node) (x .order)) ≤ 2 ^ 63 - 2 ^ 45)
 
 -- a list with one more in front where there is one
 abbrev pub also : {A : Type 0} → Bool → A → List A → List A

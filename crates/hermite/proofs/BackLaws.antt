@@ -28,7 +28,8 @@ unfolding solved sum pick
 solved-linear m y zero = ring! (y 0 ∷ y 1 ∷ y 2 ∷ []) (search quotes depth 40) tt
 solved-linear m y (suc zero) = ring! (y 0 ∷ y 1 ∷ y 2 ∷ multiplier m 1 0 ∷ []) (search quotes depth 40) tt
 solved-linear m y (suc (suc o)) =
-    ring! (y 0 ∷ y 1 ∷ y 2 ∷ multiplier m 1 0 ∷ multiplier m 2 0 ∷ multiplier m 2 1 ∷ []) (record { left = search quotes depth 40; right = search quotes depth 40 fits 4000 }) tt
+    ring! (y 0 ∷ y 1 ∷ y 2 ∷ multiplier m 1 0 ∷ multiplier m 2 0 ∷ multiplier m 2 1 ∷ [])
+    (record { left = search quotes depth 40; right = search quotes depth 40 fits 4000 }) tt
 
 pub backward-parts : (m : ℕ) (c : ℕ → ℤ) (t : ℕ) (low : Bool)
     → pick low (solved m c t) (mirrored (t - m) (solved m (λ k. c (2 * m - 1 - k)) (t - m)))
@@ -39,7 +40,8 @@ backward-parts m c t false =
     let y : ℕ → ℤ = λ k. c (2 * m - 1 - k) in
     ap (mirrored (t - m)) (solved-linear m y (t - m))
     ∙ sym (sum-mirrored 3 (t - m) (λ k. solved m (unit k) (t - m) *ℤ y k))
-    ∙ sum-ext 3 (λ k. mirrored (t - m) (solved m (unit k) (t - m) *ℤ y k)) (λ k. mirrored (t - m) (solved m (unit k) (t - m)) *ℤ y k) (λ k l. sym (mirrored-mul (t - m) (solved m (unit k) (t - m)) (y k)))
+    ∙ sum-ext 3 (λ k. mirrored (t - m) (solved m (unit k) (t - m) *ℤ y k)) (λ k. mirrored (t - m) (solved m (unit k) (t - m)) *ℤ y k)
+    (λ k l. sym (mirrored-mul (t - m) (solved m (unit k) (t - m)) (y k)))
 
 unfoldable pub backward-linear : (m : ℕ) → Linear (backward m)
 unfolding backward
@@ -57,18 +59,22 @@ solved-none : (m : ℕ) → 2 ≤ m → m ≤ 3 → (o : ℕ) → o < m → (k :
 unfolding solved multiplier pick
 solved-none =
     by-m (λ m. (o : ℕ) → o < m → (k : ℕ) → m ≤ k → k < 3 → solved m (unit k) o ≡ pos 0)
-    (λ o l k g p. let e : k ≡ 2 = omega arith in ap (λ (i : ℕ). solved 2 (unit i) o) e ∙ by-2 (λ o. solved 2 (unit 2) o ≡ pos 0) refl refl o l)
+    (λ o l k g p. let e : k ≡ 2 = omega arith in ap (λ (i : ℕ). solved 2 (unit i) o) e
+    ∙ by-2 (λ o. solved 2 (unit 2) o ≡ pos 0) refl refl o l)
     (λ o l k g p. absurd (omega arith))
 
 pub solved-sum : (m : ℕ) → 2 ≤ m → m ≤ 3 → (y : ℕ → ℤ) (o : ℕ) → o < m → solved m y o ≡ sum m (λ k. solved m (unit k) o *ℤ y k)
-solved-sum m m2 m3 y o l = solved-linear m y o ∙ sum-three m m2 m3 (λ k. solved m (unit k) o *ℤ y k) (λ k g p. ap (λ z. z *ℤ y k) (solved-none m m2 m3 o l k g p) ∙ zero-*ℤ (y k))
+solved-sum m m2 m3 y o l = solved-linear m y o
+    ∙ sum-three m m2 m3 (λ k. solved m (unit k) o *ℤ y k) (λ k g p. ap (λ z. z *ℤ y k) (solved-none m m2 m3 o l k g p) ∙ zero-*ℤ (y k))
 
 pub solved-ext : (m : ℕ) → 2 ≤ m → m ≤ 3 → (x y : ℕ → ℤ) (o : ℕ) → o < m → ((k : ℕ) → k < m → x k ≡ y k) → solved m x o ≡ solved m y o
 solved-ext m m2 m3 x y o l h =
-    solved-sum m m2 m3 x o l ∙ sum-ext m (λ t. solved m (unit t) o *ℤ x t) (λ t. solved m (unit t) o *ℤ y t) (λ t p. ap (λ z. solved m (unit t) o *ℤ z) (h t p)) ∙ sym (solved-sum m m2 m3 y o l)
+    solved-sum m m2 m3 x o l ∙ sum-ext m (λ t. solved m (unit t) o *ℤ x t) (λ t. solved m (unit t) o *ℤ y t)
+    (λ t p. ap (λ z. solved m (unit t) o *ℤ z) (h t p)) ∙ sym (solved-sum m m2 m3 y o l)
 
 -- twice an end's numbers from its coefficients, and its coefficients from these
-solved-table : (m : ℕ) → 2 ≤ m → m ≤ 3 → (o : ℕ) → o < m → (y : ℕ → ℤ) → solved m (λ k. sum m (λ p. multiplier m k p *ℤ y p)) o ≡ pos 2 *ℤ y o
+solved-table : (m : ℕ) → 2 ≤ m → m ≤ 3 → (o : ℕ) → o < m → (y : ℕ → ℤ)
+    → solved m (λ k. sum m (λ p. multiplier m k p *ℤ y p)) o ≡ pos 2 *ℤ y o
 unfolding solved sum multiplier
 solved-table = by-order (λ m o. (y : ℕ → ℤ) → solved m (λ k. sum m (λ p. multiplier m k p *ℤ y p)) o ≡ pos 2 *ℤ y o)
     (λ y. ring! (y 0 ∷ y 1 ∷ []) (search quotes depth 40) tt)
@@ -102,7 +108,8 @@ module _ (m : ℕ) (m2 : 2 ≤ m) (m3 : m ≤ 3) where
   pub backward-high : (c : ℕ → ℤ) (o : ℕ) → backward m c (m + o) ≡ mirrored o (solved m (λ k. c (2 * m - 1 - k)) o)
   unfolding backward
   backward-high c o =
-      pick-false (ltb (m + o) m) (solved m c (m + o)) (mirrored (m + o - m) (solved m (λ k. c (2 * m - 1 - k)) (m + o - m))) (le-ltb (m + o) m (omega arith))
+      pick-false (ltb (m + o) m) (solved m c (m + o)) (mirrored (m + o - m) (solved m (λ k. c (2 * m - 1 - k)) (m + o - m)))
+      (le-ltb (m + o) m (omega arith))
       ∙ ap (λ (p : ℕ). mirrored p (solved m (λ k. c (2 * m - 1 - k)) p)) (omega arith)
 
   -- back of the coefficients is twice the numbers
@@ -112,7 +119,8 @@ module _ (m : ℕ) (m2 : 2 ≤ m) (m3 : m ≤ 3) where
       ∙ solved-ext m m2 m3 (forward m 0 x) (λ k. sum m (λ p. multiplier m k p *ℤ x (m * 0 + p))) o l (λ k p. forward-low m 0 m2 m3 x k p)
       ∙ solved-table m m2 m3 o l (λ p. x (m * 0 + p)) ∙ ap (λ (i : ℕ). pos 2 *ℤ x i) (omega arith))
       (λ o l. backward-high (forward m 0 x) o
-      ∙ ap (mirrored o) (solved-ext m m2 m3 (λ k. forward m 0 x (2 * m - 1 - k)) (λ k. sum m (λ p. multiplier m k p *ℤ mirrored p (x (m * 0 + (m + p))))) o l (λ k p. forward-high m 0 m2 m3 x k p)
+      ∙ ap (mirrored o) (solved-ext m m2 m3 (λ k. forward m 0 x (2 * m - 1 - k))
+      (λ k. sum m (λ p. multiplier m k p *ℤ mirrored p (x (m * 0 + (m + p))))) o l (λ k p. forward-high m 0 m2 m3 x k p)
       ∙ solved-table m m2 m3 o l (λ p. mirrored p (x (m * 0 + (m + p)))) ∙ mul-mirrored o (pos 2) (x (m * 0 + (m + o))))
       ∙ mirrored-back o (pos 2 *ℤ x (m * 0 + (m + o))) ∙ ap (λ (i : ℕ). pos 2 *ℤ x i) (omega arith))
 
@@ -123,8 +131,10 @@ module _ (m : ℕ) (m2 : 2 ≤ m) (m3 : m ≤ 3) where
       ∙ sum-ext m (λ o. multiplier m k o *ℤ backward m c (m * 0 + o)) (λ o. multiplier m k o *ℤ solved m c o)
       (λ o p. ap (λ z. multiplier m k o *ℤ z) (ap (backward m c) (omega arith) ∙ backward-low c o p)) ∙ table-solved m m2 m3 k l c)
       (λ k l. forward-high m 0 m2 m3 (backward m c) k l
-      ∙ sum-ext m (λ o. multiplier m k o *ℤ mirrored o (backward m c (m * 0 + (m + o)))) (λ o. multiplier m k o *ℤ solved m (λ j. c (2 * m - 1 - j)) o)
-      (λ o p. ap (λ z. multiplier m k o *ℤ z) (ap (mirrored o) (ap (backward m c) (omega arith) ∙ backward-high c o) ∙ mirrored-back o (solved m (λ j. c (2 * m - 1 - j)) o)))
+      ∙ sum-ext m (λ o. multiplier m k o *ℤ mirrored o (backward m c (m * 0 + (m + o))))
+      (λ o. multiplier m k o *ℤ solved m (λ j. c (2 * m - 1 - j)) o)
+      (λ o p. ap (λ z. multiplier m k o *ℤ z)
+      (ap (mirrored o) (ap (backward m c) (omega arith) ∙ backward-high c o) ∙ mirrored-back o (solved m (λ j. c (2 * m - 1 - j)) o)))
       ∙ table-solved m m2 m3 k l (λ j. c (2 * m - 1 - j)))
 
 -- ---- sizes
@@ -135,14 +145,19 @@ row-total = by-order (λ m k. total m (λ o. natAbs (multiplier m k o) * 2 ^ o) 
 
 module _ (m : ℕ) (m2 : 2 ≤ m) (m3 : m ≤ 3) (B : ℕ) where
   -- numbers within B, doubled with each order, have coefficients within 32 B
-  pub forward-size : (c : ℕ) (x : ℕ → ℤ) → ((t : ℕ) → t < 2 * m → natAbs (x (m * c + t)) ≤ B * 2 ^ (t % m)) → (i : ℕ) → i < 2 * m → natAbs (forward m c x i) ≤ 32 * B
+  pub forward-size : (c : ℕ) (x : ℕ → ℤ) → ((t : ℕ) → t < 2 * m → natAbs (x (m * c + t)) ≤ B * 2 ^ (t % m)) → (i : ℕ) → i < 2 * m
+      → natAbs (forward m c x i) ≤ 32 * B
   forward-size c x h =
       by-count m (λ i. natAbs (forward m c x i) ≤ 32 * B)
-      (λ k l. le-trans (le-of-eq (ap natAbs (forward-low m c m2 m3 x k l))) (end (λ o. x (m * c + o)) (λ o p. subst (λ (i : ℕ). natAbs (x (m * c + o)) ≤ B * 2 ^ i) (mod-eq-of-lt p) (h o (omega arith))) k l))
+      (λ k l. le-trans (le-of-eq (ap natAbs (forward-low m c m2 m3 x k l)))
+      (end (λ o. x (m * c + o)) (λ o p. subst (λ (i : ℕ). natAbs (x (m * c + o)) ≤ B * 2 ^ i) (mod-eq-of-lt p) (h o (omega arith))) k l))
       (λ k l. le-trans (le-of-eq (ap natAbs (forward-high m c m2 m3 x k l)))
-      (end (λ o. mirrored o (x (m * c + (m + o)))) (λ o p. le-trans (le-of-eq (mirrored-size o (x (m * c + (m + o))))) (subst (λ (i : ℕ). natAbs (x (m * c + (m + o))) ≤ B * 2 ^ i) (high o p) (h (m + o) (omega arith)))) k l))
+      (end (λ o. mirrored o (x (m * c + (m + o))))
+      (λ o p. le-trans (le-of-eq (mirrored-size o (x (m * c + (m + o)))))
+      (subst (λ (i : ℕ). natAbs (x (m * c + (m + o))) ≤ B * 2 ^ i) (high o p) (h (m + o) (omega arith)))) k l))
     where
-      end : (y : ℕ → ℤ) → ((o : ℕ) → o < m → natAbs (y o) ≤ B * 2 ^ o) → (k : ℕ) → k < m → natAbs (sum m (λ o. multiplier m k o *ℤ y o)) ≤ 32 * B
+      end : (y : ℕ → ℤ) → ((o : ℕ) → o < m → natAbs (y o) ≤ B * 2 ^ o) → (k : ℕ) → k < m
+          → natAbs (sum m (λ o. multiplier m k o *ℤ y o)) ≤ 32 * B
       end y h k l = le-trans (graded-sum m (multiplier m k) y (λ o. 2 ^ o) B h) (mul-le-mul-right B (row-total m m2 m3 k l))
 
       high : (o : ℕ) → o < m → (m + o) % m ≡ o

@@ -24,12 +24,15 @@ use Rattle.hermite.proofs.WeightLaws.{weight-size}
 
 -- as the code writes the two cases
 module _ (x : List ℤ) (p q r : ℤ) (order : ℕ) where
-  pub mirror-even : order ≡ 0 → p ≡ at x 0 → q ≡ pos 0 -ℤ at x 1 → r ≡ at x 2 → (o : ℕ) → o < 3 → at (p ∷ q ∷ r ∷ []) o ≡ mirrored (o + order) (at x o)
+  pub mirror-even : order ≡ 0 → p ≡ at x 0 → q ≡ pos 0 -ℤ at x 1 → r ≡ at x 2 → (o : ℕ) → o < 3
+      → at (p ∷ q ∷ r ∷ []) o ≡ mirrored (o + order) (at x o)
   unfolding mirrored
   mirror-even e a b c o l =
-      by-3 (λ o. at (p ∷ q ∷ r ∷ []) o ≡ mirrored (o + 0) (at x o)) a (b ∙ +ℤ-idl (negℤ (at x 1))) c o l ∙ ap (λ (i : ℕ). mirrored (o + i) (at x o)) (sym e)
+      by-3 (λ o. at (p ∷ q ∷ r ∷ []) o ≡ mirrored (o + 0) (at x o)) a (b ∙ +ℤ-idl (negℤ (at x 1))) c o l
+      ∙ ap (λ (i : ℕ). mirrored (o + i) (at x o)) (sym e)
 
-  pub mirror-odd : order ≡ 1 → p ≡ pos 0 -ℤ at x 0 → q ≡ at x 1 → r ≡ pos 0 -ℤ at x 2 → (o : ℕ) → o < 3 → at (p ∷ q ∷ r ∷ []) o ≡ mirrored (o + order) (at x o)
+  pub mirror-odd : order ≡ 1 → p ≡ pos 0 -ℤ at x 0 → q ≡ at x 1 → r ≡ pos 0 -ℤ at x 2 → (o : ℕ) → o < 3
+      → at (p ∷ q ∷ r ∷ []) o ≡ mirrored (o + order) (at x o)
   unfolding mirrored
   mirror-odd e a b c o l =
       by-3 (λ o. at (p ∷ q ∷ r ∷ []) o ≡ mirrored (o + 1) (at x o)) (a ∙ +ℤ-idl (negℤ (at x 0))) b (c ∙ +ℤ-idl (negℤ (at x 2))) o l
@@ -41,10 +44,13 @@ pub multiplier-size : (m : ℕ) → 2 ≤ m → m ≤ 3 → (k : ℕ) → k < 3 
 unfolding multiplier
 multiplier-size =
     by-m (λ m. (k : ℕ) → k < 3 → (o : ℕ) → o < 3 → natAbs (multiplier m k o) ≤ 20)
-    (by-3 (λ k. (o : ℕ) → o < 3 → natAbs (multiplier 2 k o) ≤ 20) (row 2 0 (lit≤ tt) (lit≤ tt) (lit≤ tt)) (row 2 1 (lit≤ tt) (lit≤ tt) (lit≤ tt)) (row 2 2 (lit≤ tt) (lit≤ tt) (lit≤ tt)))
-    (by-3 (λ k. (o : ℕ) → o < 3 → natAbs (multiplier 3 k o) ≤ 20) (row 3 0 (lit≤ tt) (lit≤ tt) (lit≤ tt)) (row 3 1 (lit≤ tt) (lit≤ tt) (lit≤ tt)) (row 3 2 (lit≤ tt) (lit≤ tt) (lit≤ tt)))
+    (by-3 (λ k. (o : ℕ) → o < 3 → natAbs (multiplier 2 k o) ≤ 20) (row 2 0 (lit≤ tt) (lit≤ tt) (lit≤ tt))
+    (row 2 1 (lit≤ tt) (lit≤ tt) (lit≤ tt)) (row 2 2 (lit≤ tt) (lit≤ tt) (lit≤ tt)))
+    (by-3 (λ k. (o : ℕ) → o < 3 → natAbs (multiplier 3 k o) ≤ 20) (row 3 0 (lit≤ tt) (lit≤ tt) (lit≤ tt))
+    (row 3 1 (lit≤ tt) (lit≤ tt) (lit≤ tt)) (row 3 2 (lit≤ tt) (lit≤ tt) (lit≤ tt)))
   where
-    row : (m k : ℕ) → natAbs (multiplier m k 0) ≤ 20 → natAbs (multiplier m k 1) ≤ 20 → natAbs (multiplier m k 2) ≤ 20 → (o : ℕ) → o < 3 → natAbs (multiplier m k o) ≤ 20
+    row : (m k : ℕ) → natAbs (multiplier m k 0) ≤ 20 → natAbs (multiplier m k 1) ≤ 20 → natAbs (multiplier m k 2) ≤ 20 → (o : ℕ) → o < 3
+        → natAbs (multiplier m k o) ≤ 20
     row m k = by-3 (λ o. natAbs (multiplier m k o) ≤ 20)
 
 -- a number that is a multiplier
@@ -72,23 +78,27 @@ no-row : (m : ℕ) → 2 ≤ m → m ≤ 3 → (o : ℕ) → o < 3 → (k : ℕ)
 unfolding multiplier
 no-row =
     by-m (λ m. (o : ℕ) → o < 3 → (k : ℕ) → m ≤ k → k < 3 → multiplier m k o ≡ pos 0)
-    (λ o l k h p. let e : k ≡ 2 = omega arith in ap (λ (i : ℕ). multiplier 2 i o) e ∙ by-3 (λ o. multiplier 2 2 o ≡ pos 0) refl refl refl o l)
+    (λ o l k h p. let e : k ≡ 2 = omega arith in ap (λ (i : ℕ). multiplier 2 i o) e
+    ∙ by-3 (λ o. multiplier 2 2 o ≡ pos 0) refl refl refl o l)
     (λ o l k h p. absurd (omega arith))
 
 pub no-order : (m : ℕ) → 2 ≤ m → m ≤ 3 → (o : ℕ) → m ≤ o → o < 3 → (k : ℕ) → k < 3 → multiplier m k o ≡ pos 0
 unfolding multiplier
 no-order =
     by-m (λ m. (o : ℕ) → m ≤ o → o < 3 → (k : ℕ) → k < 3 → multiplier m k o ≡ pos 0)
-    (λ o h p k l. let e : o ≡ 2 = omega arith in ap (λ (i : ℕ). multiplier 2 k i) e ∙ by-3 (λ k. multiplier 2 k 2 ≡ pos 0) refl refl refl k l)
+    (λ o h p k l. let e : o ≡ 2 = omega arith in ap (λ (i : ℕ). multiplier 2 k i) e
+    ∙ by-3 (λ k. multiplier 2 k 2 ≡ pos 0) refl refl refl k l)
     (λ o h p k l. absurd (omega arith))
 
 module _ (k m : ℕ) (m2 : 2 ≤ m) (m3 : m ≤ 3) (a b : ℤ) (o : ℕ) (l : o < 3) where
   part-inside : o < m → sum 3 (λ i. multiplier m i o *ℤ weight k a b (2 * m - 1) i) ≡ endBasis k m a b o
   unfolding endBasis
-  part-inside h = sum-three m m2 m3 (λ i. multiplier m i o *ℤ weight k a b (2 * m - 1) i) (λ i g p. ap (λ z. z *ℤ weight k a b (2 * m - 1) i) (no-row m m2 m3 o l i g p) ∙ zero-*ℤ (weight k a b (2 * m - 1) i))
+  part-inside h = sum-three m m2 m3 (λ i. multiplier m i o *ℤ weight k a b (2 * m - 1) i)
+      (λ i g p. ap (λ z. z *ℤ weight k a b (2 * m - 1) i) (no-row m m2 m3 o l i g p) ∙ zero-*ℤ (weight k a b (2 * m - 1) i))
 
   part-beyond : m ≤ o → sum 3 (λ i. multiplier m i o *ℤ weight k a b (2 * m - 1) i) ≡ pos 0
-  part-beyond h = sum-zero 3 (λ i. multiplier m i o *ℤ weight k a b (2 * m - 1) i) (λ i p. ap (λ z. z *ℤ weight k a b (2 * m - 1) i) (no-order m m2 m3 o h l i p) ∙ zero-*ℤ (weight k a b (2 * m - 1) i))
+  part-beyond h = sum-zero 3 (λ i. multiplier m i o *ℤ weight k a b (2 * m - 1) i)
+      (λ i p. ap (λ z. z *ℤ weight k a b (2 * m - 1) i) (no-order m m2 m3 o h l i p) ∙ zero-*ℤ (weight k a b (2 * m - 1) i))
 
 -- by cases of the order
 by-kept : (m : ℕ) (x z : ℤ) (o : ℕ) → (o < m → x ≡ z) → (m ≤ o → x ≡ pos 0) → x ≡ pick (ltb o m) z (pos 0)
@@ -116,16 +126,20 @@ three : (f : ℕ → ℕ) → f 0 ≤ 20 → f 1 ≤ 20 → f 2 ≤ 20 → total
 unfolding total
 three f a b c = omega arith
 
-pub part-size : (k m : ℕ) → Smooth k m → 2 ≤ m → m ≤ 3 → (a b : ℤ) → natAbs a ≤ 256 → natAbs b ≤ 256 → (o : ℕ) → o < 3 → natAbs (sum 3 (λ i. multiplier m i o *ℤ weight k a b (2 * m - 1) i)) ≤ 2 ^ 62
+pub part-size : (k m : ℕ) → Smooth k m → 2 ≤ m → m ≤ 3 → (a b : ℤ) → natAbs a ≤ 256 → natAbs b ≤ 256 → (o : ℕ) → o < 3
+    → natAbs (sum 3 (λ i. multiplier m i o *ℤ weight k a b (2 * m - 1) i)) ≤ 2 ^ 62
 part-size k m smooth m2 m3 a b ha hb o l =
-    le-trans (abs-weighted 3 (λ i. multiplier m i o) (weight k a b (2 * m - 1)) (2 ^ 43) (weight-size k smooth (2 * m - 1) a b (omega arith) (omega arith) ha hb))
-    (le-trans (mul-le-mul-right (2 ^ 43) (three (λ i. natAbs (multiplier m i o)) (few 0 (lit< tt)) (few 1 (lit< tt)) (few 2 (lit< tt)))) (lit≤ tt))
+    le-trans (abs-weighted 3 (λ i. multiplier m i o) (weight k a b (2 * m - 1)) (2 ^ 43)
+    (weight-size k smooth (2 * m - 1) a b (omega arith) (omega arith) ha hb))
+    (le-trans (mul-le-mul-right (2 ^ 43) (three (λ i. natAbs (multiplier m i o)) (few 0 (lit< tt)) (few 1 (lit< tt)) (few 2 (lit< tt))))
+    (lit≤ tt))
   where
     few : (k : ℕ) → k < 3 → natAbs (multiplier m k o) ≤ 20
     few k h = multiplier-size m m2 m3 k h o l
 
 -- the parts of both ends as the code has them make a basis
-module _ (k m u : ℕ) (b : Basis) (smooth : Smooth k m) (m2 : 2 ≤ m) (m3 : m ≤ 3) (h : u ≤ steps) (p q : ℤ) (ep : p ≡ pos (steps - u)) (eq : q ≡ pos u) (E : ℕ → ℤ) where
+module _ (k m u : ℕ) (b : Basis) (smooth : Smooth k m) (m2 : 2 ≤ m) (m3 : m ≤ 3) (h : u ≤ steps) (p q : ℤ) (ep : p ≡ pos (steps - u))
+    (eq : q ≡ pos u) (E : ℕ → ℤ) where
   abbrev parts : ℤ → ℤ → ℕ → ℤ
   parts x y o = sum 3 (λ i. multiplier m i o *ℤ weight k x y (2 * m - 1) i)
 

@@ -1,4 +1,5 @@
--- One end: the rule of its conversion, each way, reads the numbers of its orders only and gives at most 32 times them; three rows by three numbers.
+-- One end: the rule of its conversion, each way, reads the numbers of its orders only and gives at most 32 times them; three rows by three
+-- numbers.
 use mathlib.Core.Path.{_≡_, refl, ap, ap₂, _∙_}
 use mathlib.Core.Bool.{Bool}
 use Prim.Native.Nat.{ℕ, _*_, _^_, _≤_, _<_}
@@ -22,7 +23,8 @@ use Rattle.hermite.proofs.BackLaws.{unit, solved-linear, solved-sum, so
 -- ---- three rows
 
 -- a small row by three numbers does not overflow
-pub row-load : (f g : ℕ → ℤ) → ((o : ℕ) → o < 3 → natAbs (f o) ≤ 20) → ((o : ℕ) → o < 3 → natAbs (g o) ≤ 2 ^ 50) → total 3 (λ i. natAbs (f i) * natAbs (g i)) < 2 ^ 63
+pub row-load : (f g : ℕ → ℤ) → ((o : ℕ) → o < 3 → natAbs (f o) ≤ 20) → ((o : ℕ) → o < 3 → natAbs (g o) ≤ 2 ^ 50)
+    → total 3 (λ i. natAbs (f i) * natAbs (g i)) < 2 ^ 63
 unfolding total
 row-load f g h k =
     lt-of-le-of-lt (total-mono 3 (λ i. natAbs (f i) * natAbs (g i)) (λ i. 20 * 2 ^ 50) (λ i l. mul-le-mul (h i l) (k i l))) (lit< tt)
@@ -40,9 +42,11 @@ pub record Solves (p q r x y z : ℤ) : Type 0 where
   pub rd : SFits w64 (r *ℤ held (held (pos 2 *ℤ y) -ℤ held (p *ℤ x)))
   pub less-rd : SFits w64 (held (held (pos 2 *ℤ z) -ℤ held (q *ℤ x)) -ℤ held (r *ℤ held (held (pos 2 *ℤ y) -ℤ held (p *ℤ x))))
   pub second : held (held (pos 2 *ℤ y) -ℤ held (p *ℤ x)) ≡ pos 2 *ℤ y -ℤ p *ℤ x
-  pub third : held (held (held (pos 2 *ℤ z) -ℤ held (q *ℤ x)) -ℤ held (r *ℤ held (held (pos 2 *ℤ y) -ℤ held (p *ℤ x)))) ≡ pos 2 *ℤ z -ℤ q *ℤ x -ℤ r *ℤ (pos 2 *ℤ y -ℤ p *ℤ x)
+  pub third : held (held (held (pos 2 *ℤ z) -ℤ held (q *ℤ x)) -ℤ held (r *ℤ held (held (pos 2 *ℤ y) -ℤ held (p *ℤ x)))) ≡ pos
+      2 *ℤ z -ℤ q *ℤ x -ℤ r *ℤ (pos 2 *ℤ y -ℤ p *ℤ x)
 
-module _ (p q r x y z : ℤ) (hp : natAbs p ≤ 20) (hq : natAbs q ≤ 20) (hr : natAbs r ≤ 20) (hx : natAbs x ≤ 2 ^ 50) (hy : natAbs y ≤ 2 ^ 50) (hz : natAbs z ≤ 2 ^ 50) where
+module _ (p q r x y z : ℤ) (hp : natAbs p ≤ 20) (hq : natAbs q ≤ 20) (hr : natAbs r ≤ 20) (hx : natAbs x ≤ 2 ^ 50) (hy : natAbs y ≤ 2 ^ 50)
+    (hz : natAbs z ≤ 2 ^ 50) where
   pub solves-fit : Solves p q r x y z
   solves-fit = record {
     yy = fits? (search (sizes, sized, hy) depth 40) (omega arith);
@@ -75,21 +79,27 @@ multiplier-total : (m : ℕ) → 2 ≤ m → m ≤ 3 → (k : ℕ) → k < m →
 unfolding total multiplier
 multiplier-total = by-order (λ m k. total m (λ o. natAbs (multiplier m k o)) ≤ 32) (lit≤ tt) (lit≤ tt) (lit≤ tt) (lit≤ tt) (lit≤ tt)
 
-pub solved-size : (m : ℕ) → 2 ≤ m → m ≤ 3 → (y : ℕ → ℤ) → ((k : ℕ) → k < 3 → natAbs (y k) ≤ 2 ^ 50) → (o : ℕ) → o < 3 → natAbs (solved m y o) ≤ 2 ^ 62
+pub solved-size : (m : ℕ) → 2 ≤ m → m ≤ 3 → (y : ℕ → ℤ) → ((k : ℕ) → k < 3 → natAbs (y k) ≤ 2 ^ 50) → (o : ℕ) → o < 3
+    → natAbs (solved m y o) ≤ 2 ^ 62
 solved-size m m2 m3 y h o l =
-    le-trans (le-of-eq (ap natAbs (solved-linear m y o))) (le-trans (abs-weighted 3 (λ k. solved m (unit k) o) y (2 ^ 50) h) (le-trans (mul-le-mul-right (2 ^ 50) (solved-total m m2 m3 o l)) (lit≤ tt)))
+    le-trans (le-of-eq (ap natAbs (solved-linear m y o)))
+    (le-trans (abs-weighted 3 (λ k. solved m (unit k) o) y (2 ^ 50) h)
+    (le-trans (mul-le-mul-right (2 ^ 50) (solved-total m m2 m3 o l)) (lit≤ tt)))
 
 module _ (back : Bool) (m : ℕ) (m2 : 2 ≤ m) (m3 : m ≤ 3) (high : Bool) where
   pub end-depends : Depends (endRule back m high) (λ k. k < m) (λ t. t < m)
   unfolding endRule
   end-depends x y k l h =
       ap₂ (pick back) (ap (fromEnd high k) (solved-ext m m2 m3 x y k l h))
-      (sum-ext m (λ o. multiplier m k o *ℤ fromEnd high o (x o)) (λ o. multiplier m k o *ℤ fromEnd high o (y o)) (λ o p. ap (λ z. multiplier m k o *ℤ fromEnd high o z) (h o p)))
+      (sum-ext m (λ o. multiplier m k o *ℤ fromEnd high o (x o)) (λ o. multiplier m k o *ℤ fromEnd high o (y o))
+      (λ o p. ap (λ z. multiplier m k o *ℤ fromEnd high o z) (h o p)))
 
   pub end-size : (x : ℕ → ℤ) (B k : ℕ) → k < m → ((t : ℕ) → t < m → natAbs (x t) ≤ B) → natAbs (endRule back m high x k) ≤ 32 * B
   unfolding endRule
   end-size x B k l h =
       on-pick (λ z. natAbs z ≤ 32 * B) back (fromEnd high k (solved m x k)) (sum m (λ o. multiplier m k o *ℤ fromEnd high o (x o)))
-      (λ e. le-trans (le-of-eq (from-end-size high k (solved m x k) ∙ ap natAbs (solved-sum m m2 m3 x k l))) (le-trans (abs-weighted m (λ t. solved m (unit t) k) x B h)
+      (λ e. le-trans (le-of-eq (from-end-size high k (solved m x k) ∙ ap natAbs (solved-sum m m2 m3 x k l)))
+      (le-trans (abs-weighted m (λ t. solved m (unit t) k) x B h)
       (mul-le-mul-right B (le-trans (total-part m 3 (λ t. natAbs (solved m (unit t) k)) m3) (solved-total m m2 m3 k (omega arith))))))
-      (λ e. le-trans (abs-weighted m (multiplier m k) (λ o. fromEnd high o (x o)) B (λ o p. rw (from-end-size high o (x o)) (h o p))) (mul-le-mul-right B (multiplier-total m m2 m3 k l)))
+      (λ e. le-trans (abs-weighted m (multiplier m k) (λ o. fromEnd high o (x o)) B (λ o p. rw (from-end-size high o (x o)) (h o p)))
+      (mul-le-mul-right B (multiplier-total m m2 m3 k l)))

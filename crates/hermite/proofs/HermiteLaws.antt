@@ -1,5 +1,7 @@
--- One axis: coefficients and stages are linear; each coefficient and each basis number belongs to one end, and the high end is the low one mirrored.
-use mathlib.Core.Path.{_≡_, refl, sym, ap, ap₂, _∙_}
+-- One axis: coefficients and stages are linear and depend on the numbers of the cell only; each coefficient and each basis number belongs
+-- to
+-- one end, and the high end is the low one mirrored.
+use mathlib.Core.Path.{_≡_, refl, sym, ap, ap₂, _∙_, fun-ext}
 use mathlib.Core.List.{[], _∷_}
 use Prim.Native.Nat.{ℕ, zero, suc, _+_, _*_, _-_, _≤_, _<_}
 use native.Mathlib.Nat.{zero-add, suc-add}
@@ -29,11 +31,18 @@ weigh n w x j = sum n (λ i. x i *ℤ w i)
 
 unfoldable pub weigh-linear : (n : ℕ) (w : ℕ → ℤ) → Linear (weigh n w)
 weigh-linear n w =
-    record { width = n; factor = λ j i. w i; place = λ j i. i; is = λ x j. sum-ext n (λ i. x i *ℤ w i) (λ i. w i *ℤ x i) (λ i l. *ℤ-comm (x i) (w i)) }
+    record {
+      width = n;
+      factor = λ j i. w i;
+      place = λ j i. i;
+      is =
+          λ x j. sum-ext n (λ i. x i *ℤ w i) (λ i. w i *ℤ x i) (λ i l. *ℤ-comm (x i) (w i));
+    }
 
 unfoldable pub stage-linear : (k m N c u : ℕ) → Linear (stageSum k m N c u)
 unfolding stageSum forward basis
-stage-linear k m N c u = record { width = 2 * m; factor = λ j t. basis k m N u t; place = λ j t. m * c + t; is = λ x j. by-number (λ t. x (m * c + t)) }
+stage-linear k m N c u = record
+    { width = 2 * m; factor = λ j t. basis k m N u t; place = λ j t. m * c + t; is = λ x j. by-number (λ t. x (m * c + t)) }
   where
     W : ℕ → ℤ
     W i = weightAt k m N u i
@@ -47,16 +56,30 @@ stage-linear k m N c u = record { width = 2 * m; factor = λ j t. basis k m N u 
         (λ i l. sym (sum-right (2 * m) (λ t. share m i t *ℤ y t) (W i))
         ∙ sum-ext (2 * m) (λ t. share m i t *ℤ y t *ℤ W i) (λ t. share m i t *ℤ W i *ℤ y t) (λ t k. regroup (share m i t) (y t) (W i)))
         ∙ sum-swap (2 * m) (2 * m) (λ i t. share m i t *ℤ W i *ℤ y t)
-        ∙ sum-ext (2 * m) (λ t. sum (2 * m) (λ i. share m i t *ℤ W i *ℤ y t)) (λ t. basis k m N u t *ℤ y t) (λ t l. sum-right (2 * m) (λ i. share m i t *ℤ W i) (y t))
+        ∙ sum-ext (2 * m) (λ t. sum (2 * m) (λ i. share m i t *ℤ W i *ℤ y t)) (λ t. basis k m N u t *ℤ y t)
+        (λ t l. sum-right (2 * m) (λ i. share m i t *ℤ W i) (y t))
 
 -- a multiple of all numbers is a multiple of the stage
 pub stage-multiple : (k m N c u : ℕ) (z : ℤ) (x : ℕ → ℤ) (j : ℕ) → stageSum k m N c u (λ t. z *ℤ x t) j ≡ z *ℤ stageSum k m N c u x j
 unfolding stage-linear
 stage-multiple k m N c u z x j =
     stage-linear k m N c u .is (λ t. z *ℤ x t) j
-    ∙ sum-ext (2 * m) (λ t. basis k m N u t *ℤ (z *ℤ x (m * c + t))) (λ t. z *ℤ (basis k m N u t *ℤ x (m * c + t))) (λ t l. *ℤ-left-comm (basis k m N u t) z (x (m * c + t)))
+    ∙ sum-ext (2 * m) (λ t. basis k m N u t *ℤ (z *ℤ x (m * c + t))) (λ t. z *ℤ (basis k m N u t *ℤ x (m * c + t)))
+    (λ t l. *ℤ-left-comm (basis k m N u t) z (x (m * c + t)))
     ∙ sum-left (2 * m) z (λ t. basis k m N u t *ℤ x (m * c + t))
     ∙ ap (λ y. z *ℤ y) (sym (stage-linear k m N c u .is x j))
+
+-- ---- one cell and another whose numbers are the same
+
+pub forward-moved : (m c d : ℕ) (x y : ℕ → ℤ) → ((t : ℕ) → t < 2 * m → x (m * c + t) ≡ y (m * d + t)) → forward m c x ≡ forward m d y
+unfolding forward
+forward-moved m c d x y h = fun-ext (λ i.
+    sum-ext (2 * m) (λ t. share m i t *ℤ x (m * c + t)) (λ t. share m i t *ℤ y (m * d + t)) (λ t l. ap (λ z. share m i t *ℤ z) (h t l)))
+
+pub stage-moved : (k m N c d u : ℕ) (x y : ℕ → ℤ) → ((t : ℕ) → t < 2 * m → x (m * c + t) ≡ y (m * d + t)) → (i j : ℕ)
+    → stageSum k m N c u x i ≡ stageSum k m N d u y j
+unfolding stageSum
+stage-moved k m N c d u x y h i j = ap (λ (f : ℕ → ℤ). sum (2 * m) (λ i. f i *ℤ weightAt k m N u i)) (forward-moved m c d x y h)
 
 -- ---- a number of the high end
 
@@ -69,7 +92,8 @@ mirrored-suc (suc (suc o)) z = mirrored-suc o z
 pub mirrored-twice : (o k : ℕ) (z : ℤ) → mirrored o (mirrored k z) ≡ mirrored (o + k) z
 unfolding mirrored
 mirrored-twice zero k z = ap (λ (i : ℕ). mirrored i z) (sym (zero-add k))
-mirrored-twice (suc o) k z = mirrored-suc o (mirrored k z) ∙ ap negℤ (mirrored-twice o k z) ∙ sym (ap (λ (i : ℕ). mirrored i z) (suc-add o k) ∙ mirrored-suc (o + k) z)
+mirrored-twice (suc o) k z = mirrored-suc o (mirrored k z) ∙ ap negℤ (mirrored-twice o k z)
+    ∙ sym (ap (λ (i : ℕ). mirrored i z) (suc-add o k) ∙ mirrored-suc (o + k) z)
 
 pub mirrored-mul : (o : ℕ) (x z : ℤ) → mirrored o x *ℤ z ≡ mirrored o (x *ℤ z)
 unfolding mirrored
@@ -131,8 +155,10 @@ module _ (m c : ℕ) (m2 : 2 ≤ m) (m3 : m ≤ 3) (x : ℕ → ℤ) where
   forward-low i l =
       sum-ends m m2 m3 (λ t. share m i t *ℤ x (m * c + t))
       ∙ ap₂ _+ℤ_
-      (sum-ext m (λ o. share m i o *ℤ x (m * c + o)) (λ o. multiplier m i o *ℤ x (m * c + o)) (λ o p. ap (λ z. z *ℤ x (m * c + o)) (share-low m i o l p)))
-      (sum-zero m (λ o. share m i (m + o) *ℤ x (m * c + (m + o))) (λ o p. ap (λ z. z *ℤ x (m * c + (m + o))) (share-cross m i (m + o) l (omega arith)) ∙ zero-*ℤ (x (m * c + (m + o)))))
+      (sum-ext m (λ o. share m i o *ℤ x (m * c + o)) (λ o. multiplier m i o *ℤ x (m * c + o))
+      (λ o p. ap (λ z. z *ℤ x (m * c + o)) (share-low m i o l p)))
+      (sum-zero m (λ o. share m i (m + o) *ℤ x (m * c + (m + o)))
+      (λ o p. ap (λ z. z *ℤ x (m * c + (m + o))) (share-cross m i (m + o) l (omega arith)) ∙ zero-*ℤ (x (m * c + (m + o)))))
       ∙ +ℤ-idr (sum m (λ o. multiplier m i o *ℤ x (m * c + o)))
 
   pub forward-high : (k : ℕ) → k < m → forward m c x (2 * m - 1 - k) ≡ sum m (λ o. multiplier m k o *ℤ mirrored o (x (m * c + (m + o))))
@@ -140,9 +166,11 @@ module _ (m c : ℕ) (m2 : 2 ≤ m) (m3 : m ≤ 3) (x : ℕ → ℤ) where
   forward-high k l =
       sum-ends m m2 m3 (λ t. share m (2 * m - 1 - k) t *ℤ x (m * c + t))
       ∙ ap₂ _+ℤ_
-      (sum-zero m (λ o. share m (2 * m - 1 - k) o *ℤ x (m * c + o)) (λ o p. ap (λ z. z *ℤ x (m * c + o)) (share-across m (2 * m - 1 - k) o (omega arith) p) ∙ zero-*ℤ (x (m * c + o))))
+      (sum-zero m (λ o. share m (2 * m - 1 - k) o *ℤ x (m * c + o))
+      (λ o p. ap (λ z. z *ℤ x (m * c + o)) (share-across m (2 * m - 1 - k) o (omega arith) p) ∙ zero-*ℤ (x (m * c + o))))
       (sum-ext m (λ o. share m (2 * m - 1 - k) (m + o) *ℤ x (m * c + (m + o))) (λ o. multiplier m k o *ℤ mirrored o (x (m * c + (m + o))))
-      (λ o p. ap (λ z. z *ℤ x (m * c + (m + o))) (share-high m k o l) ∙ mirrored-mul o (multiplier m k o) (x (m * c + (m + o))) ∙ sym (mul-mirrored o (multiplier m k o) (x (m * c + (m + o))))))
+      (λ o p. ap (λ z. z *ℤ x (m * c + (m + o))) (share-high m k o l) ∙ mirrored-mul o (multiplier m k o) (x (m * c + (m + o)))
+      ∙ sym (mul-mirrored o (multiplier m k o) (x (m * c + (m + o))))))
       ∙ +ℤ-idl (sum m (λ o. multiplier m k o *ℤ mirrored o (x (m * c + (m + o)))))
 
 -- ---- what a stage takes
@@ -165,9 +193,11 @@ weight-mirrored zero a b d i h =
 weight-mirrored (suc k) a b d i h =
     let again : d - (d - i) ≡ i = omega arith in
     ap₂ _-ℤ_
-    (by-factor (d - i) _ _ (λ l. (let e : d - i - 1 ≡ d - 1 - i = omega arith in ap (weight k a b (d - 1)) e) ∙ weight-mirrored k a b (d - 1) i (omega arith)))
+    (by-factor (d - i) _ _ (λ l. (let e : d - i - 1 ≡ d - 1 - i = omega arith in ap (weight k a b (d - 1)) e)
+    ∙ weight-mirrored k a b (d - 1) i (omega arith)))
     (ap (λ (j : ℕ). pos j *ℤ weight k a b (d - 1) (d - i)) again
-    ∙ by-factor i _ _ (λ l. (let e : d - i ≡ d - 1 - (i - 1) = omega arith in ap (weight k a b (d - 1)) e) ∙ weight-mirrored k a b (d - 1) (i - 1) (omega arith)))
+    ∙ by-factor i _ _ (λ l. (let e : d - i ≡ d - 1 - (i - 1) = omega arith in ap (weight k a b (d - 1)) e)
+    ∙ weight-mirrored k a b (d - 1) (i - 1) (omega arith)))
     ∙ ap₂ _-ℤ_ (mul-mirrored k (pos (d - i)) (weight k b a (d - 1) i)) (mul-mirrored k (pos i) (weight k b a (d - 1) (i - 1)))
     ∙ turn (pos i *ℤ weight k b a (d - 1) (i - 1)) (pos (d - i) *ℤ weight k b a (d - 1) i)
   where
@@ -201,7 +231,8 @@ module _ (k m N u : ℕ) (m2 : 2 ≤ m) (m3 : m ≤ 3) where
       (sum-ext m (λ i. share m (2 * m - 1 - i) (m + o) *ℤ w (2 * m - 1 - i)) (λ i. mirrored (o + k) (multiplier m i o *ℤ v i))
       (λ i p.
       ap₂ _*ℤ_ (share-high m i o p) (weight-mirrored k (pos (N - u)) (pos u) (2 * m - 1) i (omega arith))
-      ∙ mirrored-mul o (multiplier m i o) (mirrored k (v i)) ∙ ap (mirrored o) (mul-mirrored k (multiplier m i o) (v i)) ∙ mirrored-twice o k (multiplier m i o *ℤ v i)))
+      ∙ mirrored-mul o (multiplier m i o) (mirrored k (v i)) ∙ ap (mirrored o) (mul-mirrored k (multiplier m i o) (v i))
+      ∙ mirrored-twice o k (multiplier m i o *ℤ v i)))
       ∙ +ℤ-idl (sum m (λ i. mirrored (o + k) (multiplier m i o *ℤ v i)))
       ∙ sum-mirrored m (o + k) (λ i. multiplier m i o *ℤ v i)
     where

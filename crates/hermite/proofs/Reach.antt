@@ -1,4 +1,5 @@
--- How far a stage can move where each number of the two ends moves by at most one: 5/4 for a dose and 5 for a slope, for any number of steps; and where a number of order o
+-- How far a stage can move where each number of the two ends moves by at most one: 5/4 for a dose and 5 for a slope, for any number of
+-- steps; and where a number of order o
 -- moves by at most 2^o: 8/5 and 16.
 use mathlib.Core.Path.{_≡_, sym, ap, ap₂, subst, _∙_}
 use mathlib.Core.List.{[], _∷_}
@@ -51,7 +52,8 @@ unfolding numberApart
 number-apart k m a b m2 m3 o l =
     le-trans (le-of-eq (ap natAbs (end-form k m (pos a) (pos b) o)))
     (le-trans (abs-sum m (λ j. row k m j o *ℤ power j))
-    (le-of-eq (total-ext m (λ j. natAbs (row k m j o *ℤ power j)) (λ j. natAbs (row k m j o) * natAbs (power j)) (λ j p. abs-mul (row k m j o) (power j)))))
+    (le-of-eq (total-ext m (λ j. natAbs (row k m j o *ℤ power j)) (λ j. natAbs (row k m j o) * natAbs (power j))
+    (λ j p. abs-mul (row k m j o) (power j)))))
   where
     power : ℕ → ℤ
     power j = pos a ^ℤ (top k m - j) *ℤ pos b ^ℤ j
@@ -62,7 +64,8 @@ apart g k m a b = total m (λ o. numberApart k m a b o * g o)
 end-apart : (g : ℕ → ℕ) (k m a b : ℕ) → 2 ≤ m → m ≤ 3 → endSpread g k m a b ≤ apart g k m a b
 unfolding endSpread apart
 end-apart g k m a b m2 m3 =
-    total-mono m (λ o. natAbs (endBasis k m (pos a) (pos b) o) * g o) (λ o. numberApart k m a b o * g o) (λ o l. mul-le-mul-right (g o) (number-apart k m a b m2 m3 o l))
+    total-mono m (λ o. natAbs (endBasis k m (pos a) (pos b) o) * g o) (λ o. numberApart k m a b o * g o)
+    (λ o l. mul-le-mul-right (g o) (number-apart k m a b m2 m3 o l))
 
 -- ---- N to a power, where N = a + b, as a product
 
@@ -92,12 +95,14 @@ unfoldable pub growth : ℕ → ℕ
 growth zero = 8
 growth (suc k) = 80
 
-apart-growth : (k m : ℕ) → Smooth k m → 2 ≤ m → m ≤ 3 → (a b : ℕ) → 5 * (apart (λ o. 2 ^ o) k m a b + apart (λ o. 2 ^ o) k m b a) ≤ growth k * divisor k m (a + b)
+apart-growth : (k m : ℕ) → Smooth k m → 2 ≤ m → m ≤ 3 → (a b : ℕ)
+    → 5 * (apart (λ o. 2 ^ o) k m a b + apart (λ o. 2 ^ o) k m b a) ≤ growth k * divisor k m (a + b)
 unfolding divisor apart numberApart total row top multiplier growth pick
 apart-growth zero m h = by-m (λ m. (a b : ℕ) → 5 * (apart (λ o. 2 ^ o) 0 m a b + apart (λ o. 2 ^ o) 0 m b a) ≤ 8 * divisor 0 m (a + b))
     (λ a b. rw (third (a + b)) (omega arith))
     (λ a b. rw (fifth (a + b)) (omega arith)) m
-apart-growth (suc zero) m h = by-m (λ m. (a b : ℕ) → 5 * (apart (λ o. 2 ^ o) 1 m a b + apart (λ o. 2 ^ o) 1 m b a) ≤ 80 * divisor 1 m (a + b))
+apart-growth (suc zero) m h =
+    by-m (λ m. (a b : ℕ) → 5 * (apart (λ o. 2 ^ o) 1 m a b + apart (λ o. 2 ^ o) 1 m b a) ≤ 80 * divisor 1 m (a + b))
     (λ a b. rw (second (a + b)) (omega arith))
     (λ a b. rw (fourth (a + b)) (omega arith)) m
 apart-growth (suc (suc k)) m h = absurd (omega arith)
@@ -188,7 +193,8 @@ unfoldable pub gain : ℕ → ℕ
 gain zero = 5
 gain (suc k) = 20
 
-ends-gain : (k m : ℕ) → Smooth k m → 2 ≤ m → m ≤ 3 → (a b : ℕ) → 4 * (endSpread one k m a b + endSpread one k m b a) ≤ gain k * divisor k m (a + b)
+ends-gain : (k m : ℕ) → Smooth k m → 2 ≤ m → m ≤ 3 → (a b : ℕ)
+    → 4 * (endSpread one k m a b + endSpread one k m b a) ≤ gain k * divisor k m (a + b)
 unfolding gain divisor
 ends-gain zero m h m2 m3 a b =
     le-trans (mul-le-mul-left 4 (add-le-add (end-apart one 0 m a b m2 m3) (end-apart one 0 m b a m2 m3))) (dose-reach m m2 m3 a b)
@@ -198,9 +204,11 @@ ends-gain (suc zero) m h m2 m3 a b =
     (rw (fourth (a + b)) (omega (arith, quintic-slope a b))) m m2 m3
 ends-gain (suc (suc k)) m h m2 m3 a b = absurd (omega arith)
 
-ends-growth : (k m : ℕ) → Smooth k m → 2 ≤ m → m ≤ 3 → (a b : ℕ) → 5 * (endSpread (λ o. 2 ^ o) k m a b + endSpread (λ o. 2 ^ o) k m b a) ≤ growth k * divisor k m (a + b)
+ends-growth : (k m : ℕ) → Smooth k m → 2 ≤ m → m ≤ 3 → (a b : ℕ)
+    → 5 * (endSpread (λ o. 2 ^ o) k m a b + endSpread (λ o. 2 ^ o) k m b a) ≤ growth k * divisor k m (a + b)
 ends-growth k m h m2 m3 a b =
-    le-trans (mul-le-mul-left 5 (add-le-add (end-apart (λ o. 2 ^ o) k m a b m2 m3) (end-apart (λ o. 2 ^ o) k m b a m2 m3))) (apart-growth k m h m2 m3 a b)
+    le-trans (mul-le-mul-left 5 (add-le-add (end-apart (λ o. 2 ^ o) k m a b m2 m3) (end-apart (λ o. 2 ^ o) k m b a m2 m3)))
+    (apart-growth k m h m2 m3 a b)
 
 -- where each number moves by at most one
 unfoldable pub reach : ℕ → ℕ → ℕ → ℕ → ℕ
@@ -218,7 +226,9 @@ module _ (k m N u : ℕ) (smooth : Smooth k m) (m2 : 2 ≤ m) (m3 : m ≤ 3) (h 
   unfolding reach spread
   reach-gain =
       subst (λ (M : ℕ). 4 * reach k m N u ≤ gain k * divisor k m M) rejoined
-      (le-trans (mul-le-mul-left 4 (le-of-eq (total-ext (2 * m) (λ t. natAbs (basis k m N u t)) (λ t. natAbs (basis k m N u t) * 1) (λ t l. sym (mul-one (natAbs (basis k m N u t)))) ∙ spread-ends one k m N u m2 m3)))
+      (le-trans (mul-le-mul-left 4
+      (le-of-eq (total-ext (2 * m) (λ t. natAbs (basis k m N u t)) (λ t. natAbs (basis k m N u t) * 1)
+      (λ t l. sym (mul-one (natAbs (basis k m N u t)))) ∙ spread-ends one k m N u m2 m3)))
       (ends-gain k m smooth m2 m3 (N - u) u))
 
   pub coarse-growth : 5 * coarse k m N u ≤ growth k * divisor k m N

@@ -43,7 +43,8 @@ module _ (k m N c u : ℕ) (x : ℕ → ℤ) (B : ℕ) (small : (t : ℕ) → t 
 
   pub stage-size : (j : ℕ) → natAbs (stageSum k m N c u x j) ≤ coarse k m N u * B
   unfolding coarse stage-linear
-  stage-size j = le-trans (le-of-eq (ap natAbs (stage-linear k m N c u .is x j))) (graded-sum (2 * m) (basis k m N u) (λ t. x (m * c + t)) (λ t. 2 ^ (t % m)) B small)
+  stage-size j = le-trans (le-of-eq (ap natAbs (stage-linear k m N c u .is x j)))
+      (graded-sum (2 * m) (basis k m N u) (λ t. x (m * c + t)) (λ t. 2 ^ (t % m)) B small)
 
   module _ (round : Rounding) (sound : Sound round) (smooth : Smooth k m) (m2 : 2 ≤ m) (m3 : m ≤ 3) (some : 0 < N) (h : u ≤ N) (j : ℕ) where
     most : 5 * coarse k m N u ≤ growth k * divisor k m N

@@ -1,4 +1,5 @@
--- The code's stage: the sum by the folded basis is the document's, and no sum on the way leaves 64 bits where the numbers are within 2^21, doubled with each order.
+-- The code's stage: the sum by the folded basis is the document's, and no sum on the way leaves 64 bits where the numbers are within 2^21,
+-- doubled with each order.
 use mathlib.Core.Bool.{Bool, true, false}
 use mathlib.Core.Path.{_≡_, refl, sym, ap, ap₂, _∙_}
 use Prim.Native.Nat.{ℕ, zero, suc, _+_, _*_, _-_, _%_, _^_, _≤_, _<_}
@@ -33,7 +34,8 @@ use Rattle.hermite.proofs.Sizes.{stage-total}
 -- three numbers x by a row that has nothing from order m on
 module _ (m : ℕ) (m2 : 2 ≤ m) (m3 : m ≤ 3) (r x : ℕ → ℤ) (none : (o : ℕ) → m ≤ o → o < 3 → r o ≡ pos 0) where
   -- they count as far as order m only
-  pub end-sum : (B y : ℕ → ℤ) → ((o : ℕ) → o < m → r o ≡ B o) → ((o : ℕ) → o < m → x o ≡ y o) → sum 3 (λ o. r o *ℤ x o) ≡ sum m (λ o. B o *ℤ y o)
+  pub end-sum : (B y : ℕ → ℤ) → ((o : ℕ) → o < m → r o ≡ B o) → ((o : ℕ) → o < m → x o ≡ y o)
+      → sum 3 (λ o. r o *ℤ x o) ≡ sum m (λ o. B o *ℤ y o)
   end-sum B y is same =
       sum-three m m2 m3 (λ o. r o *ℤ x o) (λ o h l. ap (λ z. z *ℤ x o) (none o h l) ∙ zero-*ℤ (x o))
       ∙ sum-ext m (λ o. r o *ℤ x o) (λ o. B o *ℤ y o) (λ o l. ap₂ _*ℤ_ (is o l) (same o l))
@@ -41,8 +43,10 @@ module _ (m : ℕ) (m2 : 2 ≤ m) (m3 : m ≤ 3) (r x : ℕ → ℤ) (none : (o 
   end-total : (B y : ℕ → ℤ) → ((o : ℕ) → o < m → r o ≡ B o) → ((o : ℕ) → o < m → x o ≡ y o)
       → total 3 (λ o. natAbs (r o) * natAbs (x o)) ≡ total m (λ o. natAbs (B o) * natAbs (y o))
   end-total B y is same =
-      total-three m m2 m3 (λ o. natAbs (r o) * natAbs (x o)) (λ o h l. ap (λ z. natAbs z * natAbs (x o)) (none o h l) ∙ zero-mul (natAbs (x o)))
-      ∙ total-ext m (λ o. natAbs (r o) * natAbs (x o)) (λ o. natAbs (B o) * natAbs (y o)) (λ o l. ap₂ (λ z w. natAbs z * natAbs w) (is o l) (same o l))
+      total-three m m2 m3 (λ o. natAbs (r o) * natAbs (x o))
+      (λ o h l. ap (λ z. natAbs z * natAbs (x o)) (none o h l) ∙ zero-mul (natAbs (x o)))
+      ∙ total-ext m (λ o. natAbs (r o) * natAbs (x o)) (λ o. natAbs (B o) * natAbs (y o))
+      (λ o l. ap₂ (λ z w. natAbs z * natAbs w) (is o l) (same o l))
 
 -- a basis has nothing from order m on
 pub folds-none : {k m u : ℕ} {b : Basis} → Folds k m u b → (o : ℕ) → m ≤ o → o < 3 → (at (b .low) o ≡ pos 0) × (at (b .high) o ≡ pos 0)
@@ -80,7 +84,8 @@ module _ {k m u : ℕ} {b : Basis} (f : Folds k m u b) (low high y : ℕ → ℤ
       ap₂ _+ℤ_
       (end-sum m (f .m-low) (f .m-high) (at (b .low)) low (λ o h l. none o h l .0) (basis k m steps u) (λ o. y (m * 0 + o)) low-is
       (λ o l. lows o l ∙ from-first o))
-      (end-sum m (f .m-low) (f .m-high) (at (b .high)) high (λ o h l. none o h l .1) (λ o. basis k m steps u (m + o)) (λ o. y (m * 0 + (m + o))) high-is
+      (end-sum m (f .m-low) (f .m-high) (at (b .high)) high (λ o h l. none o h l .1) (λ o. basis k m steps u (m + o))
+      (λ o. y (m * 0 + (m + o))) high-is
       (λ o l. highs o l ∙ from-first (m + o)))
       ∙ sym (by-ends k m steps 0 u (f .m-low) (f .m-high) y 0)
 
@@ -91,7 +96,8 @@ module _ {k m u : ℕ} {b : Basis} (f : Folds k m u b) (low high y : ℕ → ℤ
         le-trans
         (le-of-eq
         (ap₂ _+_ (end-total m (f .m-low) (f .m-high) (at (b .low)) low (λ o h l. none o h l .0) (basis k m steps u) y low-is lows)
-        (end-total m (f .m-low) (f .m-high) (at (b .high)) high (λ o h l. none o h l .1) (λ o. basis k m steps u (m + o)) (λ o. y (m + o)) high-is highs)
+        (end-total m (f .m-low) (f .m-high) (at (b .high)) high (λ o h l. none o h l .1) (λ o. basis k m steps u (m + o))
+        (λ o. y (m + o)) high-is highs)
         ∙ sym (total-ends m (f .m-low) (f .m-high) (λ t. natAbs (basis k m steps u t) * natAbs (y t)))
         ∙ total-ext (2 * m) (λ t. natAbs (basis k m steps u t) * natAbs (y t)) (λ t. natAbs (basis k m steps u t) * natAbs (y (m * 0 + t)))
         (λ t l. ap (λ z. natAbs (basis k m steps u t) * natAbs z) (from-first t))))
@@ -100,7 +106,8 @@ module _ {k m u : ℕ} {b : Basis} (f : Folds k m u b) (low high y : ℕ → ℤ
     -- what a stage asks for
     pub stage-fits : B ≤ 2 ^ 21 → load b low high ≤ 2 ^ 63 - 2 ^ 45
     stage-fits h =
-        let c = mul-le-mul (le-trans (coarse-growth k m steps u (f .smooth) (f .m-low) (f .m-high) (f .step)) (growth-small k m (f .smooth) (f .m-low) (f .m-high))) h in
+        let c = mul-le-mul (le-trans (coarse-growth k m steps u (f .smooth) (f .m-low) (f .m-high) (f .step))
+        (growth-small k m (f .smooth) (f .m-low) (f .m-high))) h in
         let l = load-size in
         omega arith
 
@@ -162,7 +169,8 @@ module _ (b : Basis) (low high : ℕ → ℤ) (small : load b low high ≤ 2 ^ 6
   high-fits = omega arith
 
   -- the two sums, added
-  module _ (p q : ℤ) (hp : mag p < 2 ^ 63) (hq : mag q < 2 ^ 63) (ep : p ≡ sum 3 (λ o. at (b .low) o *ℤ low o)) (eq : q ≡ sum 3 (λ o. at (b .high) o *ℤ high o)) where
+  module _ (p q : ℤ) (hp : mag p < 2 ^ 63) (hq : mag q < 2 ^ 63) (ep : p ≡ sum 3 (λ o. at (b .low) o *ℤ low o))
+      (eq : q ≡ sum 3 (λ o. at (b .high) o *ℤ high o)) where
     added : held p +ℤ held q ≡ weighted b low high
     unfolding weighted
     added = ap₂ _+ℤ_ (read p hp ∙ ep) (read q hq ∙ eq)
@@ -175,7 +183,8 @@ module _ (b : Basis) (low high : ℕ → ℤ) (small : load b low high ≤ 2 ^ 6
         (le-trans (add-le-add (part (at (b .low)) low) (part (at (b .high)) high)) small))
       where
         part : (f g : ℕ → ℤ) → natAbs (sum 3 (λ o. f o *ℤ g o)) ≤ total 3 (λ o. natAbs (f o) * natAbs (g o))
-        part f g = dot-sum 3 f g (total 3 (λ o. natAbs (f o) * natAbs (g o))) (le-refl (total 3 (λ o. natAbs (f o) * natAbs (g o)))) 3 (lit≤ tt)
+        part f g = dot-sum 3 f g (total 3 (λ o. natAbs (f o) * natAbs (g o))) (le-refl (total 3 (λ o. natAbs (f o) * natAbs (g o)))) 3
+            (lit≤ tt)
 
     pub added-fits : SFits w64 (held p +ℤ held q)
     added-fits = sfits-abs (held p +ℤ held q) (lt-of-le-of-lt added-size (lit< tt))

@@ -1,4 +1,5 @@
--- The table's rows; what a stage takes of an end as a polynomial in the distances; at step 0 and at step N a stage is a number of that end alone: the value for a dose,
+-- The table's rows; what a stage takes of an end as a polynomial in the distances; at step 0 and at step N a stage is a number of that end
+-- alone: the value for a dose,
 -- D for a slope. So a stage depends on the point and not on the cell.
 use mathlib.Core.Path.{_≡_, refl, sym, ap, ap₂, subst, _∙_, fun-ext}
 use mathlib.Core.List.{[], _∷_}
@@ -73,7 +74,8 @@ row-none (suc k) m j o h =
 
 -- a sum of differences, by the numbers that they share
 by-parts : (d : ℕ) (M W : ℕ → ℤ) (m : ℕ)
-    → sum m (λ i. M i *ℤ (pos i *ℤ W (i - 1) -ℤ pos (d - i) *ℤ W i)) +ℤ pos m *ℤ M m *ℤ W (m - 1) ≡ sum m (λ j. (pos (suc j) *ℤ M (suc j) -ℤ pos (d - j) *ℤ M j) *ℤ W j)
+    → sum m (λ i. M i *ℤ (pos i *ℤ W (i - 1) -ℤ pos (d - i) *ℤ W i)) +ℤ pos m *ℤ M m *ℤ W (m - 1) ≡ sum m
+    (λ j. (pos (suc j) *ℤ M (suc j) -ℤ pos (d - j) *ℤ M j) *ℤ W j)
 unfolding sum
 by-parts d M W zero = ap (λ z. pos 0 +ℤ z *ℤ W (0 - 1)) (zero-*ℤ (M 0)) ∙ ap (λ z. pos 0 +ℤ z) (zero-*ℤ (W (0 - 1)))
 by-parts d M W (suc m) =
@@ -89,13 +91,15 @@ by-parts d M W (suc m) =
     regroup s x y i j e v w = ring! (s ∷ x ∷ y ∷ i ∷ j ∷ e ∷ v ∷ w ∷ []) (search quotes depth 60) tt
 
 -- rows by weights: each derivative of the weights goes over to the rows
-rows-by : (k e m o : ℕ) (a b : ℤ) → sum m (λ i. row e m i o *ℤ weight k a b (2 * m - 1 - e) i) ≡ sum m (λ j. row (e + k) m j o *ℤ (a ^ℤ (top (e + k) m - j) *ℤ b ^ℤ j))
+rows-by : (k e m o : ℕ) (a b : ℤ)
+    → sum m (λ i. row e m i o *ℤ weight k a b (2 * m - 1 - e) i) ≡ sum m (λ j. row (e + k) m j o *ℤ (a ^ℤ (top (e + k) m - j) *ℤ b ^ℤ j))
 unfolding weight top row
 rows-by zero e m o a b = ap (λ (i : ℕ). sum m (λ j. row i m j o *ℤ (a ^ℤ (2 * m - 1 - i - j) *ℤ b ^ℤ j))) (sym (add-zero e))
 rows-by (suc k) e m o a b =
     sym (+ℤ-idr (sum m (λ i. row e m i o *ℤ weight (suc k) a b (2 * m - 1 - e) i)))
     ∙ ap (λ z. sum m (λ i. row e m i o *ℤ weight (suc k) a b (2 * m - 1 - e) i) +ℤ z)
-    (sym (ap (λ z. pos m *ℤ z *ℤ W (m - 1)) (row-none e m m o (le-refl m)) ∙ ap (λ z. z *ℤ W (m - 1)) (*ℤ-zero (pos m)) ∙ zero-*ℤ (W (m - 1))))
+    (sym (ap (λ z. pos m *ℤ z *ℤ W (m - 1)) (row-none e m m o (le-refl m)) ∙ ap (λ z. z *ℤ W (m - 1)) (*ℤ-zero (pos m))
+    ∙ zero-*ℤ (W (m - 1))))
     ∙ by-parts (2 * m - 1 - e) (λ i. row e m i o) W m
     ∙ ap (λ (i : ℕ). sum m (λ j. row (suc e) m j o *ℤ weight k a b i j)) (one-less (2 * m - 1) e)
     ∙ rows-by k (suc e) m o a b
@@ -111,18 +115,23 @@ pub end-form : (k m : ℕ) (a b : ℤ) (o : ℕ) → endBasis k m a b o ≡ sum 
 unfolding endBasis row
 end-form k m a b o =
     sum-ext m (λ i. multiplier m i o *ℤ weight k a b (2 * m - 1) i) (λ i. row 0 m i o *ℤ weight k a b (2 * m - 1 - 0) i)
-    (λ i l. ap₂ (λ (x : ℤ) (d : ℕ). x *ℤ weight k a b d i) (sym (pick-true (ltb i m) (multiplier m i o) (pos 0) (lt-ltb i m l))) (sym (sub-zero (2 * m - 1))))
+    (λ i l. ap₂ (λ (x : ℤ) (d : ℕ). x *ℤ weight k a b d i) (sym (pick-true (ltb i m) (multiplier m i o) (pos 0) (lt-ltb i m l)))
+    (sym (sub-zero (2 * m - 1))))
     ∙ rows-by k 0 m o a b ∙ ap (λ (i : ℕ). sum m (λ j. row i m j o *ℤ (a ^ℤ (top i m - j) *ℤ b ^ℤ j))) (zero-add k)
 
 -- the weights of a slope, as document 01 writes them
-pub slope-weight : (a b : ℤ) (d i : ℕ) → i ≤ d → weight 1 a b d i ≡ pos i *ℤ (a ^ℤ (d - i) *ℤ b ^ℤ (i - 1)) -ℤ pos (d - i) *ℤ (a ^ℤ (d - i - 1) *ℤ b ^ℤ i)
+pub slope-weight : (a b : ℤ) (d i : ℕ) → i ≤ d
+    → weight 1 a b d i ≡ pos i *ℤ (a ^ℤ (d - i) *ℤ b ^ℤ (i - 1)) -ℤ pos (d - i) *ℤ (a ^ℤ (d - i - 1) *ℤ b ^ℤ i)
 unfolding weight
-slope-weight a b d zero h = ap₂ _-ℤ_ (zero-*ℤ (a ^ℤ (d - 1 - (0 - 1)) *ℤ b ^ℤ (0 - 1)) ∙ sym (zero-*ℤ (a ^ℤ (d - 0) *ℤ b ^ℤ (0 - 1)))) (ap (λ (n : ℕ). pos (d - 0) *ℤ (a ^ℤ n *ℤ b ^ℤ 0)) (swapped d 0))
+slope-weight a b d zero h =
+    ap₂ _-ℤ_ (zero-*ℤ (a ^ℤ (d - 1 - (0 - 1)) *ℤ b ^ℤ (0 - 1)) ∙ sym (zero-*ℤ (a ^ℤ (d - 0) *ℤ b ^ℤ (0 - 1))))
+    (ap (λ (n : ℕ). pos (d - 0) *ℤ (a ^ℤ n *ℤ b ^ℤ 0)) (swapped d 0))
   where
     swapped : (d i : ℕ) → d - 1 - i ≡ d - i - 1
     swapped d i = omega arith
 slope-weight a b d (suc i) h =
-    ap₂ (λ (n k : ℕ). pos (suc i) *ℤ (a ^ℤ n *ℤ b ^ℤ (suc i - 1)) -ℤ pos (d - suc i) *ℤ (a ^ℤ k *ℤ b ^ℤ suc i)) (same d i) (swapped d (suc i))
+    ap₂ (λ (n k : ℕ). pos (suc i) *ℤ (a ^ℤ n *ℤ b ^ℤ (suc i - 1)) -ℤ pos (d - suc i) *ℤ (a ^ℤ k *ℤ b ^ℤ suc i)) (same d i)
+    (swapped d (suc i))
   where
     same : (d i : ℕ) → d - 1 - (suc i - 1) ≡ d - suc i
     same d i = omega arith
@@ -140,16 +149,20 @@ zero-power (suc n) h = zero-*ℤ (pos 0 ^ℤ n)
 first-row : (m : ℕ) → 2 ≤ m → m ≤ 3 → (k : ℕ) → k < m → (o : ℕ) → o < m → mirrored (o + k) (row k m 0 o) ≡ row k m 0 o
 unfolding mirrored row multiplier pick
 first-row =
-    by-order (λ m k. (o : ℕ) → o < m → mirrored (o + k) (row k m 0 o) ≡ row k m 0 o) (by-2 (λ o. mirrored (o + 0) (row 0 2 0 o) ≡ row 0 2 0 o) refl refl)
-    (by-2 (λ o. mirrored (o + 1) (row 1 2 0 o) ≡ row 1 2 0 o) refl refl) (by-3 (λ o. mirrored (o + 0) (row 0 3 0 o) ≡ row 0 3 0 o) refl refl refl)
-    (by-3 (λ o. mirrored (o + 1) (row 1 3 0 o) ≡ row 1 3 0 o) refl refl refl) (by-3 (λ o. mirrored (o + 2) (row 2 3 0 o) ≡ row 2 3 0 o) refl refl refl)
+    by-order (λ m k. (o : ℕ) → o < m → mirrored (o + k) (row k m 0 o) ≡ row k m 0 o)
+    (by-2 (λ o. mirrored (o + 0) (row 0 2 0 o) ≡ row 0 2 0 o) refl refl)
+    (by-2 (λ o. mirrored (o + 1) (row 1 2 0 o) ≡ row 1 2 0 o) refl refl)
+    (by-3 (λ o. mirrored (o + 0) (row 0 3 0 o) ≡ row 0 3 0 o) refl refl refl)
+    (by-3 (λ o. mirrored (o + 1) (row 1 3 0 o) ≡ row 1 3 0 o) refl refl refl)
+    (by-3 (λ o. mirrored (o + 2) (row 2 3 0 o) ≡ row 2 3 0 o) refl refl refl)
 
 module _ (k m : ℕ) (km : k < m) (o : ℕ) where
   nearest : (a : ℤ) → endBasis k m a (pos 0) o ≡ row k m 0 o *ℤ a ^ℤ top k m
   nearest a =
       end-form k m a (pos 0) o
       ∙ sum-first m (omega arith) (λ j. row k m j o *ℤ (a ^ℤ (top k m - j) *ℤ pos 0 ^ℤ j))
-      (λ j p q. ap (λ z. row k m j o *ℤ (a ^ℤ (top k m - j) *ℤ z)) (zero-power j p) ∙ ap (λ z. row k m j o *ℤ z) (*ℤ-zero (a ^ℤ (top k m - j))) ∙ *ℤ-zero (row k m j o))
+      (λ j p q. ap (λ z. row k m j o *ℤ (a ^ℤ (top k m - j) *ℤ z)) (zero-power j p)
+      ∙ ap (λ z. row k m j o *ℤ z) (*ℤ-zero (a ^ℤ (top k m - j))) ∙ *ℤ-zero (row k m j o))
       ∙ ap (λ z. row k m 0 o *ℤ z) (*ℤ-pos-one (a ^ℤ (top k m - 0)) ∙ ap (λ (i : ℕ). a ^ℤ i) (sub-zero (top k m)))
 
   farthest : (b : ℤ) → endBasis k m (pos 0) b o ≡ pos 0
@@ -157,7 +170,8 @@ module _ (k m : ℕ) (km : k < m) (o : ℕ) where
   farthest b =
       end-form k m (pos 0) b o
       ∙ sum-zero m (λ j. row k m j o *ℤ (pos 0 ^ℤ (top k m - j) *ℤ b ^ℤ j))
-      (λ j p. ap (λ z. row k m j o *ℤ (z *ℤ b ^ℤ j)) (zero-power (top k m - j) (omega arith)) ∙ ap (λ z. row k m j o *ℤ z) (zero-*ℤ (b ^ℤ j)) ∙ *ℤ-zero (row k m j o))
+      (λ j p. ap (λ z. row k m j o *ℤ (z *ℤ b ^ℤ j)) (zero-power (top k m - j) (omega arith))
+      ∙ ap (λ z. row k m j o *ℤ z) (zero-*ℤ (b ^ℤ j)) ∙ *ℤ-zero (row k m j o))
 
 -- ---- a stage at the ends
 
@@ -178,9 +192,12 @@ module _ (k m N c : ℕ) (m2 : 2 ≤ m) (m3 : m ≤ 3) (km : k < m) (x : ℕ →
       by-ends k m N c 0 m2 m3 x j
       ∙ ap₂ _+ℤ_
       (sum-ext m (λ o. basis k m N 0 o *ℤ x (m * c + o)) (λ o. row k m 0 o *ℤ pos N ^ℤ top k m *ℤ x (m * c + o))
-      (λ o l. ap (λ z. z *ℤ x (m * c + o)) (basis-low k m N 0 m2 m3 o l ∙ nearest k m km o (pos (N - 0)) ∙ ap (λ (i : ℕ). row k m 0 o *ℤ pos i ^ℤ top k m) (sub-zero N))))
+      (λ o l. ap (λ z. z *ℤ x (m * c + o))
+      (basis-low k m N 0 m2 m3 o l ∙ nearest k m km o (pos (N - 0)) ∙ ap (λ (i : ℕ). row k m 0 o *ℤ pos i ^ℤ top k m) (sub-zero N))))
       (sum-zero m (λ o. basis k m N 0 (m + o) *ℤ x (m * c + (m + o)))
-      (λ o l. ap (λ z. z *ℤ x (m * c + (m + o))) (basis-high k m N 0 m2 m3 o l ∙ ap (mirrored (o + k)) (farthest k m km o (pos (N - 0))) ∙ mirrored-none (o + k)) ∙ zero-*ℤ (x (m * c + (m + o)))))
+      (λ o l. ap (λ z. z *ℤ x (m * c + (m + o)))
+      (basis-high k m N 0 m2 m3 o l ∙ ap (mirrored (o + k)) (farthest k m km o (pos (N - 0))) ∙ mirrored-none (o + k))
+      ∙ zero-*ℤ (x (m * c + (m + o)))))
       ∙ +ℤ-idr (sum m (λ o. row k m 0 o *ℤ pos N ^ℤ top k m *ℤ x (m * c + o)))
 
   stage-high : stageSum k m N c N x j ≡ atEnd k m N (λ o. x (m * c + (m + o)))
@@ -189,11 +206,14 @@ module _ (k m N c : ℕ) (m2 : 2 ≤ m) (m3 : m ≤ 3) (km : k < m) (x : ℕ →
       by-ends k m N c N m2 m3 x j
       ∙ ap₂ _+ℤ_
       (sum-zero m (λ o. basis k m N N o *ℤ x (m * c + o))
-      (λ o l. ap (λ z. z *ℤ x (m * c + o)) (basis-low k m N N m2 m3 o l ∙ ap (λ (i : ℕ). endBasis k m (pos i) (pos N) o) (all N) ∙ farthest k m km o (pos N)) ∙ zero-*ℤ (x (m * c + o))))
+      (λ o l. ap (λ z. z *ℤ x (m * c + o))
+      (basis-low k m N N m2 m3 o l ∙ ap (λ (i : ℕ). endBasis k m (pos i) (pos N) o) (all N) ∙ farthest k m km o (pos N))
+      ∙ zero-*ℤ (x (m * c + o))))
       (sum-ext m (λ o. basis k m N N (m + o) *ℤ x (m * c + (m + o))) (λ o. row k m 0 o *ℤ pos N ^ℤ top k m *ℤ x (m * c + (m + o)))
       (λ o l.
       ap (λ z. z *ℤ x (m * c + (m + o)))
-      (basis-high k m N N m2 m3 o l ∙ ap (λ (i : ℕ). mirrored (o + k) (endBasis k m (pos N) (pos i) o)) (all N) ∙ ap (mirrored (o + k)) (nearest k m km o (pos N)) ∙ out o l)))
+      (basis-high k m N N m2 m3 o l ∙ ap (λ (i : ℕ). mirrored (o + k) (endBasis k m (pos N) (pos i) o)) (all N)
+      ∙ ap (mirrored (o + k)) (nearest k m km o (pos N)) ∙ out o l)))
       ∙ +ℤ-idl (sum m (λ o. row k m 0 o *ℤ pos N ^ℤ top k m *ℤ x (m * c + (m + o))))
     where
       all : (N : ℕ) → N - N ≡ 0
@@ -205,16 +225,19 @@ module _ (k m N c : ℕ) (m2 : 2 ≤ m) (m3 : m ≤ 3) (km : k < m) (x : ℕ →
 -- the last step of a cell is the first of the next
 pub stage-shared : (k m N c : ℕ) → 2 ≤ m → m ≤ 3 → k < m → stageSum k m N c N ≡ stageSum k m N (suc c) 0
 stage-shared k m N c m2 m3 km =
-    fun-ext (λ x. fun-ext (λ j. stage-high k m N c m2 m3 km x j ∙ ap (atEnd k m N) (fun-ext (λ o. ap x (next m c o))) ∙ sym (stage-low k m N (suc c) m2 m3 km x j)))
+    fun-ext (λ x. fun-ext (λ j. stage-high k m N c m2 m3 km x j ∙ ap (atEnd k m N) (fun-ext (λ o. ap x (next m c o)))
+    ∙ sym (stage-low k m N (suc c) m2 m3 km x j)))
   where
     next : (m c o : ℕ) → m * c + (m + o) ≡ m * suc c + o
     next m c o = omega arith
 
 -- two cells that contain a point: the same, or neighbours
-one-way : (k m N c c′ u u′ : ℕ) → 2 ≤ m → m ≤ 3 → k < m → u ≤ N → 0 < N → c < c′ → N * c + u ≡ N * c′ + u′ → stageSum k m N c u ≡ stageSum k m N c′ u′
+one-way : (k m N c c′ u u′ : ℕ) → 2 ≤ m → m ≤ 3 → k < m → u ≤ N → 0 < N → c < c′ → N * c + u ≡ N * c′ + u′
+    → stageSum k m N c u ≡ stageSum k m N c′ u′
 one-way k m N c c′ u u′ a b km hu hN l e =
     let f = step (c′ - suc c) (sym (gap c c′ l)) in
-    ap (λ (i : ℕ). stageSum k m N c i) (f .0) ∙ stage-shared k m N c a b km ∙ sym (ap (λ (i : ℕ). stageSum k m N c′ i) (f .1) ∙ ap (λ (i : ℕ). stageSum k m N i 0) (f .2))
+    ap (λ (i : ℕ). stageSum k m N c i) (f .0) ∙ stage-shared k m N c a b km
+    ∙ sym (ap (λ (i : ℕ). stageSum k m N c′ i) (f .1) ∙ ap (λ (i : ℕ). stageSum k m N i 0) (f .2))
   where
     gap : (c c′ : ℕ) → c < c′ → suc c + (c′ - suc c) ≡ c′
     gap c c′ l = omega arith
@@ -226,7 +249,8 @@ one-way k m N c c′ u u′ a b km hu hN l e =
         (omega arith, omega arith, omega arith)
 
 -- a stage depends on the point N·c + u, not on the cell
-pub stage-point : (k m N c c′ u u′ : ℕ) → 2 ≤ m → m ≤ 3 → k < m → 0 < N → u ≤ N → u′ ≤ N → N * c + u ≡ N * c′ + u′ → stageSum k m N c u ≡ stageSum k m N c′ u′
+pub stage-point : (k m N c c′ u u′ : ℕ) → 2 ≤ m → m ≤ 3 → k < m → 0 < N → u ≤ N → u′ ≤ N → N * c + u ≡ N * c′ + u′
+    → stageSum k m N c u ≡ stageSum k m N c′ u′
 stage-point k m N c c′ u u′ a b km hN hu hu′ e = go (decLt c c′) (decLt c′ c)
   where
     equal : (c c′ : ℕ) → (c < c′ → ⊥) → (c′ < c → ⊥) → c ≡ c′
@@ -240,4 +264,5 @@ stage-point k m N c c′ u u′ a b km hN hu hu′ e = go (decLt c c′) (decLt 
     go (no p) (yes l) = sym (one-way k m N c′ c u′ u a b km hu′ hN l (sym e))
     go (no p) (no q) =
         let f = equal c c′ p q in
-        ap (λ (i : ℕ). stageSum k m N i u) f ∙ ap (λ (i : ℕ). stageSum k m N c′ i) (cancel (N * c′) u u′ (subst (λ (i : ℕ). N * i + u ≡ N * c′ + u′) f e))
+        ap (λ (i : ℕ). stageSum k m N i u) f
+        ∙ ap (λ (i : ℕ). stageSum k m N c′ i) (cancel (N * c′) u u′ (subst (λ (i : ℕ). N * i + u ≡ N * c′ + u′) f e))

@@ -42,7 +42,8 @@ module _ (a b : ℤ) where
     ring! (a ∷ b ∷ []) (search quotes depth 40) tt,
   )
 
-  pub products-row : (m n : ℕ) → m ≡ n → (x y z : ℤ) → x ≡ product n 0 → y ≡ product n 1 → z ≡ product n 2 → (k : ℕ) → k < 3 → at (x ∷ y ∷ z ∷ []) k ≡ product m k
+  pub products-row : (m n : ℕ) → m ≡ n → (x y z : ℤ) → x ≡ product n 0 → y ≡ product n 1 → z ≡ product n 2 → (k : ℕ) → k < 3
+      → at (x ∷ y ∷ z ∷ []) k ≡ product m k
   products-row m n e x y z p q r k l = by-3 (λ k. at (x ∷ y ∷ z ∷ []) k ≡ product n k) p q r k l ∙ ap (λ (i : ℕ). product i k) (sym e)
 
   -- of a dose: one factor more, for every degree and number
@@ -55,7 +56,8 @@ module _ (a b : ℤ) where
   -- of a slope: two products, of which the first counts k times and the second d − k times, for every degree and number
   slope-weight : (m k : ℕ) → pos k *ℤ product m (k - 1) -ℤ pos (2 * m - 1 - k) *ℤ product m k ≡ weight 1 a b (2 * m - 1) k
   unfolding weight
-  slope-weight m k = ap (λ (d : ℕ). pos k *ℤ (a ^ℤ (d - (k - 1)) *ℤ b ^ℤ (k - 1)) -ℤ pos (2 * m - 1 - k) *ℤ (a ^ℤ (d - k) *ℤ b ^ℤ k)) (less m)
+  slope-weight m k = ap (λ (d : ℕ). pos k *ℤ (a ^ℤ (d - (k - 1)) *ℤ b ^ℤ (k - 1)) -ℤ pos (2 * m - 1 - k) *ℤ (a ^ℤ (d - k) *ℤ b ^ℤ k))
+      (less m)
     where
       less : (m : ℕ) → 2 * m - 2 ≡ 2 * m - 1 - 1
       less m = omega arith
@@ -68,15 +70,18 @@ module _ (a b : ℤ) where
 
   pub slope-weights : (m : ℕ) → 2 ≤ m → SlopeWeights m
   slope-weights m h = record {
-    first = ap₂ (λ (x : ℤ) (e : ℕ). x -ℤ pos e *ℤ product m 0) (sym (zero-*ℤ (product m 0))) (sym (sub-zero (2 * m - 1))) ∙ slope-weight m 0;
+    first = ap₂ (λ (x : ℤ) (e : ℕ). x -ℤ pos e *ℤ product m 0) (sym (zero-*ℤ (product m 0))) (sym (sub-zero (2 * m - 1)))
+        ∙ slope-weight m 0;
     second = ap₂ (λ x y. x -ℤ y *ℤ product m 1) (sym (pos-one-*ℤ (product m 0))) (subℕ-pos (2 * m - 1) 1 (omega arith)) ∙ slope-weight m 1;
     third = ap (λ y. pos 2 *ℤ product m 1 -ℤ y *ℤ product m 2) (subℕ-pos (2 * m - 1) 2 (omega arith)) ∙ slope-weight m 2;
   }
 
 -- three weights as an array, for the order of a branch
-pub weights-row : (order k : ℕ) → order ≡ k → (a b : ℤ) (d : ℕ) (x y z : ℤ) → x ≡ weight k a b d 0 → y ≡ weight k a b d 1 → z ≡ weight k a b d 2
+pub weights-row : (order k : ℕ) → order ≡ k → (a b : ℤ) (d : ℕ) (x y z : ℤ) → x ≡ weight k a b d 0 → y ≡ weight k a b d 1
+    → z ≡ weight k a b d 2
     → (i : ℕ) → i < 3 → at (x ∷ y ∷ z ∷ []) i ≡ weight order a b d i
-weights-row order k e a b d x y z p q r i l = by-3 (λ i. at (x ∷ y ∷ z ∷ []) i ≡ weight k a b d i) p q r i l ∙ ap (λ (s : ℕ). weight s a b d i) (sym e)
+weights-row order k e a b d x y z p q r i l = by-3 (λ i. at (x ∷ y ∷ z ∷ []) i ≡ weight k a b d i) p q r i l
+    ∙ ap (λ (s : ℕ). weight s a b d i) (sym e)
 
 -- ---- sizes
 
@@ -86,17 +91,22 @@ power-within a (suc e) h = le-trans (abs-mul-le a (a ^ℤ e) h (power-within a e
 
 pair-size : (a b : ℤ) (i j : ℕ) → natAbs a ≤ 256 → natAbs b ≤ 256 → i + j ≤ 5 → natAbs (a ^ℤ i *ℤ b ^ℤ j) ≤ 256 ^ 5
 pair-size a b i j ha hb h =
-    le-trans (abs-mul-le (a ^ℤ i) (b ^ℤ j) (power-within a i ha) (power-within b j hb)) (le-trans (le-of-eq (sym (pow-add 256 i j))) (pow-le-pow-right {n = 256} (lit< tt) h))
+    le-trans (abs-mul-le (a ^ℤ i) (b ^ℤ j) (power-within a i ha) (power-within b j hb))
+    (le-trans (le-of-eq (sym (pow-add 256 i j))) (pow-le-pow-right {n = 256} (lit< tt) h))
 
-pub product-size : (m : ℕ) → 2 ≤ m → m ≤ 3 → (a b : ℤ) → natAbs a ≤ 256 → natAbs b ≤ 256 → (k : ℕ) → k < 3 → natAbs (product a b m k) ≤ 2 ^ 40
+pub product-size : (m : ℕ) → 2 ≤ m → m ≤ 3 → (a b : ℤ) → natAbs a ≤ 256 → natAbs b ≤ 256 → (k : ℕ) → k < 3
+    → natAbs (product a b m k) ≤ 2 ^ 40
 product-size m m2 m3 a b ha hb k l = le-trans (pair-size a b (2 * m - 2 - k) k ha hb (omega arith)) (lit≤ tt)
 
-pub weight-size : (k : ℕ) → k ≤ 1 → (d : ℕ) (a b : ℤ) → 2 ≤ d → d ≤ 5 → natAbs a ≤ 256 → natAbs b ≤ 256 → (i : ℕ) → i < 3 → natAbs (weight k a b d i) ≤ 2 ^ 43
+pub weight-size : (k : ℕ) → k ≤ 1 → (d : ℕ) (a b : ℤ) → 2 ≤ d → d ≤ 5 → natAbs a ≤ 256 → natAbs b ≤ 256 → (i : ℕ) → i < 3
+    → natAbs (weight k a b d i) ≤ 2 ^ 43
 unfolding weight
 weight-size zero h d a b g l ha hb i p = le-trans (pair-size a b (d - i) i ha hb (omega arith)) (lit≤ tt)
 weight-size (suc zero) h d a b g l ha hb i p =
-    let up = abs-mul-le (pos i) (a ^ℤ (d - 1 - (i - 1)) *ℤ b ^ℤ (i - 1)) {A = 2} (omega arith) (pair-size a b (d - 1 - (i - 1)) (i - 1) ha hb (omega arith)) in
-    let down = abs-mul-le (pos (d - i)) (a ^ℤ (d - 1 - i) *ℤ b ^ℤ i) {A = 5} (omega arith) (pair-size a b (d - 1 - i) i ha hb (omega arith)) in
+    let up = abs-mul-le (pos i) (a ^ℤ (d - 1 - (i - 1)) *ℤ b ^ℤ (i - 1)) {A = 2} (omega arith)
+    (pair-size a b (d - 1 - (i - 1)) (i - 1) ha hb (omega arith)) in
+    let down = abs-mul-le (pos (d - i)) (a ^ℤ (d - 1 - i) *ℤ b ^ℤ i) {A = 5} (omega arith)
+    (pair-size a b (d - 1 - i) i ha hb (omega arith)) in
     le-trans (abs-minus (pos i *ℤ (a ^ℤ (d - 1 - (i - 1)) *ℤ b ^ℤ (i - 1))) (pos (d - i) *ℤ (a ^ℤ (d - 1 - i) *ℤ b ^ℤ i))) (omega arith)
 weight-size (suc (suc k)) h d a b g l ha hb i p = absurd (omega arith)
 

@@ -1,5 +1,6 @@
 -- One axis: the multiplier table, coefficients and back, weights, a stage. m is 2 for degree 3 and 3 for degree 5, so the degree is 2m − 1.
--- Along an axis, order o at node i stands at place m·i + o; the 2m numbers of a cell are numbered t = m·end + order. N is the number of steps of a cell.
+-- Along an axis, order o at node i stands at place m·i + o; the 2m numbers of a cell are numbered t = m·end + order. N is the number of
+-- steps of a cell.
 use Prim.Native.Nat.{ℕ, zero, suc, _+_, _*_, _-_, _^_}
 use mathlib.Core.Bool.{Bool}
 use mathlib.Core.List.{List, [], _∷_}

@@ -1,4 +1,5 @@
--- What the calls of one axis state: the basis of a step as the code holds it, the numbers of two ends, and whether numbers count units or eighths.
+-- What the calls of one axis state: the basis of a step as the code holds it, the numbers of two ends, and whether numbers count units or
+-- eighths.
 use mathlib.Core.Path.{_≡_}
 use mathlib.Core.Bool.{Bool, true, false}
 use Prim.Native.Nat.{ℕ, _+_, _*_, _-_, _≤_, _<_}

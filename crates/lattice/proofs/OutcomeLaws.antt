@@ -1,6 +1,6 @@
 -- What follows from a call that is not refused, and when it is not.
 use mathlib.Core.Path.{_≡_, refl, sym, ap, subst, _∙_}
-use mathlib.Core.Bool.{Bool, true, false}
+use mathlib.Core.Bool.{Bool, true, false, _&&_}
 use mathlib.Core.Logic.{⊎-elim}
 use Prim.Native.Nat.{ℕ, zero, suc, _+_, _*_, _<_}
 use native.Mathlib.Numerals.{add-one}
@@ -64,6 +64,23 @@ passed-done (refused n p) e = cc
 
 pub passed-not : (a : Check) → passed a ≡ false → a ≡ done tt → ⊥
 passed-not a e d = let f = ap passed d in clash (cc)
+
+pub passed-test : (t : Bool) (n p : ℕ) → passed (refuseUnless t n p) ≡ t
+passed-test true n p = refl
+passed-test false n p = refl
+
+passed-first : (a b : Check) → passed (first a b) ≡ (passed a && passed b)
+passed-first (done tt) b = refl
+passed-first (refused n p) b = refl
+
+-- tests that are passed alike
+pub passed-same : (n : ℕ) (f g : ℕ → Check) → ((i : ℕ) → i < n → passed (f i) ≡ passed (g i))
+    → passed (firstOf n f) ≡ passed (firstOf n g)
+unfolding firstOf
+passed-same zero f g h = refl
+passed-same (suc n) f g h =
+    passed-first (firstOf n f) (f n) ∙ ap (λ (b : Bool). b && passed (f n)) (passed-same n f g (λ i l. h i (omega arith)))
+    ∙ ap (λ (b : Bool). passed (firstOf n g) && b) (h n (omega arith)) ∙ sym (passed-first (firstOf n g) (g n))
 
 pub firstOf-each : (n : ℕ) (test : ℕ → Check) → firstOf n test ≡ done tt → (a : ℕ) → a < n → test a ≡ done tt
 unfolding firstOf

@@ -74,6 +74,22 @@ table-shape s l h =
     (passes (leb 1 (s .axes) && leb (s .axes) 3) 1 0
     (true-and (leb 1 (s .axes)) (leb (s .axes) 3) (le-leb 1 (s .axes) l) (le-leb (s .axes) 3 h))))
 
+-- the facts of a shape whose counts are not refused
+pub counts-shaped : (s : Shape) → 1 ≤ s .axes → s .axes ≤ 3 → countsOutcome (s .axes) (count s) ≡ done tt → Shaped s
+counts-shaped s low high h =
+    let c = counts-each (s .axes) (count s) h in
+    record {
+      axes-low = low;
+      axes-high = high;
+      low = λ a l. count-range (s .axes) (count s a) a (c a l) .0;
+      high = λ a l. count-range (s .axes) (count s a) a (c a l) .1;
+      used = λ a l. count-used (s .axes) (count s a) a (c a (within a (s .axes) l high)) l .0;
+      unused = λ a l k. count-unused (s .axes) (count s a) a (c a l) k;
+    }
+  where
+    within : (a n : ℕ) → a < n → n ≤ 3 → a < 3
+    within a n l h = omega arith
+
 pub shaped : (s : Shape) → shapeOutcome s ≡ done tt → Shaped s
 unfolding shapeOutcome
 shaped s h =
@@ -81,18 +97,7 @@ shaped s h =
     let f = first-done (axesOutcome (s .axes)) rest tt h in
     let g = first-done (degreeOutcome (s .degree)) (countsOutcome (s .axes) (count s)) tt (f .1) in
     let n = axes-range (s .axes) (f .0) in
-    let c = counts-each (s .axes) (count s) (g .1) in
-    record {
-      axes-low = n .0;
-      axes-high = n .1;
-      low = λ a l. count-range (s .axes) (count s a) a (c a l) .0;
-      high = λ a l. count-range (s .axes) (count s a) a (c a l) .1;
-      used = λ a l. count-used (s .axes) (count s a) a (c a (within a (s .axes) l (n .1))) l .0;
-      unused = λ a l k. count-unused (s .axes) (count s a) a (c a l) k;
-    }
-  where
-    within : (a n : ℕ) → a < n → n ≤ 3 → a < 3
-    within a n l h = omega arith
+    counts-shaped s (n .0) (n .1) (g .1)
 
 -- ---- m
 

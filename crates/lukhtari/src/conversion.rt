@@ -2,7 +2,8 @@
 ghost use mathlib.Core.Path.{_≡_};
 ghost use lib.ListN.{length};
 ghost use Rattle.cell.specs.Cell.{placeAt};
-ghost use Rattle.coefficients.specs.Corners.{coefficientsOutcome, coefficientsWrites, backOutcome, backWrites};
+ghost use Rattle.coefficients.specs.Coefficients.{coefficientsOutcome, coefficientsWrites};
+ghost use Rattle.corners.specs.Corners.{backOutcome, backWrites};
 ghost use Rattle.lukhtari.specs.Host.{doneOf};
 use crate::Done;
 use crate::Index;

@@ -1,4 +1,5 @@
--- Where a position stands: the query by position is the query by the cell and the in-cell step of the number that stands for it in two's complement.
+-- Where a position stands: the query by position is the query by the cell and the in-cell step of the number that stands for it in two's
+-- complement.
 use mathlib.Core.Path.{_≡_, refl, sym, ap, ap₂, subst, _∙_, fun-ext}
 use mathlib.Core.Bool.{Bool, true, false, _&&_}
 use mathlib.Core.List.{List, [], _∷_}
@@ -81,7 +82,8 @@ same-test false true f g = g refl
 same-test false false f g = refl
 
 -- 11 of the in-cell step is 11 of the position, on a used axis
-used-test : (c : ℕ) (p : ℤ) (b : ℕ) → 2 ≤ c → c ≤ 64 → StandsFor p b → leb (b - steps * cellOf steps c b) steps ≡ (nonNeg p && leb (natAbs p) (steps * (c - 1)))
+used-test : (c : ℕ) (p : ℤ) (b : ℕ) → 2 ≤ c → c ≤ 64 → StandsFor p b
+    → leb (b - steps * cellOf steps c b) steps ≡ (nonNeg p && leb (natAbs p) (steps * (c - 1)))
 unfolding cellOf
 used-test c (pos n) b h k s =
     let e = s .low refl in
@@ -91,7 +93,8 @@ used-test c (pos n) b h k s =
 used-test c (negsuc n) b h k s = let e = s .high refl in lt-leb (b - steps * cellOf steps c b) steps (omega arith)
 
 -- and on an unused one
-unused-test : (c : ℕ) (p : ℤ) (b : ℕ) → c ≡ 1 → StandsFor p b → eqb (b - steps * cellOf steps c b) 0 ≡ (nonNeg p && leb (natAbs p) (steps * (c - 1)))
+unused-test : (c : ℕ) (p : ℤ) (b : ℕ) → c ≡ 1 → StandsFor p b
+    → eqb (b - steps * cellOf steps c b) 0 ≡ (nonNeg p && leb (natAbs p) (steps * (c - 1)))
 unfolding cellOf
 unused-test c (pos n) b h s =
     let e = s .low refl in
@@ -113,25 +116,30 @@ module _ (s : Shape) (p : Position) (b : ℕ → ℕ) (cell step : Place) (l : L
   -- no cell of a position is refused
   cells : cellOutcome s cell ≡ done tt
   unfolding cellOf
-  cells = cell-passes s cell (λ a k. let e = l .cell-is a in let i = f .used a k in omega arith) (λ a h k. let e = l .cell-is a in let i = f .unused a h k in omega arith)
+  cells = cell-passes s cell (λ a k. let e = l .cell-is a in let i = f .used a k in omega arith)
+      (λ a h k. let e = l .cell-is a in let i = f .unused a h k in omega arith)
 
-  one : (a : ℕ) → a < 3 → pick (ltb a (s .axes)) (leb (step a) steps) (eqb (step a) 0) ≡ (nonNeg (p a) && leb (natAbs (p a)) (steps * (count s a - 1)))
+  one : (a : ℕ) → a < 3 → pick (ltb a (s .axes)) (leb (step a) steps)
+      (eqb (step a) 0) ≡ (nonNeg (p a) && leb (natAbs (p a)) (steps * (count s a - 1)))
   one a h = go (decLt a (s .axes))
     where
       at-step : step a ≡ b a - steps * cellOf steps (count s a) (b a)
       at-step = l .step-is a ∙ ap (λ (i : ℕ). b a - steps * i) (l .cell-is a)
 
-      go : Dec (a < s .axes) → pick (ltb a (s .axes)) (leb (step a) steps) (eqb (step a) 0) ≡ (nonNeg (p a) && leb (natAbs (p a)) (steps * (count s a - 1)))
+      go : Dec (a < s .axes) → pick (ltb a (s .axes)) (leb (step a) steps)
+          (eqb (step a) 0) ≡ (nonNeg (p a) && leb (natAbs (p a)) (steps * (count s a - 1)))
       go (yes k) =
           pick-true (ltb a (s .axes)) (leb (step a) steps) (eqb (step a) 0) (lt-ltb a (s .axes) k) ∙ ap (λ (i : ℕ). leb i steps) at-step
           ∙ used-test (count s a) (p a) (b a) (f .used a k) (f .high a h) (l .stand a h)
       go (no k) =
-          pick-false (ltb a (s .axes)) (leb (step a) steps) (eqb (step a) 0) (le-ltb a (s .axes) (omega arith)) ∙ ap (λ (i : ℕ). eqb i 0) at-step
+          pick-false (ltb a (s .axes)) (leb (step a) steps) (eqb (step a) 0) (le-ltb a (s .axes) (omega arith))
+          ∙ ap (λ (i : ℕ). eqb i 0) at-step
           ∙ unused-test (count s a) (p a) (b a) (f .unused a h (omega arith)) (l .stand a h)
 
   tests : stepsOutcome s step ≡ firstOf 3 (positionOutcome s p)
   unfolding stepsOutcome positionOutcome
-  tests = firstOf-same 3 (λ a. refuseUnless (pick (ltb a (s .axes)) (leb (step a) steps) (eqb (step a) 0)) 11 a) (positionOutcome s p) (λ a h. ap (λ (t : Bool). refuseUnless t 11 a) (one a h))
+  tests = firstOf-same 3 (λ a. refuseUnless (pick (ltb a (s .axes)) (leb (step a) steps) (eqb (step a) 0)) 11 a) (positionOutcome s p)
+      (λ a h. ap (λ (t : Bool). refuseUnless t 11 a) (one a h))
 
   -- the cell and the in-cell step of a position that is not refused
   module _ (h : firstOf 3 (positionOutcome s p) ≡ done tt) where
@@ -151,18 +159,22 @@ module _ (s : Shape) (p : Position) (b : ℕ → ℕ) (cell step : Place) (l : L
     step-at = fun-ext (λ a. l .step-is a ∙ ap₂ (λ (i j : ℕ). i - steps * j) (is-here a) (ap (λ (g : Place). g a) cell-at))
 
 -- the query by position, for every position
-pub located : (s : Shape) (rs : List ℤ) (want : Want) (p : Position) (b : ℕ → ℕ) (cell step : Place) → Located s p b cell step → byCell s rs want cell step ≡ byPosition s rs want p
+pub located : (s : Shape) (rs : List ℤ) (want : Want) (p : Position) (b : ℕ → ℕ) (cell step : Place) → Located s p b cell step
+    → byCell s rs want cell step ≡ byPosition s rs want p
 unfolding byCell byPosition testedOutcome
 located s rs want p b cell step l =
     first-assoc (askedOutcome s rs want) (first (cellOutcome s cell) (stepsOutcome s step)) (reading s rs want cell step)
-    ∙ first-after (askedOutcome s rs want) (first (first (cellOutcome s cell) (stepsOutcome s step)) (reading s rs want cell step)) (first (firstOf 3 (positionOutcome s p)) (reading s rs want (positionCell s p) (positionStep s p)))
+    ∙ first-after (askedOutcome s rs want) (first (first (cellOutcome s cell) (stepsOutcome s step)) (reading s rs want cell step))
+    (first (firstOf 3 (positionOutcome s p)) (reading s rs want (positionCell s p) (positionStep s p)))
     (λ a. let f = shaped s (asked-parts s rs want a .0) in
-    ap (λ (t : Check). first t (reading s rs want cell step)) (first-passed (cellOutcome s cell) (stepsOutcome s step) (cells s p b cell step l f) ∙ tests s p b cell step l f)
+    ap (λ (t : Check). first t (reading s rs want cell step))
+    (first-passed (cellOutcome s cell) (stepsOutcome s step) (cells s p b cell step l f) ∙ tests s p b cell step l f)
     ∙ first-after (firstOf 3 (positionOutcome s p)) (reading s rs want cell step) (reading s rs want (positionCell s p) (positionStep s p))
     (λ h. ap₂ (reading s rs want) (cell-at s p b cell step l f h) (step-at s p b cell step l f h)))
 
 -- in a table: the query by the position's own cell and step
-pub by-position-is : (s : Shape) (rs : List ℤ) (want : Want) (p : Position) → firstOf 3 (positionOutcome s p) ≡ done tt → byPosition s rs want p ≡ byCell s rs want (positionCell s p) (positionStep s p)
+pub by-position-is : (s : Shape) (rs : List ℤ) (want : Want) (p : Position) → firstOf 3 (positionOutcome s p) ≡ done tt
+    → byPosition s rs want p ≡ byCell s rs want (positionCell s p) (positionStep s p)
 unfolding positionCell positionStep
 by-position-is s rs want p h =
     sym (located s rs want p (λ a. natAbs (p a)) (positionCell s p) (positionStep s p)
@@ -174,16 +186,20 @@ by-position-is s rs want p h =
     }))
 
 -- and by what the code has of three axes
-pub on-axes : (s : Shape) (rs : List ℤ) (want : Want) (xs : List ℤ) (x y z i j k : ℕ) → StandsFor (at xs 0) x → StandsFor (at xs 1) y → StandsFor (at xs 2) z
+pub on-axes : (s : Shape) (rs : List ℤ) (want : Want) (xs : List ℤ) (x y z i j k : ℕ) → StandsFor (at xs 0) x → StandsFor (at xs 1) y
+    → StandsFor (at xs 2) z
     → i ≡ cellOf steps (count s 0) x → j ≡ cellOf steps (count s 1) y → k ≡ cellOf steps (count s 2) z
-    → byCell s rs want (placeAt (i ∷ j ∷ k ∷ [])) (placeAt ((x - 256 * i) ∷ (y - 256 * j) ∷ (z - 256 * k) ∷ [])) ≡ byPosition s rs want (positionAt xs)
+    → byCell s rs want (placeAt (i ∷ j ∷ k ∷ [])) (placeAt ((x - 256 * i) ∷ (y - 256 * j) ∷ (z - 256 * k) ∷ [])) ≡ byPosition s rs want
+    (positionAt xs)
 unfolding placeAt positionAt pick cellOf
 on-axes s rs want xs x y z i j k p q r e f g =
     located s rs want (positionAt xs) (placeAt numbers) (placeAt cell) (placeAt step)
     (record {
       stand = by-3 (λ (a : ℕ). StandsFor (positionAt xs a) (placeAt numbers a)) p q r;
-      cell-is = from-3 (λ a. placeAt cell a ≡ cellOf steps (count s a) (placeAt numbers a)) e f g (λ a h. let l = place-beyond numbers a h in let m = place-beyond cell a h in omega arith);
-      step-is = from-3 (λ a. placeAt step a ≡ placeAt numbers a - steps * placeAt cell a) refl refl refl (λ a h. let l = place-beyond numbers a h in let m = place-beyond step a h in omega arith);
+      cell-is = from-3 (λ a. placeAt cell a ≡ cellOf steps (count s a) (placeAt numbers a)) e f g
+          (λ a h. let l = place-beyond numbers a h in let m = place-beyond cell a h in omega arith);
+      step-is = from-3 (λ a. placeAt step a ≡ placeAt numbers a - steps * placeAt cell a) refl refl refl
+          (λ a h. let l = place-beyond numbers a h in let m = place-beyond step a h in omega arith);
       beyond = λ a h. place-beyond numbers a h ∙ sym (ap natAbs (pick-false (ltb a 3) (at xs a) (pos 0) (le-ltb a 3 h)));
     })
   where
@@ -197,7 +213,8 @@ on-axes s rs want xs x y z i j k p q r e f g =
     step = (x - 256 * i) ∷ (y - 256 * j) ∷ (z - 256 * k) ∷ []
 
 -- an answer at a position is below 2^24
-pub by-position-small : (s : Shape) (rs : List ℤ) (want : Want) (xs : List ℤ) (v : ℤ) → byPosition s rs want (positionAt xs) ≡ done v → natAbs v < 2 ^ 24
+pub by-position-small : (s : Shape) (rs : List ℤ) (want : Want) (xs : List ℤ) (v : ℤ) → byPosition s rs want (positionAt xs) ≡ done v
+    → natAbs v < 2 ^ 24
 by-position-small s rs want xs v h =
     let x = standing (at xs 0) in
     let y = standing (at xs 1) in

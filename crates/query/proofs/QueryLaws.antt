@@ -41,13 +41,15 @@ pub step-inside : (s : Shape) (step : Place) → Shaped s → stepsOutcome s ste
 unfolding stepsOutcome
 step-inside s step f h a l = leb-true (step a) steps (used-passed (s .axes) 11 (λ a i. leb i steps) step h (f .axes-high) a l)
 
-pub steps-known : (s : Shape) (xs : List ℕ) → s .axes ≤ 3 → stepsOutcome s (placeAt xs) ≡ done tt → OnUsed (s .axes) (λ a i. i ≤ steps) (placeAt xs)
+pub steps-known : (s : Shape) (xs : List ℕ) → s .axes ≤ 3 → stepsOutcome s (placeAt xs) ≡ done tt
+    → OnUsed (s .axes) (λ a i. i ≤ steps) (placeAt xs)
 unfolding stepsOutcome
 steps-known s = all-passed (s .axes) 11 (λ a i. leb i steps) (λ a i. i ≤ steps) (λ a i. leb-true i steps)
 
 pub steps-pass : (s : Shape) (step : Place) → OnUsed (s .axes) (λ a i. i ≤ steps) step → stepsOutcome s step ≡ done tt
 unfolding stepsOutcome
-steps-pass s step h = all-pass (s .axes) 11 (λ a i. leb i steps) (λ a i. i ≤ steps) (λ a i. le-leb i steps) step (h .used) (λ a l. h .unused a)
+steps-pass s step h = all-pass (s .axes) 11 (λ a i. leb i steps) (λ a i. i ≤ steps) (λ a i. le-leb i steps) step (h .used)
+    (λ a l. h .unused a)
 
 -- the tests of a query that is not refused, and its answer
 pub record Asked (s : Shape) (rs : List ℤ) (want : Want) (cell step : Place) (v : ℤ) : Type 0 where
@@ -72,25 +74,31 @@ asked-facts s rs want h =
     let g = first-done (refuseUnless (eqb (length rs) (size s)) 4 0) (wantOutcome s want) tt (f .1) in
     record { shape = f .0; long = eqb-true (length rs) (size s) (refuse-done (eqb (length rs) (size s)) 4 0 (g .0)); wanted = g .1 }
 
-pub asked-parts : (s : Shape) (rs : List ℤ) (want : Want) → askedOutcome s rs want ≡ done tt → (shapeOutcome s ≡ done tt) × (wantOutcome s want ≡ done tt)
+pub asked-parts : (s : Shape) (rs : List ℤ) (want : Want) → askedOutcome s rs want ≡ done tt → (shapeOutcome s ≡ done tt)
+    × (wantOutcome s want ≡ done tt)
 asked-parts s rs want h = let f = asked-facts s rs want h in (f .shape, f .wanted)
 
-pub reading-parts : (s : Shape) (rs : List ℤ) (want : Want) (cell step : Place) (v : ℤ) → reading s rs want cell step ≡ done v → (cornersOutcome s rs cell ≡ done tt) × (answer (askAt s want cell step) (recordsField s rs) ≡ v)
+pub reading-parts : (s : Shape) (rs : List ℤ) (want : Want) (cell step : Place) (v : ℤ) → reading s rs want cell step ≡ done v
+    → (cornersOutcome s rs cell ≡ done tt) × (answer (askAt s want cell step) (recordsField s rs) ≡ v)
 unfolding reading
 reading-parts s rs want cell step v h =
     let f = first-done (cornersOutcome s rs cell) (done (answer (askAt s want cell step) (recordsField s rs))) v h in
     (f .0, done-same (answer (askAt s want cell step) (recordsField s rs)) v (f .1))
 
 -- and back, for a slice of the right length
-pub asked-passes : (s : Shape) (rs : List ℤ) (want : Want) → length rs ≡ size s → shapeOutcome s ≡ done tt → wantOutcome s want ≡ done tt → askedOutcome s rs want ≡ done tt
+pub asked-passes : (s : Shape) (rs : List ℤ) (want : Want) → length rs ≡ size s → shapeOutcome s ≡ done tt → wantOutcome s want ≡ done tt
+    → askedOutcome s rs want ≡ done tt
 unfolding askedOutcome
 asked-passes s rs want l h w =
     first-passed (shapeOutcome s) (first (refuseUnless (eqb (length rs) (size s)) 4 0) (wantOutcome s want)) h
-    ∙ first-passed (refuseUnless (eqb (length rs) (size s)) 4 0) (wantOutcome s want) (passes (eqb (length rs) (size s)) 4 0 (eq-eqb (length rs) (size s) l)) ∙ w
+    ∙ first-passed (refuseUnless (eqb (length rs) (size s)) 4 0) (wantOutcome s want)
+    (passes (eqb (length rs) (size s)) 4 0 (eq-eqb (length rs) (size s) l)) ∙ w
 
-pub reading-passes : (s : Shape) (rs : List ℤ) (want : Want) (cell step : Place) → cornersOutcome s rs cell ≡ done tt → reading s rs want cell step ≡ done (answer (askAt s want cell step) (recordsField s rs))
+pub reading-passes : (s : Shape) (rs : List ℤ) (want : Want) (cell step : Place) → cornersOutcome s rs cell ≡ done tt
+    → reading s rs want cell step ≡ done (answer (askAt s want cell step) (recordsField s rs))
 unfolding reading
-reading-passes s rs want cell step h = first-passed (cornersOutcome s rs cell) (done (answer (askAt s want cell step) (recordsField s rs))) h
+reading-passes s rs want cell step h =
+    first-passed (cornersOutcome s rs cell) (done (answer (askAt s want cell step) (recordsField s rs))) h
 
 -- a query by cell that is not refused before 5
 pub record Passed (s : Shape) (rs : List ℤ) (want : Want) (cell step : Place) : Type 0 where
@@ -120,10 +128,12 @@ module _ (s : Shape) (rs : List ℤ) (want : Want) (cell step : Place) where
   unfolding byCell
   by-cell-stops e = refused-first (reading s rs want cell step) e
 
-  pub by-cell-passes : length rs ≡ size s → shapeOutcome s ≡ done tt → wantOutcome s want ≡ done tt → cellOutcome s cell ≡ done tt → stepsOutcome s step ≡ done tt → cornersOutcome s rs cell ≡ done tt
+  pub by-cell-passes : length rs ≡ size s → shapeOutcome s ≡ done tt → wantOutcome s want ≡ done tt → cellOutcome s cell ≡ done tt
+      → stepsOutcome s step ≡ done tt → cornersOutcome s rs cell ≡ done tt
       → byCell s rs want cell step ≡ done (answer (askAt s want cell step) (recordsField s rs))
   by-cell-passes l h w c u k =
-      by-cell-reads (tested-passes (record { asked = asked-passes s rs want l h w; cells = c; inside = u })) ∙ reading-passes s rs want cell step k
+      by-cell-reads (tested-passes (record { asked = asked-passes s rs want l h w; cells = c; inside = u }))
+      ∙ reading-passes s rs want cell step k
 
 -- the slice made anew of all the records
 abbrev pub lent : List ℤ → List ℤ
@@ -146,7 +156,8 @@ module _ (s : Shape) (rs : List ℤ) (want : Want) (cell : List ℕ) (step : Pla
       let h = shaped s (a .shape) in
       record { shape = h; long = a .long; here = accepted s cell (h .axes-high) (f .cells) }
 
-  pub ready : testedOutcome s rs want (placeAt cell) step ≡ done tt → (l : Layout) → Laid s (placeAt cell) l → passed (cornersOutcome s rs (placeAt cell)) ≡ true → Ready s rs (placeAt cell) step want l
+  pub ready : testedOutcome s rs want (placeAt cell) step ≡ done tt → (l : Layout) → Laid s (placeAt cell) l
+      → passed (cornersOutcome s rs (placeAt cell)) ≡ true → Ready s rs (placeAt cell) step want l
   ready t l laid k =
       let f = tested-parts s rs want (placeAt cell) step t in
       let n = near t in
@@ -167,10 +178,17 @@ module _ (s : Shape) (rs : List ℤ) (want : Want) (cell : List ℕ) (step : Pla
   by-cell-small v h =
       let f = first-done (testedOutcome s rs want (placeAt cell) step) (reading s rs want (placeAt cell) step) v h in
       let r = reading-parts s rs want (placeAt cell) step v (f .1) in
-      subst (λ z. natAbs z < 2 ^ 24) (r .1) (answer-fits half-up-sound s rs (placeAt cell) step want laid (ready (f .0) laid is-laid (ap passed (r .0))))
+      subst (λ z. natAbs z < 2 ^ 24) (r .1)
+      (answer-fits half-up-sound s rs (placeAt cell) step want laid (ready (f .0) laid is-laid (ap passed (r .0))))
     where
       laid : Layout
-      laid = record { orders = orders s; entries = entries s; base = base s (placeAt cell); strides = nodeStride s 0 ∷ nodeStride s 1 ∷ nodeStride s 2 ∷ [] }
+      laid = record {
+        orders = orders s;
+        entries = entries s;
+        base = base s (placeAt cell);
+        strides =
+            nodeStride s 0 ∷ nodeStride s 1 ∷ nodeStride s 2 ∷ [];
+      }
 
       is-laid : Laid s (placeAt cell) laid
       is-laid = record { orders-are = refl; entries-are = refl; base-is = refl; stride-x = refl; stride-y = refl; stride-z = refl }
@@ -180,14 +198,19 @@ pub record Reader (s : Shape) (rs : List ℤ) (want : Want) (cell : List ℕ) (s
   pub layout-asks : Shaped s × Accepted s (placeAt cell)
   pub corners-asks : (l : Layout) → Laid s (placeAt cell) l → (n : ℕ) → n ≡ s .axes
       → (Shaped s × (length rs ≡ size s) × (n ≡ s .axes)) × (Accepted s (placeAt cell) × Laid s (placeAt cell) l)
-  pub stages-ask : (l : Layout) → Laid s (placeAt cell) l → (w : Bool) → w ≡ passed (cornersOutcome s rs (placeAt cell)) → w ≡ true → Ready s rs (placeAt cell) step want l
+  pub stages-ask : (l : Layout) → Laid s (placeAt cell) l → (w : Bool) → w ≡ passed (cornersOutcome s rs (placeAt cell)) → w ≡ true
+      → Ready s rs (placeAt cell) step want l
   pub answered : (w : Bool) → w ≡ passed (cornersOutcome s rs (placeAt cell)) → w ≡ true
-      → (r : ℤ) → mag r < 2 ^ 31 → r ≡ answer (askAt s want (placeAt cell) step) (recordsField s rs) → done (toZ w32 (ofZ w32 r)) ≡ reading s rs want (placeAt cell) step
+      → (r : ℤ) → mag r < 2 ^ 31 → r ≡ answer (askAt s want (placeAt cell) step) (recordsField s rs)
+      → done (toZ w32 (ofZ w32 r)) ≡ reading s rs want (placeAt cell) step
   pub beyond-asks : (l : Layout) → Laid s (placeAt cell) l → (w : Bool) → w ≡ passed (cornersOutcome s rs (placeAt cell)) → w ≡ false
-      → (Shaped s × (length rs ≡ size s)) × ((Accepted s (placeAt cell) × Laid s (placeAt cell) l) × (passed (cornersOutcome s rs (placeAt cell)) ≡ false))
-  pub stopped : (o : Outcome ℤ) → ((v : ℤ) → o ≡ first (cornersOutcome s rs (placeAt cell)) (done v)) → o ≡ reading s rs want (placeAt cell) step
+      → (Shaped s × (length rs ≡ size s))
+      × ((Accepted s (placeAt cell) × Laid s (placeAt cell) l) × (passed (cornersOutcome s rs (placeAt cell)) ≡ false))
+  pub stopped : (o : Outcome ℤ) → ((v : ℤ) → o ≡ first (cornersOutcome s rs (placeAt cell)) (done v))
+      → o ≡ reading s rs want (placeAt cell) step
 
-pub reader : (s : Shape) (rs : List ℤ) (want : Want) (cell : List ℕ) (step : Place) → testedOutcome s rs want (placeAt cell) step ≡ done tt → Reader s rs want cell step
+pub reader : (s : Shape) (rs : List ℤ) (want : Want) (cell : List ℕ) (step : Place) → testedOutcome s rs want (placeAt cell) step ≡ done tt
+    → Reader s rs want cell step
 unfolding reading
 reader s rs want cell step t =
     let f = near s rs want cell step t in
@@ -196,7 +219,8 @@ reader s rs want cell step t =
       corners-asks = λ l laid n e. ((f .shape, f .long, e), (f .here, laid));
       stages-ask = λ l laid w e h. ready s rs want cell step t l laid (sym e ∙ h);
       answered = λ w e h r fit is.
-          ap done (element r fit ∙ is) ∙ sym (reading-passes s rs want (placeAt cell) step (passed-done (cornersOutcome s rs (placeAt cell)) (sym e ∙ h)));
+          ap done (element r fit ∙ is)
+          ∙ sym (reading-passes s rs want (placeAt cell) step (passed-done (cornersOutcome s rs (placeAt cell)) (sym e ∙ h)));
       beyond-asks = λ l laid w e h. ((f .shape, f .long), ((f .here, laid), sym e ∙ h));
       stopped = λ o h. h (answer (askAt s want (placeAt cell) step) (recordsField s rs));
     }
@@ -204,12 +228,15 @@ reader s rs want cell step t =
 -- ---- positions
 
 -- a position of the table: on a used axis a step of an accepted cell, on an unused one 0
-pub position-range : (s : Shape) (p : Position) → firstOf 3 (positionOutcome s p) ≡ done tt → (a : ℕ) → a < 3 → (nonNeg (p a) ≡ true) × (natAbs (p a) ≤ steps * (count s a - 1))
+pub position-range : (s : Shape) (p : Position) → firstOf 3 (positionOutcome s p) ≡ done tt → (a : ℕ) → a < 3 → (nonNeg (p a) ≡ true)
+    × (natAbs (p a) ≤ steps * (count s a - 1))
 unfolding positionOutcome
 position-range s p h a l =
-    let f = and-true (nonNeg (p a)) (leb (natAbs (p a)) (steps * (count s a - 1))) (refuse-done (nonNeg (p a) && leb (natAbs (p a)) (steps * (count s a - 1))) 11 a (firstOf-each 3 (positionOutcome s p) h a l)) in
+    let f = and-true (nonNeg (p a)) (leb (natAbs (p a)) (steps * (count s a - 1)))
+    (refuse-done (nonNeg (p a) && leb (natAbs (p a)) (steps * (count s a - 1))) 11 a (firstOf-each 3 (positionOutcome s p) h a l)) in
     (f .0, leb-true (natAbs (p a)) (steps * (count s a - 1)) (f .1))
 
-pub in-cell : (c P : ℕ) → 2 ≤ c → P ≤ steps * (c - 1) → (cellOf steps c P + 2 ≤ c) × (steps * cellOf steps c P ≤ P) × (P - steps * cellOf steps c P ≤ steps)
+pub in-cell : (c P : ℕ) → 2 ≤ c → P ≤ steps * (c - 1) → (cellOf steps c P + 2 ≤ c) × (steps * cellOf steps c P ≤ P)
+    × (P - steps * cellOf steps c P ≤ steps)
 unfolding cellOf
 in-cell c P h k = (omega arith, omega arith, omega arith)

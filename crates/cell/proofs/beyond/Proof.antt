@@ -40,7 +40,8 @@ below (negsuc k) (pos (suc n)) ok h = go (decLt n k)
 below x (negsuc n) ok h = cc
 
 sub-result : tie.Need-sub-result
-sub-result c = let b = c .before in rw (element (b .args .limit) (b .fits .limit .sfits)) (record { sfits = small (b .args .limit) (b .fits .limit .sfits) (b .pre) })
+sub-result c = let b = c .before in
+    rw (element (b .args .limit) (b .fits .limit .sfits)) (record { sfits = small (b .args .limit) (b .fits .limit .sfits) (b .pre) })
 
 returns : tie.Need-returns
 returns c =

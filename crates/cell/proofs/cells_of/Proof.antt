@@ -10,7 +10,8 @@ use Rattle.cell.proofs.cells_of.Tie as tie
 returns : tie.Need-returns
 unfolding cellsAlong count
 returns c =
-    three-same _ _ _ (cellsAlong (c .before .before .before .before .before .before .args .t1)) (c .before .before .before .before .cells-on .ensures)
+    three-same _ _ _ (cellsAlong (c .before .before .before .before .before .before .args .t1))
+    (c .before .before .before .before .cells-on .ensures)
     (c .before .before .cells-on2 .ensures)
     (c .cells-on3 .ensures)
 

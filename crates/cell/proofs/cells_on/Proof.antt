@@ -9,4 +9,5 @@ use Rattle.cell.proofs.cells_on.Tie as tie
 pub cells-on-spec : {M : Type 1} → statement M
 cells-on-spec =
     tie.close
-    (tie.spec (λ c. search needs) (λ c. sym (pick-true _ _ _ (lt-ltb _ _ (c .if1 .taken)))) (λ c. sym (pick-false _ _ _ (le-ltb _ _ (c .if1 .left)))))
+    (tie.spec (λ c. search needs) (λ c. sym (pick-true _ _ _ (lt-ltb _ _ (c .if1 .taken))))
+    (λ c. sym (pick-false _ _ _ (le-ltb _ _ (c .if1 .left)))))

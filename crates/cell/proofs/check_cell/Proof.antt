@@ -20,9 +20,12 @@ returns c =
     let x = y .before .before .before in
     let b = x .before .before in
     let a = b .args in
-    let test : ℕ → ℕ → Bool = λ n i. let k = placeAt (a .i ∷ a .j ∷ a .k ∷ []) i in pick (ltb i n) (leb (k + 2) (count (a .t2) i)) (eqb k 0) in
-    scanned 14 (test (a .t2 .axes)) (x .index-allowed .ensures ∙ ap (λ n. test n 0) (b .pre)) (y .index-allowed2 .ensures ∙ ap (λ n. test n 1) (b .pre))
-    (z .index-allowed3 .ensures ∙ ap (λ n. test n 2) (b .pre)) (y .before .before .refuse-unless .ensures) (z .before .before .refuse-after .ensures) (c .refuse-after2 .ensures)
+    let test : ℕ → ℕ → Bool = λ n i. let k = placeAt (a .i ∷ a .j ∷ a .k ∷ []) i in
+    pick (ltb i n) (leb (k + 2) (count (a .t2) i)) (eqb k 0) in
+    scanned 14 (test (a .t2 .axes)) (x .index-allowed .ensures ∙ ap (λ n. test n 0) (b .pre))
+    (y .index-allowed2 .ensures ∙ ap (λ n. test n 1) (b .pre))
+    (z .index-allowed3 .ensures ∙ ap (λ n. test n 2) (b .pre)) (y .before .before .refuse-unless .ensures)
+    (z .before .before .refuse-after .ensures) (c .refuse-after2 .ensures)
 
 pub check-cell-spec : {M : Type 1} → statement M
 check-cell-spec =

@@ -36,9 +36,11 @@ returns c =
     let l = b .before .before .before .before in
     let a = l .before .args in
     c .refuse-unless .ensures
-    ∙ sym (firstOf-stops (a .n) (l .loop .e) (test (a .limits .now) (a .records .now) (a .start)) 5 (a .start + l .loop .e) (omega arith) (l .loop .inv .1)
+    ∙ sym (firstOf-stops (a .n) (l .loop .e) (test (a .limits .now) (a .records .now) (a .start)) 5 (a .start + l .loop .e) (omega arith)
+    (l .loop .inv .1)
     (test-stopped (a .limits .now) (a .records .now) (a .start) (l .loop .e)
-    (sym (limit-told (a .limits .now) (a .records .now) (a .start) (l .loop .e) _ (b .before .before .beyond-arg .given) (b .before .beyond-arg2 .given) (b .beyond .ensures)) ∙ t .if1 .taken)))
+    (sym (limit-told (a .limits .now) (a .records .now) (a .start) (l .loop .e) _ (b .before .before .beyond-arg .given)
+    (b .before .beyond-arg2 .given) (b .beyond .ensures)) ∙ t .if1 .taken)))
 
 loop-again : tie.Need-loop-again Inv-loop μ-loop
 loop-again c =
@@ -48,7 +50,8 @@ loop-again c =
       omega arith,
       firstOf-more (l .loop .e) (test (a .limits .now) (a .records .now) (a .start)) (l .loop .inv .1)
           (test-passed (a .limits .now) (a .records .now) (a .start) (l .loop .e)
-          (sym (limit-told (a .limits .now) (a .records .now) (a .start) (l .loop .e) _ (b .before .before .beyond-arg .given) (b .before .beyond-arg2 .given) (b .beyond .ensures)) ∙ c .if1 .left)),
+          (sym (limit-told (a .limits .now) (a .records .now) (a .start) (l .loop .e) _ (b .before .before .beyond-arg .given)
+          (b .before .beyond-arg2 .given) (b .beyond .ensures)) ∙ c .if1 .left)),
     )
 
 returns-2 : tie.Need-returns-2 Inv-loop μ-loop

@@ -15,10 +15,13 @@ use Rattle.cell.proofs.entry_limits.Statement.{statement}
 use Rattle.cell.proofs.entry_limits.Tie as tie
 
 cubic : List ℤ
-cubic = pos 32768 ∷ pos 65536 ∷ pos 65536 ∷ pos 131072 ∷ pos 65536 ∷ pos 131072 ∷ pos 131072 ∷ pos 262144 ∷ pos 0 ∷ pos 0 ∷ pos 0 ∷ pos 0 ∷ pos 0 ∷ pos 0 ∷ pos 0 ∷ pos 0 ∷ pos 0 ∷ pos 0 ∷ pos 0 ∷ pos 0 ∷ pos 0 ∷ pos 0 ∷ pos 0 ∷ pos 0 ∷ pos 0 ∷ pos 0 ∷ pos 0 ∷ []
+cubic = pos 32768 ∷ pos 65536 ∷ pos 65536 ∷ pos 131072 ∷ pos 65536 ∷ pos 131072 ∷ pos 131072 ∷ pos 262144 ∷ pos 0 ∷ pos 0 ∷ pos 0 ∷ pos
+    0 ∷ pos 0 ∷ pos 0 ∷ pos 0 ∷ pos 0 ∷ pos 0 ∷ pos 0 ∷ pos 0 ∷ pos 0 ∷ pos 0 ∷ pos 0 ∷ pos 0 ∷ pos 0 ∷ pos 0 ∷ pos 0 ∷ pos 0 ∷ []
 
 quintic : List ℤ
-quintic = pos 32768 ∷ pos 65536 ∷ pos 131072 ∷ pos 65536 ∷ pos 131072 ∷ pos 262144 ∷ pos 131072 ∷ pos 262144 ∷ pos 524288 ∷ pos 65536 ∷ pos 131072 ∷ pos 262144 ∷ pos 131072 ∷ pos 262144 ∷ pos 524288 ∷ pos 262144 ∷ pos 524288 ∷ pos 1048576 ∷ pos 131072 ∷ pos 262144 ∷ pos 524288 ∷ pos 262144 ∷ pos 524288 ∷ pos 1048576 ∷ pos 524288 ∷ pos 1048576 ∷ pos 2097152 ∷ []
+quintic = pos 32768 ∷ pos 65536 ∷ pos 131072 ∷ pos 65536 ∷ pos 131072 ∷ pos 262144 ∷ pos 131072 ∷ pos 262144 ∷ pos 524288 ∷ pos 65536 ∷ pos
+    131072 ∷ pos 262144 ∷ pos 131072 ∷ pos 262144 ∷ pos 524288 ∷ pos 262144 ∷ pos 524288 ∷ pos 1048576 ∷ pos 131072 ∷ pos 262144 ∷ pos
+    524288 ∷ pos 262144 ∷ pos 524288 ∷ pos 1048576 ∷ pos 524288 ∷ pos 1048576 ∷ pos 2097152 ∷ []
 
 right : ℕ → List ℤ → ℕ → Bool
 right m row e = nonNeg (at row e) && eqb (natAbs (at row e)) (limitOf m e)
@@ -36,7 +39,8 @@ by-test m n row e l t =
 
 returns : tie.Need-returns
 unfolding right all limitOf cubic quintic
-returns c = λ e l. by-test 2 8 cubic e (subst (λ (m : ℕ). e < m ^ 3) (c .before .if1 .taken) l) tt ∙ ap (λ (m : ℕ). pos (limitOf m e)) (sym (c .before .if1 .taken))
+returns c = λ e l. by-test 2 8 cubic e (subst (λ (m : ℕ). e < m ^ 3) (c .before .if1 .taken) l) tt
+    ∙ ap (λ (m : ℕ). pos (limitOf m e)) (sym (c .before .if1 .taken))
 
 returns-2 : tie.Need-returns-2
 unfolding right all limitOf cubic quintic

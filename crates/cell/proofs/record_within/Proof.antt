@@ -35,11 +35,15 @@ loop-again c =
     let b = c .before in
     let l = b .before .before .before .before in
     let a = l .before .args in
-    let told = limit-told (a .limits .now) (a .records .now) (a .start) (l .loop .e) _ (b .before .before .beyond-arg .given) (b .before .beyond-arg2 .given) (b .beyond .ensures) in (
+    let told = limit-told (a .limits .now) (a .records .now) (a .start) (l .loop .e) _ (b .before .before .beyond-arg .given)
+    (b .before .beyond-arg2 .given) (b .beyond .ensures) in (
       omega arith,
       ⊎-elim
-          (λ w. w .1 ∙ sym (firstOf-fails (l .loop .e + 1) (test (a .limits .now) (a .records .now) (a .start)) (l .loop .e) (omega arith) (ap passed (test-stopped (a .limits .now) (a .records .now) (a .start) (l .loop .e) (sym told ∙ w .0 .taken)))))
-          (λ w. w .1 ∙ l .loop .inv .1 ∙ passed-more (l .loop .e) (test (a .limits .now) (a .records .now) (a .start)) (test-passed (a .limits .now) (a .records .now) (a .start) (l .loop .e) (sym told ∙ w .0 .left))) (c .if1 .came),
+          (λ w. w .1 ∙ sym (firstOf-fails (l .loop .e + 1) (test (a .limits .now) (a .records .now) (a .start)) (l .loop .e) (omega arith)
+          (ap passed (test-stopped (a .limits .now) (a .records .now) (a .start) (l .loop .e) (sym told ∙ w .0 .taken)))))
+          (λ w. w .1 ∙ l .loop .inv .1
+          ∙ passed-more (l .loop .e) (test (a .limits .now) (a .records .now) (a .start))
+          (test-passed (a .limits .now) (a .records .now) (a .start) (l .loop .e) (sym told ∙ w .0 .left))) (c .if1 .came),
     )
 
 returns : tie.Need-returns Inv-loop μ-loop

@@ -7,7 +7,7 @@ use lib.IntN.{ℤ}
 use denote.Ref.{now}
 use Rattle.lattice.specs.Buffer.{at}
 use Rattle.lattice.proofs.BufferLaws.{noughts-at}
-use Rattle.coefficients.specs.Corners.{coefficientCount}
+use Rattle.cell.specs.Coefficients.{coefficientCount}
 use Rattle.coefficients.specs.Blocks.{cellCoefficient, Sizes, Gathered}
 use Rattle.coefficients.proofs.BlockLaws.{sizes}
 use borrow.Author.Needs.{needs}
@@ -25,7 +25,8 @@ module _ (s : tie.Start) (m : ℕ) (e : s .args .l .orders ≡ m) where
 
   -- what it gives
   abbrev Filled : List ℤ → ℕ → Type 0
-  Filled xs k = (K : ℕ) → K < coefficientCount k (s .args .n) → at xs K ≡ cellCoefficient k (s .args .n) (s .args .l) (now (s .args .records)) K
+  Filled xs k = (K : ℕ) → K < coefficientCount k (s .args .n)
+      → at xs K ≡ cellCoefficient k (s .args .n) (s .args .l) (now (s .args .records)) K
 
   filled : (xs : List ℤ) → Filled xs m → Filled xs (s .args .l .orders)
   filled xs = subst (Filled xs) (sym e)
@@ -49,4 +50,5 @@ returns-2 c = filled (c .before .before .before .before .before) 3 (omega arith)
 pub cell-coefficients-spec : {M : Type 1} → statement M
 cell-coefficients-spec =
     tie.close
-    (tie.spec (λ c. search needs) (λ c κs. search needs) fill-requires returns (λ c. search needs) (λ c κs. search needs) fill-requires-2 returns-2)
+    (tie.spec (λ c. search needs) (λ c κs. search needs) fill-requires returns (λ c. search needs)
+    (λ c κs. search needs) fill-requires-2 returns-2)

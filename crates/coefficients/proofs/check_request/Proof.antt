@@ -3,12 +3,12 @@ use lib.Dec.{leb, eqb}
 use Rattle.lattice.specs.Shape.{orders, size, shapeOutcome}
 use Rattle.cell.specs.Cell.{placeAt, cellOutcome}
 use Rattle.cell.proofs.CellLaws.{indices}
-use Rattle.coefficients.specs.Corners.{coefficientCount}
+use Rattle.cell.specs.Coefficients.{coefficientCount}
 use Rattle.lattice.specs.Answers.{outcomeOf}
 use Rattle.lattice.specs.Outcome.{refuseUnless, first}
 use Rattle.lattice.proofs.OutcomeLaws.{refused-first, first-passed, first-assoc}
 use Rattle.lattice.proofs.ShapeLaws.{shaped}
-use Rattle.coefficients.specs.Corners.{requestOutcome}
+use Rattle.coefficients.specs.Coefficients.{requestOutcome}
 use mathlib.Core.Path.{sym, ap, ap₂, _∙_}
 use borrow.Author.Needs.{needs}
 use Rattle.coefficients.proofs.check_request.Statement.{statement}
@@ -25,7 +25,8 @@ returns c =
     e ∙ sym (refused-first _ (sym (b .check-shape .ensures) ∙ e))
 
 check-sizes-requires : tie.Need-check-sizes-requires
-check-sizes-requires c κs = let b = c .before .before in shaped (b .before .args .s) (sym (b .check-shape .ensures) ∙ ap outcomeOf (c .enum-told2 .given .1))
+check-sizes-requires c κs = let b = c .before .before in
+    shaped (b .before .args .s) (sym (b .check-shape .ensures) ∙ ap outcomeOf (c .enum-told2 .given .1))
 
 returns-2 : tie.Need-returns-2
 unfolding requestOutcome
@@ -33,8 +34,10 @@ returns-2 c =
     let b = c .before .before .before .before .before in
     let a = b .before .args in
     let e = ap outcomeOf (c .before .before .before .enum-told2 .given .1) in
-    c .earlier .ensures ∙ ap₂ first (c .before .before .check-sizes .ensures) (c .before .check-cell .ensures ∙ ap (cellOutcome (a .s)) (indices (a .t3)))
-    ∙ first-assoc (refuseUnless (eqb (a .given) (size (a .s))) 4 0) (refuseUnless (leb (coefficientCount (orders (a .s)) (a .s .axes)) (a .room)) 9 0) (cellOutcome (a .s) (placeAt (a .t3)))
+    c .earlier .ensures ∙ ap₂ first (c .before .before .check-sizes .ensures)
+    (c .before .check-cell .ensures ∙ ap (cellOutcome (a .s)) (indices (a .t3)))
+    ∙ first-assoc (refuseUnless (eqb (a .given) (size (a .s))) 4 0)
+    (refuseUnless (leb (coefficientCount (orders (a .s)) (a .s .axes)) (a .room)) 9 0) (cellOutcome (a .s) (placeAt (a .t3)))
     ∙ sym (first-passed (shapeOutcome (a .s)) _ (sym (b .check-shape .ensures) ∙ e))
 
 pub check-request-spec : {M : Type 1} → statement M

@@ -12,7 +12,8 @@ returns c =
     let s = c .before .before .before .before .before in
     let count = c .before .before .before .coefficient-count .ensures .0 in
     c .earlier .ensures
-    ∙ ap₂ first (c .before .before .refuse-unless .ensures ∙ ap (λ (n : ℕ). refuseUnless (eqb (s .args .given) n) 4 0) (c .before .before .before .before .table-entries .ensures))
+    ∙ ap₂ first (c .before .before .refuse-unless .ensures
+    ∙ ap (λ (n : ℕ). refuseUnless (eqb (s .args .given) n) 4 0) (c .before .before .before .before .table-entries .ensures))
     (c .before .refuse-unless2 .ensures ∙ ap (λ (n : ℕ). refuseUnless (leb n (s .args .room)) 9 0) count)
 
 pub check-sizes-spec : {M : Type 1} → statement M

@@ -13,8 +13,10 @@ low c = let h = orders-range (c .before .args .degree) in let e = c .orders .ens
 
 returns : tie.Need-returns
 returns c =
-    let w = c .before in
-    (c .power .ensures ∙ ap (λ (m : ℕ). (2 * m) ^ w .before .args .axes) (w .orders .ensures), rw (c .power .ensures) (pow-range 6 (2 * w .orders .result) (w .before .args .axes) (low w) (w .before .pre) (lit< tt)))
+    let w = c .before in (
+      c .power .ensures ∙ ap (λ (m : ℕ). (2 * m) ^ w .before .args .axes) (w .orders .ensures),
+      rw (c .power .ensures) (pow-range 6 (2 * w .orders .result) (w .before .args .axes) (low w) (w .before .pre) (lit< tt)),
+    )
 
 pub coefficient-count-spec : {M : Type 1} → statement M
 coefficient-count-spec =

@@ -22,7 +22,8 @@ unfolding coefficientNumber
 high m e o l k n =
     let one : e ≡ 1 = omega arith in
     let z : m * e + o ≡ m + o = rw one (omega arith) in
-    rw z (let d : 3 * m - 1 - (m + o) ≡ 2 * m - 1 - o = omega arith in sym (pick-false (ltb (m + o) m) (m + o) (3 * m - 1 - (m + o)) (le-ltb (m + o) m (omega arith)) ∙ d))
+    rw z (let d : 3 * m - 1 - (m + o) ≡ 2 * m - 1 - o = omega arith in
+    sym (pick-false (ltb (m + o) m) (m + o) (3 * m - 1 - (m + o)) (le-ltb (m + o) m (omega arith)) ∙ d))
 
 returns : tie.Need-returns
 returns c = let s = c .before in (low (s .args .m) (s .args .e) (s .args .o) (s .pre .2) (c .if1 .taken), omega arith)

@@ -13,7 +13,7 @@ use Rattle.lattice.specs.Records.{recordsField}
 use Rattle.lattice.proofs.OutcomeLaws.{refused-first, first-passed, when-done, when-refused}
 use Rattle.lattice.proofs.ShapeLaws.{orders-range}
 use Rattle.cell.specs.Cell.{placeAt, cornersOutcome}
-use Rattle.coefficients.specs.Corners.{coefficientList, requestOutcome, coefficientsOutcome, coefficientsWrites}
+use Rattle.coefficients.specs.Coefficients.{coefficientList, requestOutcome, coefficientsOutcome, coefficientsWrites}
 use Rattle.coefficients.specs.Blocks.{Gathered}
 use Rattle.coefficients.proofs.TableCell.{corners-gathered}
 use Rattle.coefficients.proofs.CallLaws.{Asked, asked, list-is}
@@ -23,14 +23,16 @@ use Rattle.coefficients.proofs.coefficients.Tie as tie
 
 -- what the slice is overwritten by
 abbrev written : tie.Start → List ℤ
-written s = overwrite (coefficientList (orders (s .args .s)) (s .args .s .axes) (placeAt (s .args .cell)) (recordsField (s .args .s) (now (s .args .records)))) (now (s .args .out))
+written s = overwrite (coefficientList (orders (s .args .s)) (s .args .s .axes) (placeAt (s .args .cell))
+    (recordsField (s .args .s) (now (s .args .records)))) (now (s .args .out))
 
 -- not refused before 5
 module _ (c : tie.After-enum-told2) where
   abbrev start : tie.Start
   start = c .before .before .before
 
-  passed : requestOutcome (start .args .s) (length (now (start .args .records))) (placeAt (start .args .cell)) (length (now (start .args .out))) ≡ done tt
+  passed : requestOutcome (start .args .s) (length (now (start .args .records))) (placeAt (start .args .cell))
+      (length (now (start .args .out))) ≡ done tt
   passed = sym (c .before .before .check-request .ensures) ∙ ap outcomeOf (c .enum-told2 .given .1)
 
   facts : Asked (start .args .s) (length (now (start .args .records))) (placeAt (start .args .cell)) (length (now (start .args .out)))
@@ -39,9 +41,11 @@ module _ (c : tie.After-enum-told2) where
   tests : Check
   tests = cornersOutcome (start .args .s) (now (start .args .records)) (placeAt (start .args .cell))
 
-  outcome : coefficientsOutcome (start .args .s) (now (start .args .records)) (placeAt (start .args .cell)) (length (now (start .args .out))) ≡ tests
+  outcome : coefficientsOutcome (start .args .s) (now (start .args .records)) (placeAt (start .args .cell))
+      (length (now (start .args .out))) ≡ tests
   unfolding coefficientsOutcome tests
-  outcome = first-passed (requestOutcome (start .args .s) (length (now (start .args .records))) (placeAt (start .args .cell)) (length (now (start .args .out)))) tests passed
+  outcome = first-passed (requestOutcome (start .args .s) (length (now (start .args .records))) (placeAt (start .args .cell))
+      (length (now (start .args .out)))) tests passed
 
 -- nor by 5
 module _ (c : tie.After-enum-told4) where
@@ -52,13 +56,15 @@ module _ (c : tie.After-enum-told4) where
   unfolding tests
   tested = sym (c .before .before .check-corners .ensures) ∙ ap outcomeOf (c .enum-told4 .given .1)
 
-  gathered : Gathered (c .before .before .before .layout-of .result .orders) (start two .args .s .axes) (c .before .before .before .layout-of .result) (now (start two .args .records))
+  gathered : Gathered (c .before .before .before .layout-of .result .orders) (start two .args .s .axes)
+      (c .before .before .before .layout-of .result) (now (start two .args .records))
   unfolding tests
   gathered =
       let f = facts two in
       let a = start two .args in
       let l = c .before .before .before .layout-of in
-      subst (λ (m : ℕ). Gathered m (a .s .axes) (l .result) (now (a .records))) (sym (l .ensures .orders-are)) (corners-gathered (a .s) (f .shape) (placeAt (a .cell)) (f .here) (now (a .records)) (f .many) (l .result) (l .ensures) tested)
+      subst (λ (m : ℕ). Gathered m (a .s .axes) (l .result) (now (a .records))) (sym (l .ensures .orders-are))
+      (corners-gathered (a .s) (f .shape) (placeAt (a .cell)) (f .here) (now (a .records)) (f .many) (l .result) (l .ensures) tested)
 
 returns : tie.Need-returns
 unfolding coefficientsOutcome coefficientsWrites
@@ -109,8 +115,11 @@ returns-3 c =
     let l = t .before .before .before .layout-of in
     let h = outcome d ∙ tested t in (
       ap outcomeOf (t .enum-told4 .given .1) ∙ sym h,
-      c .before .copy-out .ensures ∙ ap (λ (k : ℕ). overwrite (tabulate k (at (x .cell-coefficients .result))) (now (a .out))) (n .coefficient-count .ensures .0)
-          ∙ ap (λ (ys : List ℤ). overwrite ys (now (a .out))) (list-is (a .s) (f .shape) (placeAt (a .cell)) (f .here) (now (a .records)) (f .many) (l .result) (l .ensures) (x .cell-coefficients .result) (x .cell-coefficients .ensures))
+      c .before .copy-out .ensures
+          ∙ ap (λ (k : ℕ). overwrite (tabulate k (at (x .cell-coefficients .result))) (now (a .out))) (n .coefficient-count .ensures .0)
+          ∙ ap (λ (ys : List ℤ). overwrite ys (now (a .out)))
+          (list-is (a .s) (f .shape) (placeAt (a .cell)) (f .here) (now (a .records)) (f .many) (l .result) (l .ensures)
+          (x .cell-coefficients .result) (x .cell-coefficients .ensures))
           ∙ when-done (written s) (now (a .out)) h,
     )
 

@@ -1,4 +1,5 @@
--- `coefficients::convert` meets its contract: after each call the array it filled holds one pass more; as many as there are axes are the sweep.
+-- `coefficients::convert` meets its contract: after each call the array it filled holds one pass more; as many as there are axes are the
+-- sweep.
 use mathlib.Core.Path.{_≡_, sym, subst}
 use mathlib.Core.List.{List}
 use Prim.Native.Nat.{ℕ, _≤_, _<_, _^_, _*_}
@@ -50,7 +51,8 @@ module _ (c : tie.After-convert-axis2) where
 
   twice : Passed (S one) 2 second
   unfolding digit
-  twice = after-next (S one .args .back) (S one .pre .0 .0) (S one .args .c) (at (now (S one .args .xs))) 1 (first one) second (once one) (c .convert-axis2 .ensures)
+  twice = after-next (S one .args .back) (S one .pre .0 .0) (S one .args .c) (at (now (S one .args .xs))) 1 (first one) second (once one)
+      (c .convert-axis2 .ensures)
 
 module _ (c : tie.After-convert-axis3) where
   abbrev two : tie.After-convert-axis2
@@ -61,27 +63,32 @@ module _ (c : tie.After-convert-axis3) where
 
   thrice : Passed (S (one two)) 3 third
   unfolding digit
-  thrice = after-next (S (one two) .args .back) (S (one two) .pre .0 .0) (S (one two) .args .c) (at (now (S (one two) .args .xs))) 2 (second two) third (twice two) (c .convert-axis3 .ensures)
+  thrice = after-next (S (one two) .args .back) (S (one two) .pre .0 .0) (S (one two) .args .c) (at (now (S (one two) .args .xs))) 2
+      (second two) third (twice two) (c .convert-axis3 .ensures)
 
 returns : tie.Need-returns
 returns c =
     let w = c .before in
     let s = S w in
-    let r = after-all (s .args .back) (s .pre .0 .0) (s .args .c) (at (now (s .args .xs))) (s .pre .0 .1) 1 (sym (c .if1 .taken)) (first w) (once w) in
+    let r = after-all (s .args .back) (s .pre .0 .0) (s .args .c) (at (now (s .args .xs))) (s .pre .0 .1) 1 (sym (c .if1 .taken)) (first w)
+    (once w) in
     (r .0, (s .pre .1 .0, r .1))
 
 convert-axis-requires-2 : tie.Need-convert-axis-requires-2
-convert-axis-requires-2 c κs = let w = c .before .before .before in (sizes (S w), (low (S w) 1 (lit≤ tt) (first w) (once w), S w .pre .1 .0))
+convert-axis-requires-2 c κs = let w = c .before .before .before in
+    (sizes (S w), (low (S w) 1 (lit≤ tt) (first w) (once w), S w .pre .1 .0))
 
 returns-2 : tie.Need-returns-2
 returns-2 c =
     let w = c .before .before in
     let s = S (one w) in
-    let r = after-all (s .args .back) (s .pre .0 .0) (s .args .c) (at (now (s .args .xs))) (s .pre .0 .1) 2 (sym (c .before .if2 .taken)) (second w) (twice w) in
+    let r = after-all (s .args .back) (s .pre .0 .0) (s .args .c) (at (now (s .args .xs))) (s .pre .0 .1) 2 (sym (c .before .if2 .taken))
+    (second w) (twice w) in
     (r .0, (twice w .long, r .1))
 
 convert-axis-requires-3 : tie.Need-convert-axis-requires-3
-convert-axis-requires-3 c κs = let w = c .before .before .before in (sizes (S (one w)), (low (S (one w)) 2 (lit≤ tt) (second w) (twice w), once (one w) .long))
+convert-axis-requires-3 c κs = let w = c .before .before .before in
+    (sizes (S (one w)), (low (S (one w)) 2 (lit≤ tt) (second w) (twice w), once (one w) .long))
 
 returns-3 : tie.Need-returns-3
 returns-3 c =

@@ -31,15 +31,20 @@ module _ (c : tie.In-loop Inv-loop μ-loop) where
 
 -- what becomes of it
 converted : (c : tie.After-convert-end Inv-loop μ-loop) → (k : ℕ) → k < s (c .before .before) .args .m
-    → at (c .convert-end .result) k ≡ endRule (s (c .before .before) .args .back) (s (c .before .before) .args .m) (s (c .before .before) .args .high) (λ t. at (s (c .before .before) .args .xs .now) (s (c .before .before) .args .m * c .before .before .before .loop .g + t)) k
+    → at (c .convert-end .result) k ≡ endRule (s (c .before .before) .args .back) (s (c .before .before) .args .m)
+    (s (c .before .before) .args .high)
+    (λ t. at (s (c .before .before) .args .xs .now) (s (c .before .before) .args .m * c .before .before .before .loop .g + t)) k
 converted c k l =
     let i = c .before .before in
     let a = s i .args in
     let p = s i .pre .0 in
-    c .convert-end .ensures k (omega arith) ∙ end-depends (a .back) (a .m) (p .0) (p .1) (a .high) (at (c .before .group-at .result)) (λ t. at (a .xs .now) (a .m * i .before .loop .g + t)) k l (c .before .group-at .ensures .0)
+    c .convert-end .ensures k (omega arith)
+    ∙ end-depends (a .back) (a .m) (p .0) (p .1) (a .high) (at (c .before .group-at .result))
+    (λ t. at (a .xs .now) (a .m * i .before .loop .g + t)) k l (c .before .group-at .ensures .0)
 
 group-at-requires : tie.Need-group-at-requires Inv-loop μ-loop
-group-at-requires c κs = let p = s c .pre in let h = room c in (p .0 .0, p .0 .1, omega arith, λ t l. p .1 .0 (s c .args .m * c .before .loop .g + t) (omega arith))
+group-at-requires c κs = let p = s c .pre in let h = room c in
+    (p .0 .0, p .0 .1, omega arith, λ t l. p .1 .0 (s c .args .m * c .before .loop .g + t) (omega arith))
 
 loop-again : tie.Need-loop-again Inv-loop μ-loop
 loop-again c =
@@ -51,7 +56,9 @@ loop-again c =
     let p = s i .pre .0 .2 in (
       omega arith,
       ap length (c .put-group .ensures) ∙ scatter-length _ _ _ _ ∙ w .inv .1,
-      rw (c .put-group .ensures) (rows-more (a .m) (a .r) (λ k j. endRule (a .back) (a .m) (a .high) (λ t. at (a .xs .now) (a .m * j + t)) k) (w .g) (i .loop-test .taken) (at (e .convert-end .result)) (converted e) (w .zs) (omega arith) (w .inv .2)),
+      rw (c .put-group .ensures)
+          (rows-more (a .m) (a .r) (λ k j. endRule (a .back) (a .m) (a .high) (λ t. at (a .xs .now) (a .m * j + t)) k) (w .g)
+          (i .loop-test .taken) (at (e .convert-end .result)) (converted e) (w .zs) (omega arith) (w .inv .2)),
     )
 
 returns : tie.Need-returns Inv-loop μ-loop
@@ -60,7 +67,12 @@ returns c =
     let a = c .before .before .args in
     let w = c .before .loop in
     let e : w .g ≡ a .r = omega arith in
-    record { long = w .inv .1; is = rows-all (a .m) (a .r) (λ k j. endRule (a .back) (a .m) (a .high) (λ t. at (now (a .xs)) (a .m * j + t)) k) (w .zs) (λ k j l q. w .inv .2 k j l (omega arith)) }
+    record {
+      long = w .inv .1;
+      is =
+          rows-all (a .m) (a .r) (λ k j. endRule (a .back) (a .m) (a .high) (λ t. at (now (a .xs)) (a .m * j + t)) k) (w .zs)
+          (λ k j l q. w .inv .2 k j l (omega arith));
+    }
 
 pub convert-axis-spec : {M : Type 1} → statement M
 convert-axis-spec =

@@ -18,20 +18,27 @@ abbrev μ-loop : tie.MeasureT-loop
 μ-loop n xs out₀ k₀ out k = n - k
 
 slice-set-from-out : tie.Need-slice-set-from-out Inv-loop μ-loop
-slice-set-from-out c = let s = c .before .before .before in let w = c .before .before .loop in let e = filled-length (at (s .args .xs .now)) (s .args .out .now) (w .k) (w .out) (omega arith) (w .inv .1) in omega arith
+slice-set-from-out c = let s = c .before .before .before in let w = c .before .before .loop in let e =
+    filled-length (at (s .args .xs .now)) (s .args .out .now) (w .k) (w .out) (omega arith) (w .inv .1) in omega arith
 
 loop-again : tie.Need-loop-again Inv-loop μ-loop
-loop-again c = let s = c .before .before .before in let w = c .before .before .loop in (omega arith, filled-more (at (s .args .xs .now)) (s .args .out .now) (w .k) (w .out) _ (pos 0) (omega arith) (w .inv .1) (toZ-ofZ (sfits-of (c .out .given))))
+loop-again c = let s = c .before .before .before in let w = c .before .before .loop in (
+  omega arith,
+  filled-more (at (s .args .xs .now)) (s .args .out .now) (w .k) (w .out) _ (pos 0) (omega arith) (w .inv .1)
+      (toZ-ofZ (sfits-of (c .out .given))),
+)
 
 same-length : tie.Need-same-length Inv-loop μ-loop
-same-length c = let s = c .before .before in let w = c .before .loop in filled-length (at (s .args .xs .now)) (s .args .out .now) (w .k) (w .out) (omega arith) (w .inv .1)
+same-length c = let s = c .before .before in let w = c .before .loop in
+    filled-length (at (s .args .xs .now)) (s .args .out .now) (w .k) (w .out) (omega arith) (w .inv .1)
 
 returns : tie.Need-returns Inv-loop μ-loop
 returns c =
     let s = c .before .before in
     let w = c .before .loop in
     let e : w .k ≡ s .args .n = omega arith in
-    filled-all (at (s .args .xs .now)) (s .args .out .now) (s .args .n) (w .out) (subst (λ (k : ℕ). Filled (at (s .args .xs .now)) (s .args .out .now) k (w .out)) e (w .inv .1))
+    filled-all (at (s .args .xs .now)) (s .args .out .now) (s .args .n) (w .out)
+    (subst (λ (k : ℕ). Filled (at (s .args .xs .now)) (s .args .out .now) k (w .out)) e (w .inv .1))
 
 pub copy-out-spec : {M : Type 1} → statement M
 copy-out-spec =

@@ -49,18 +49,23 @@ module _ (c : tie.After-convert Inv-loop μ-loop) where
   zs = c .convert .last .1 .1 .1 .1 .1 .1 .0
 
   entry-is : (j : ℕ) → j < s i .args .m ^ s i .args .n → at xs j ≡ at (now (s i .args .records)) (startOf (s i .args .l) k + j)
-  entry-is j h = loaded .load .ensures .0 .is j (in-groups (s i .pre .0 .0) j h) ∙ ap (λ (b : ℕ). at (now (s i .args .records)) (b + j)) (loaded .before .before .corner-start .ensures)
+  entry-is j h = loaded .load .ensures .0 .is j (in-groups (s i .pre .0 .0) j h)
+      ∙ ap (λ (b : ℕ). at (now (s i .args .records)) (b + j)) (loaded .before .before .corner-start .ensures)
 
   low : (j : ℕ) → j < s i .args .m ^ s i .args .n → natAbs (at zs j) ≤ 2 ^ 30
-  low j h = rw (c .convert .ensures .0 .is j h) (block-low (s i .pre .0 .0) (s i .args .l) (now (s i .args .records)) (s i .pre .0 .1) k (corner i) (at xs) entry-is j h)
+  low j h = rw (c .convert .ensures .0 .is j h)
+      (block-low (s i .pre .0 .0) (s i .args .l) (now (s i .args .records)) (s i .pre .0 .1) k (corner i) (at xs) entry-is j h)
 
-  more : Filled (s i .args .m) (s i .args .n) (cellCoefficient (s i .args .m) (s i .args .n) (s i .args .l) (now (s i .args .records))) (s i .args .m ^ s i .args .n * (k + 1)) (scatter (s i .args .m ^ s i .args .n) (coefficientIndex (s i .args .m) k) (at zs) (i .before .loop .out))
+  more : Filled (s i .args .m) (s i .args .n) (cellCoefficient (s i .args .m) (s i .args .n) (s i .args .l) (now (s i .args .records)))
+      (s i .args .m ^ s i .args .n * (k + 1))
+      (scatter (s i .args .m ^ s i .args .n) (coefficientIndex (s i .args .m) k) (at zs) (i .before .loop .out))
   more =
       let ok = s i .pre .0 .0 in
       let inv = i .before .loop .inv in
       let a = s i .args in
       let rs = now (a .records) in
-      stands-corner (a .m) (a .n) (orders-some ok) (cellCoefficient (a .m) (a .n) (a .l) rs) (ok .axes-low) (ok .axes-high) k (corner i) (at zs)
+      stands-corner (a .m) (a .n) (orders-some ok) (cellCoefficient (a .m) (a .n) (a .l) rs) (ok .axes-low) (ok .axes-high) k (corner i)
+      (at zs)
       (i .before .loop .out) (rw (inv .2) (count-low ok))
       (λ j h. c .convert .ensures .0 .is j h ∙ block-is ok (a .l) rs (s i .pre .0 .1) k (corner i) (at xs) entry-is j h) (inv .3)
 

@@ -23,11 +23,14 @@ module _ (s : tie.Start) where
   number : (t : ℕ) → t < s .args .m → held (xs t) ≡ xs t
   number t l = kept (xs t) (2 ^ 50) (s .pre .3 t l) (lit< tt)
 
-  group : (z : ℕ → ℤ) → z 0 ≡ xs 0 → z 1 ≡ xs 1 → (2 < s .args .m → z 2 ≡ xs 2) → natAbs (z 2) ≤ 2 ^ 50 → ((t : ℕ) → t < s .args .m → z t ≡ xs t) × AllWithin (2 ^ 50) 3 z
+  group : (z : ℕ → ℤ) → z 0 ≡ xs 0 → z 1 ≡ xs 1 → (2 < s .args .m → z 2 ≡ xs 2) → natAbs (z 2) ≤ 2 ^ 50
+      → ((t : ℕ) → t < s .args .m → z t ≡ xs t) × AllWithin (2 ^ 50) 3 z
   group z a b c low =
       let m2 = s .pre .0 in
-      let m3 = s .pre .1 in
-      (λ t l. by-3 (λ t. t < s .args .m → z t ≡ xs t) (λ q. a) (λ q. b) c t (omega arith) l, by-3 (λ t. natAbs (z t) ≤ 2 ^ 50) (rw a (s .pre .3 0 (omega arith))) (rw b (s .pre .3 1 (omega arith))) low)
+      let m3 = s .pre .1 in (
+        λ t l. by-3 (λ t. t < s .args .m → z t ≡ xs t) (λ q. a) (λ q. b) c t (omega arith) l,
+        by-3 (λ t. natAbs (z t) ≤ 2 ^ 50) (rw a (s .pre .3 0 (omega arith))) (rw b (s .pre .3 1 (omega arith))) low,
+      )
 
   first : held (at (now (s .args .xs)) (s .args .i)) ≡ xs 0
   first = let m2 = s .pre .0 in ap (λ (k : ℕ). held (at (now (s .args .xs)) k)) (sym (add-zero (s .args .i))) ∙ number 0 (omega arith)

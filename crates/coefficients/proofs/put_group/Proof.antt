@@ -18,7 +18,8 @@ abbrev μ-loop : tie.MeasureT-loop
 
 -- where the next number goes
 place : (c : tie.In-loop Inv-loop μ-loop) → c .before .before .args .r * c .before .loop .k + c .before .before .args .g < 27
-place c = let a = c .before .before .args in let p = c .before .before .pre in let h = pair-in (a .r) (c .before .loop .k) (a .g) (p .1) (a .m) (c .loop-test .taken) in omega arith
+place c = let a = c .before .before .args in let p = c .before .before .pre in let h =
+    pair-in (a .r) (c .before .loop .k) (a .g) (p .1) (a .m) (c .loop-test .taken) in omega arith
 
 loop-holds : tie.Need-loop-holds Inv-loop μ-loop
 unfolding scatter
@@ -45,11 +46,17 @@ element-set-from-zs c = place (c .before)
 loop-again : tie.Need-loop-again Inv-loop μ-loop
 loop-again c =
     let a = c .before .before .before .args in
-    let w = c .before .before .loop in
-    (omega arith, scatter-more (λ j. a .r * j + a .g) (at (a .t4)) (a .zs .now) (w .zs) (w .k) _ _ (w .inv .1) refl (read (at (a .t4) (w .k)) (c .zs .given)))
+    let w = c .before .before .loop in (
+      omega arith,
+      scatter-more (λ j. a .r * j + a .g) (at (a .t4)) (a .zs .now) (w .zs) (w .k) _ _ (w .inv .1) refl
+          (read (at (a .t4) (w .k)) (c .zs .given)),
+    )
 
 returns : tie.Need-returns Inv-loop μ-loop
-returns c = let a = c .before .before .args in let w = c .before .loop in let e : w .k ≡ a .m = omega arith in w .inv .1 ∙ ap (λ (k : ℕ). scatter k (λ j. a .r * j + a .g) (at (a .t4)) (a .zs .now)) e
+returns c = let a = c .before .before .args in let w = c .before .loop in let e : w .k ≡ a .m = omega arith in w .inv .1
+    ∙ ap (λ (k : ℕ). scatter k (λ j. a .r * j + a .g) (at (a .t4)) (a .zs .now)) e
 
 pub put-group-spec : {M : Type 1} → statement M
-put-group-spec = tie.close (tie.spec Inv-loop μ-loop loop-holds mul-zs array-copy-out-zs mul-t13 add-t14 mul-t15 element-set-from-zs (λ c. omega arith) (λ c. omega arith) loop-again returns)
+put-group-spec = tie.close
+    (tie.spec Inv-loop μ-loop loop-holds mul-zs array-copy-out-zs mul-t13 add-t14 mul-t15 element-set-from-zs (λ c. omega arith)
+    (λ c. omega arith) loop-again returns)

@@ -29,7 +29,11 @@ module _ (c : tie.In-loop Inv-loop μ-loop) where
 
 loop-holds : tie.Need-loop-holds Inv-loop μ-loop
 unfolding scatter
-loop-holds c = (zero-le, ap (λ (k : ℕ). scatter k (coefficientIndex (c .args .m) (c .args .c)) (at (c .args .zs .now)) (c .args .out .now)) (sym (mul-zero (c .args .m))))
+loop-holds c = (
+  zero-le,
+  ap (λ (k : ℕ). scatter k (coefficientIndex (c .args .m) (c .args .c)) (at (c .args .zs .now)) (c .args .out .now))
+      (sym (mul-zero (c .args .m))),
+)
 
 store-row-requires : tie.Need-store-row-requires Inv-loop μ-loop
 store-row-requires c κs =
@@ -38,8 +42,11 @@ store-row-requires c κs =
     let p = s i .pre in
     let ok = p .0 in
     let h = room i in
-    let e = entries-low ok in
-    ((ok .orders-low, ok .orders-high, omega arith, λ t l. p .2 (a .m * i .before .loop .g + t) (omega arith)), λ t l. lt-of-lt-of-le (spot-in (a .m) (a .n) (orders-some ok) (a .c) (a .m * i .before .loop .g + t) (p .1) (omega arith) (ok .axes-low) (ok .axes-high)) (count-low ok))
+    let e = entries-low ok in (
+      (ok .orders-low, ok .orders-high, omega arith, λ t l. p .2 (a .m * i .before .loop .g + t) (omega arith)),
+      λ t l. lt-of-lt-of-le (spot-in (a .m) (a .n) (orders-some ok) (a .c) (a .m * i .before .loop .g + t) (p .1) (omega arith)
+          (ok .axes-low) (ok .axes-high)) (count-low ok),
+    )
 
 loop-again : tie.Need-loop-again Inv-loop μ-loop
 loop-again c =
@@ -60,7 +67,8 @@ returns c =
     let a = c .before .before .args in
     let w = c .before .loop in
     let e : w .g ≡ a .r = omega arith in
-    w .inv .1 ∙ ap (λ (k : ℕ). scatter k (coefficientIndex (a .m) (a .c)) (at (a .zs .now)) (a .out .now)) (ap (λ (k : ℕ). a .m * k) e ∙ c .before .before .pre .0 .groups-are)
+    w .inv .1 ∙ ap (λ (k : ℕ). scatter k (coefficientIndex (a .m) (a .c)) (at (a .zs .now)) (a .out .now))
+    (ap (λ (k : ℕ). a .m * k) e ∙ c .before .before .pre .0 .groups-are)
 
 pub store-spec : {M : Type 1} → statement M
 store-spec =
@@ -70,7 +78,8 @@ store-spec =
     μ-loop
     loop-holds
     store-row-requires
-    (λ c. let i = c .before .before in let h = room i in let p = s i .pre .0 .orders-low in let e = entries-low (s i .pre .0) in omega arith)
+    (λ c. let i = c .before .before in let h = room i in let p = s i .pre .0 .orders-low in let e = entries-low (s i .pre .0) in
+    omega arith)
     (λ c. omega arith)
     loop-again
     returns)

@@ -44,8 +44,10 @@ module _ (c : tie.After-coefficient-number Inv-loop μ-loop) where
   abbrev i : tie.In-loop Inv-loop μ-loop
   i = c .before .before
 
-  place-is : i .before .before .row-place .result + c .coefficient-number .result ≡ coefficientIndex (s i .args .m) (s i .args .c) (s i .args .m * s i .args .g + t i)
-  place-is = sym (i .before .before .row-place .ensures .1 (t i) (i .loop-test .taken) ∙ ap (λ (k : ℕ). i .before .before .row-place .result + k) (sym (c .coefficient-number .ensures .0)))
+  place-is : i .before .before .row-place .result + c .coefficient-number .result ≡ coefficientIndex (s i .args .m) (s i .args .c)
+      (s i .args .m * s i .args .g + t i)
+  place-is = sym (i .before .before .row-place .ensures .1 (t i) (i .loop-test .taken)
+      ∙ ap (λ (k : ℕ). i .before .before .row-place .result + k) (sym (c .coefficient-number .ensures .0)))
 
   place-low : i .before .before .row-place .result + c .coefficient-number .result < 216
   place-low = rw place-is (s i .pre .1 (t i) (i .loop-test .taken))
@@ -61,15 +63,20 @@ loop-again : tie.Need-loop-again Inv-loop μ-loop
 loop-again c =
     let j = i c in
     let a = s j .args in
-    let w = j .before .loop in
-    (omega arith, scatter-more (λ k. coefficientIndex (a .m) (a .c) (a .m * a .g + k)) (λ k. at (a .zs .now) (a .m * a .g + k)) (a .out .now) (w .out) (w .t) _ _ (w .inv .1) (place-is c) (ap (λ y. toZ w32 (ofZ w32 y)) (z-held j) ∙ toZ-ofZ (sfits-abs {w = w32} (z j) (let h = z-low j in omega arith))))
+    let w = j .before .loop in (
+      omega arith,
+      scatter-more (λ k. coefficientIndex (a .m) (a .c) (a .m * a .g + k)) (λ k. at (a .zs .now) (a .m * a .g + k))
+          (a .out .now) (w .out) (w .t) _ _ (w .inv .1) (place-is c)
+          (ap (λ y. toZ w32 (ofZ w32 y)) (z-held j) ∙ toZ-ofZ (sfits-abs {w = w32} (z j) (let h = z-low j in omega arith))),
+    )
 
 returns : tie.Need-returns Inv-loop μ-loop
 returns c =
     let a = c .before .before .before .args in
     let w = c .before .loop in
     let e : w .t ≡ a .m = omega arith in
-    w .inv .1 ∙ ap (λ (k : ℕ). scatter k (λ j. coefficientIndex (a .m) (a .c) (a .m * a .g + j)) (λ j. at (a .zs .now) (a .m * a .g + j)) (a .out .now)) e
+    w .inv .1 ∙ ap (λ (k : ℕ). scatter k (λ j. coefficientIndex (a .m) (a .c) (a .m * a .g + j)) (λ j. at (a .zs .now) (a .m * a .g + j))
+    (a .out .now)) e
 
 pub store-row-spec : {M : Type 1} → statement M
 store-row-spec =

@@ -75,16 +75,22 @@ module _ (c : tie.After-store Inv-loop μ-loop) where
 
   tested : row (s .args .m) (s .args .n) (now (s .args .cs)) (k d) ≡ outcomeOf (c .store .result)
   tested =
-      sym (subst (λ (e : ℕ). outcomeOf (c .store .result) ≡ firstOf e (blockTest (s .args .n) (limits d) (at (zs d)))) (s .pre .0 .groups-are) (c .store .ensures .0)
-      ∙ tests-are (s .pre .0) (limits d) (i d .before .before .before .entry-limits .ensures) (now (s .args .cs)) (k d) (corner (i d)) (at (xs d)) (at (zs d)) (gathered d .gather .ensures .is) (d .convert .ensures .0 .is))
+      sym (subst (λ (e : ℕ). outcomeOf (c .store .result) ≡ firstOf e (blockTest (s .args .n) (limits d) (at (zs d))))
+      (s .pre .0 .groups-are) (c .store .ensures .0)
+      ∙ tests-are (s .pre .0) (limits d) (i d .before .before .before .entry-limits .ensures) (now (s .args .cs)) (k d) (corner (i d))
+      (at (xs d)) (at (zs d)) (gathered d .gather .ensures .is) (d .convert .ensures .0 .is))
 
   abbrev out : List ℤ
   out = c .store .last .1 .1 .1 .1 .1 .0
 
-  written : outcomeOf (c .store .result) ≡ done tt → out ≡ scatter (s .args .m ^ s .args .n) (λ j. s .args .m ^ s .args .n * k d + j) (λ j. floorDiv (at (zs d) j) (2 ^ s .args .n)) (i d .before .loop .out)
-  written e = subst (λ (q : ℕ). out ≡ scatter q (λ j. q * k d + j) (λ j. floorDiv (at (zs d) j) (2 ^ s .args .n)) (i d .before .loop .out)) (s .pre .0 .groups-are) (c .store .ensures .1 e)
+  written : outcomeOf (c .store .result) ≡ done tt
+      → out ≡ scatter (s .args .m ^ s .args .n) (λ j. s .args .m ^ s .args .n * k d + j) (λ j. floorDiv (at (zs d) j) (2 ^ s .args .n))
+      (i d .before .loop .out)
+  written e = subst (λ (q : ℕ). out ≡ scatter q (λ j. q * k d + j) (λ j. floorDiv (at (zs d) j) (2 ^ s .args .n)) (i d .before .loop .out))
+      (s .pre .0 .groups-are) (c .store .ensures .1 e)
 
-  entries : outcomeOf (c .store .result) ≡ done tt → (j : ℕ) → j < s .args .m ^ s .args .n * (k d + 1) → at out j ≡ entryOf (s .args .m) (s .args .n) (now (s .args .cs)) j
+  entries : outcomeOf (c .store .result) ≡ done tt → (j : ℕ) → j < s .args .m ^ s .args .n * (k d + 1)
+      → at out j ≡ entryOf (s .args .m) (s .args .n) (now (s .args .cs)) j
   entries e j h =
       let l = i d .before in
       ap (λ (ys : List ℤ). at ys j) (written e)
@@ -105,8 +111,13 @@ convert-requires c κs =
 store-requires : tie.Need-store-requires Inv-loop μ-loop
 store-requires c κs =
     let w = c .before .before .before in
-    let ok = S (i w) .pre .0 in
-    (ok .axes-high, size-low ok, corner-low ok (k w) (corner (i w)), λ j h. w .convert .ensures .1 .1 j (subst (λ (e : ℕ). j < e) (ok .groups-are) h), λ j h. limits-hold ok (limits w) (i w .before .before .before .entry-limits .ensures) j (subst (λ (e : ℕ). j < e) (ok .groups-are) h))
+    let ok = S (i w) .pre .0 in (
+      ok .axes-high,
+      size-low ok,
+      corner-low ok (k w) (corner (i w)),
+      λ j h. w .convert .ensures .1 .1 j (subst (λ (e : ℕ). j < e) (ok .groups-are) h),
+      λ j h. limits-hold ok (limits w) (i w .before .before .before .entry-limits .ensures) j (subst (λ (e : ℕ). j < e) (ok .groups-are) h),
+    )
 
 returns : tie.Need-returns Inv-loop μ-loop
 returns c =

@@ -12,8 +12,9 @@ use Rattle.lattice.specs.Shape.{ordersOf}
 use Rattle.lattice.proofs.BufferLaws.{tabulate-same}
 use Rattle.lattice.proofs.OutcomeLaws.{refused-first, first-passed, when-done, when-refused}
 use Rattle.lattice.proofs.ShapeLaws.{axes-range, orders-range}
-use Rattle.coefficients.specs.Corners.{coefficientCount, possibleOutcome, entryList, numbersOutcome, backOutcome, backWrites}
-use Rattle.coefficients.proofs.CallLaws.{Numbered, numbered}
+use Rattle.cell.specs.Coefficients.{coefficientCount}
+use Rattle.corners.specs.Corners.{possibleOutcome, entryList, numbersOutcome, backOutcome, backWrites}
+use Rattle.corners.proofs.CallLaws.{Numbered, numbered}
 use Rattle.corners.specs.Back.{entryOf}
 use borrow.Author.Needs.{needs}
 use Rattle.corners.proofs.corners.Statement.{statement}
@@ -45,20 +46,26 @@ module _ (c : tie.After-records-of) where
   abbrev m-is : c .before .before .orders .result ≡ ordersOf (S two .args .degree)
   m-is = c .before .before .orders .ensures
 
-  last : backOutcome (S two .args .axes) (S two .args .degree) (now (S two .args .coefficients)) (length (now (S two .args .out))) ≡ outcomeOf (c .records-of .result)
+  last : backOutcome (S two .args .axes) (S two .args .degree) (now (S two .args .coefficients))
+      (length (now (S two .args .out))) ≡ outcomeOf (c .records-of .result)
   unfolding backOutcome
   last =
-      first-passed (numbersOutcome (S two .args .axes) (S two .args .degree) (length (now (S two .args .coefficients))) (length (now (S two .args .out)))) _ (passed two)
+      first-passed (numbersOutcome (S two .args .axes) (S two .args .degree) (length (now (S two .args .coefficients)))
+      (length (now (S two .args .out)))) _ (passed two)
       ∙ sym (c .records-of .ensures .0 ∙ ap (λ (m : ℕ). possibleOutcome m (S two .args .axes) (now (S two .args .coefficients))) m-is)
 
   abbrev xs : List ℤ
   xs = c .records-of .last .1 .1 .1 .0
 
-  list-is : outcomeOf (c .records-of .result) ≡ done tt → tabulate (coefficientCount (ordersOf (S two .args .degree)) (S two .args .axes)) (at xs) ≡ entryList (ordersOf (S two .args .degree)) (S two .args .axes) (now (S two .args .coefficients))
+  list-is : outcomeOf (c .records-of .result) ≡ done tt
+      → tabulate (coefficientCount (ordersOf (S two .args .degree)) (S two .args .axes)) (at xs) ≡ entryList
+      (ordersOf (S two .args .degree)) (S two .args .axes) (now (S two .args .coefficients))
   unfolding entryList
   list-is e =
-      tabulate-same (coefficientCount (ordersOf (S two .args .degree)) (S two .args .axes)) (at xs) (entryOf (ordersOf (S two .args .degree)) (S two .args .axes) (now (S two .args .coefficients)))
-      (subst (λ (m : ℕ). (i : ℕ) → i < coefficientCount m (S two .args .axes) → at xs i ≡ entryOf m (S two .args .axes) (now (S two .args .coefficients)) i) m-is (c .records-of .ensures .1 e))
+      tabulate-same (coefficientCount (ordersOf (S two .args .degree)) (S two .args .axes)) (at xs)
+      (entryOf (ordersOf (S two .args .degree)) (S two .args .axes) (now (S two .args .coefficients)))
+      (subst (λ (m : ℕ). (i : ℕ) → i < coefficientCount m (S two .args .axes)
+      → at xs i ≡ entryOf m (S two .args .axes) (now (S two .args .coefficients)) i) m-is (c .records-of .ensures .1 e))
 
 returns : tie.Need-returns
 unfolding backOutcome backWrites
@@ -66,7 +73,8 @@ returns c =
     let w = c .before .before in
     let a = w .before .args in
     let e = ap outcomeOf (c .enum-told .given .1) in
-    let h = refused-first (possibleOutcome (ordersOf (a .degree)) (a .axes) (now (a .coefficients))) (sym (w .check-numbers .ensures) ∙ e) in
+    let h = refused-first (possibleOutcome (ordersOf (a .degree)) (a .axes) (now (a .coefficients)))
+    (sym (w .check-numbers .ensures) ∙ e) in
     (e ∙ sym h, when-refused (written (w .before)) (now (a .out)) h)
 
 records-of-requires : tie.Need-records-of-requires
@@ -74,15 +82,23 @@ records-of-requires c κs =
     let w = c .before in
     let d = w .before in
     let e = w .orders .ensures in
-    let r = orders-range (S d .args .degree) in
-    (rw e (r .0), rw e (r .1), axes-in d .0, axes-in d .1, facts d .many ∙ ap (λ (m : ℕ). coefficientCount m (S d .args .axes)) (sym e), refl)
+    let r = orders-range (S d .args .degree) in (
+      rw e (r .0),
+      rw e (r .1),
+      axes-in d .0,
+      axes-in d .1,
+      facts d .many ∙ ap (λ (m : ℕ). coefficientCount m (S d .args .axes)) (sym e),
+      refl,
+    )
 
 returns-2 : tie.Need-returns-2
 unfolding backWrites
-returns-2 c = let w = c .before .before in let s = S (two w) in (sym (last w), when-refused (written s) (now (s .args .out)) (last w ∙ ap outcomeOf (c .enum-told3 .given .1)))
+returns-2 c = let w = c .before .before in let s = S (two w) in
+    (sym (last w), when-refused (written s) (now (s .args .out)) (last w ∙ ap outcomeOf (c .enum-told3 .given .1)))
 
 copy-out-requires : tie.Need-copy-out-requires
-copy-out-requires c κs = let n = c .before .before in let e = n .coefficient-count .ensures in (e .1, rw (e .0) (facts (two (n .before .before .before)) .roomy))
+copy-out-requires c κs = let n = c .before .before in let e = n .coefficient-count .ensures in
+    (e .1, rw (e .0) (facts (two (n .before .before .before)) .roomy))
 
 returns-3 : tie.Need-returns-3
 unfolding backWrites
@@ -93,7 +109,8 @@ returns-3 c =
     let a = s .args in
     let e = ap outcomeOf (n .before .enum-told4 .given .1) in (
       sym (last w),
-      c .before .copy-out .ensures ∙ ap (λ (k : ℕ). overwrite (tabulate k (at (xs w))) (now (a .out))) (n .coefficient-count .ensures .0) ∙ ap (λ (ys : List ℤ). overwrite ys (now (a .out))) (list-is w e) ∙ when-done (written s) (now (a .out)) (last w ∙ e),
+      c .before .copy-out .ensures ∙ ap (λ (k : ℕ). overwrite (tabulate k (at (xs w))) (now (a .out))) (n .coefficient-count .ensures .0)
+          ∙ ap (λ (ys : List ℤ). overwrite ys (now (a .out))) (list-is w e) ∙ when-done (written s) (now (a .out)) (last w ∙ e),
     )
 
 pub corners-spec : {M : Type 1} → statement M

@@ -34,8 +34,14 @@ gather-row-requires c κs =
     let a = s i .args in
     let ok = s i .pre .0 in
     let h = room i in
-    let e = entries-low ok in
-    ((ok .orders-low, ok .orders-high, omega arith), (λ t l. rw (s i .pre .2) (spot-in (a .m) (a .n) (orders-some ok) (a .c) (a .m * i .before .loop .g + t) (s i .pre .1) (omega arith) (ok .axes-low) (ok .axes-high)), i .before .loop .inv .1))
+    let e = entries-low ok in (
+      (ok .orders-low, ok .orders-high, omega arith),
+      (
+        λ t l. rw (s i .pre .2) (spot-in (a .m) (a .n) (orders-some ok) (a .c) (a .m * i .before .loop .g + t) (s i .pre .1) (omega arith)
+            (ok .axes-low) (ok .axes-high)),
+        i .before .loop .inv .1,
+      ),
+    )
 
 loop-again : tie.Need-loop-again Inv-loop μ-loop
 loop-again c = let i = c .before .before in (omega arith, rw (← next-group (s i .args .m) (i .before .loop .g)) (c .gather-row .ensures))
@@ -45,7 +51,8 @@ returns c =
     let a = c .before .before .args in
     let w = c .before .loop in
     let e : w .g ≡ a .r = omega arith in
-    subst (λ (k : ℕ). Gathers (a .m) (a .c) k (a .cs .now) (w .xs)) (ap (λ (k : ℕ). a .m * k) e ∙ c .before .before .pre .0 .groups-are) (w .inv .1)
+    subst (λ (k : ℕ). Gathers (a .m) (a .c) k (a .cs .now) (w .xs)) (ap (λ (k : ℕ). a .m * k) e ∙ c .before .before .pre .0 .groups-are)
+    (w .inv .1)
 
 pub gather-spec : {M : Type 1} → statement M
 gather-spec =
@@ -55,7 +62,8 @@ gather-spec =
     μ-loop
     loop-holds
     gather-row-requires
-    (λ c. let i = c .before .before in let h = room i in let p = s i .pre .0 .orders-low in let e = entries-low (s i .pre .0) in omega arith)
+    (λ c. let i = c .before .before in let h = room i in let p = s i .pre .0 .orders-low in let e = entries-low (s i .pre .0) in
+    omega arith)
     (λ c. omega arith)
     loop-again
     returns)

@@ -34,16 +34,19 @@ module _ (c : tie.After-coefficient-number Inv-loop μ-loop) where
   place = i .before .before .row-place .result + c .coefficient-number .result
 
   place-is : place ≡ coefficientIndex (s .args .m) (s .args .c) (s .args .m * s .args .g + t)
-  place-is = sym (i .before .before .row-place .ensures .1 t (i .loop-test .taken) ∙ ap (λ (k : ℕ). i .before .before .row-place .result + k) (sym (c .coefficient-number .ensures .0)))
+  place-is = sym (i .before .before .row-place .ensures .1 t (i .loop-test .taken)
+      ∙ ap (λ (k : ℕ). i .before .before .row-place .result + k) (sym (c .coefficient-number .ensures .0)))
 
   place-low : place < length (s .args .cs .now)
   place-low = rw place-is (s .pre .1 .0 t (i .loop-test .taken))
 
   small : place ≤ 258
-  small = let p = i .before .before .row-place .ensures .0 in let q = c .coefficient-number .ensures .1 in let m3 = s .pre .0 .1 in omega arith
+  small = let p = i .before .before .row-place .ensures .0 in let q = c .coefficient-number .ensures .1 in let m3 = s .pre .0 .1 in
+      omega arith
 
 loop-holds : tie.Need-loop-holds Inv-loop μ-loop
-loop-holds c = let a = c .before .args in (zero-le, subst (λ (k : ℕ). Gathers (a .m) (a .c) k (a .cs .now) (a .xs .now)) (sym (add-zero (a .m * a .g))) (c .before .pre .1 .1))
+loop-holds c = let a = c .before .args in
+    (zero-le, subst (λ (k : ℕ). Gathers (a .m) (a .c) k (a .cs .now) (a .xs .now)) (sym (add-zero (a .m * a .g))) (c .before .pre .1 .1))
 
 loop-again : tie.Need-loop-again Inv-loop μ-loop
 loop-again c =
@@ -52,8 +55,11 @@ loop-again c =
     let w = i d .before .loop in
     let h = s d .pre .0 .2 in
     let x = at (a .cs .now) (place d) in
-    let e : a .m * a .g + (w .t + 1) ≡ a .m * a .g + w .t + 1 = omega arith in
-    (omega arith, rw e (gathers-more (a .m) (a .c) (a .m * a .g + w .t) (a .cs .now) (w .xs) _ (omega arith) (w .inv .1) (widened x (c .xs .given) ∙ ap (at (a .cs .now)) (place-is d)) (rw (widened x (c .xs .given)) (near x (c .xs .given)))))
+    let e : a .m * a .g + (w .t + 1) ≡ a .m * a .g + w .t + 1 = omega arith in (
+      omega arith,
+      rw e (gathers-more (a .m) (a .c) (a .m * a .g + w .t) (a .cs .now) (w .xs) _ (omega arith) (w .inv .1)
+          (widened x (c .xs .given) ∙ ap (at (a .cs .now)) (place-is d)) (rw (widened x (c .xs .given)) (near x (c .xs .given)))),
+    )
 
 returns : tie.Need-returns Inv-loop μ-loop
 returns c =

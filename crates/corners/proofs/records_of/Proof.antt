@@ -8,7 +8,8 @@ use lib.ListN.{length}
 use denote.Ref.{now}
 use Rattle.lattice.specs.Outcome.{Check, done}
 use Rattle.lattice.specs.Buffer.{at}
-use Rattle.coefficients.specs.Corners.{coefficientCount, possibleOutcome}
+use Rattle.cell.specs.Coefficients.{coefficientCount}
+use Rattle.corners.specs.Corners.{possibleOutcome}
 use Rattle.coefficients.specs.Blocks.{Sizes}
 use Rattle.coefficients.proofs.BlockLaws.{sizes}
 use Rattle.corners.specs.Back.{entryOf}
@@ -55,4 +56,5 @@ returns-2 c =
 pub records-of-spec : {M : Type 1} → statement M
 records-of-spec =
     tie.close
-    (tie.spec (λ c. search needs) (λ c κs. search needs) corner-records-requires returns (λ c. search needs) (λ c κs. search needs) corner-records-requires-2 returns-2)
+    (tie.spec (λ c. search needs) (λ c κs. search needs) corner-records-requires returns (λ c. search needs)
+    (λ c κs. search needs) corner-records-requires-2 returns-2)

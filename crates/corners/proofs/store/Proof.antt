@@ -20,7 +20,7 @@ use Rattle.lattice.specs.Answers.{outcomeOf}
 use Rattle.lattice.specs.Outcome.{done, refuseUnless, firstOf}
 use Rattle.lattice.specs.Buffer.{at}
 use Rattle.lattice.proofs.OutcomeLaws.{firstOf-stops, firstOf-more, done-refused}
-use Rattle.coefficients.specs.Corners.{wholeWithin}
+use Rattle.corners.specs.Corners.{wholeWithin}
 use Rattle.coefficients.specs.Blocks.{scatter}
 use Rattle.coefficients.proofs.SpotLaws.{scatter-more}
 use Rattle.corners.specs.Back.{blockTest}
@@ -29,7 +29,8 @@ use Rattle.corners.proofs.store.Statement.{statement}
 use Rattle.corners.proofs.store.Tie as tie
 
 abbrev Inv-loop : tie.InvT-loop
-Inv-loop n size c limits zs out₀ first k₀ out k = (k ≤ size) × (firstOf k (blockTest n limits (at zs)) ≡ done tt) × (out ≡ scatter k (λ j. first + j) (λ j. floorDiv (at zs j) (2 ^ n)) out₀)
+Inv-loop n size c limits zs out₀ first k₀ out k = (k ≤ size) × (firstOf k (blockTest n limits (at zs)) ≡ done tt)
+    × (out ≡ scatter k (λ j. first + j) (λ j. floorDiv (at zs j) (2 ^ n)) out₀)
 
 abbrev μ-loop : tie.MeasureT-loop
 μ-loop n size c limits zs out₀ first k₀ out k = size - k
@@ -89,7 +90,8 @@ module _ (c : tie.After-whole-within Inv-loop μ-loop) where
   n = S a .args .n
 
   test-is : c .whole-within .result ≡ wholeWithin n (natAbs (x a)) (z a)
-  test-is = c .whole-within .ensures ∙ ap (λ y. wholeWithin n (natAbs y) (toZ w64 (ofZ w64 (z a)))) (x-held a) ∙ ap (wholeWithin n (natAbs (x a))) (z-held a)
+  test-is = c .whole-within .ensures ∙ ap (λ y. wholeWithin n (natAbs y) (toZ w64 (ofZ w64 (z a)))) (x-held a)
+      ∙ ap (wholeWithin n (natAbs (x a))) (z-held a)
 
   module _ (yes : c .whole-within .result ≡ true) where
     low : natAbs (floorDiv (z a) (2 ^ n)) < 2 ^ 31
@@ -99,7 +101,8 @@ module _ (c : tie.After-whole-within Inv-loop μ-loop) where
     value = toZ w64 (ofZ w64 (shrZ (toZ w64 (ofZ w64 (z a))) (2 ^ n)))
 
     value-is : value ≡ floorDiv (z a) (2 ^ n)
-    value-is = ap (λ y. toZ w64 (ofZ w64 (shrZ y (2 ^ n)))) (z-held a) ∙ kept (floorDiv (z a) (2 ^ n)) (2 ^ 31) (let h = low in omega arith) (lit< tt)
+    value-is = ap (λ y. toZ w64 (ofZ w64 (shrZ y (2 ^ n)))) (z-held a)
+        ∙ kept (floorDiv (z a) (2 ^ n)) (2 ^ 31) (let h = low in omega arith) (lit< tt)
 
     fits : SFits w32 value
     fits = subst (SFits w32) (sym value-is) (sfits-abs {w = w32} (floorDiv (z a) (2 ^ n)) low)
@@ -115,7 +118,10 @@ returns : tie.Need-returns Inv-loop μ-loop
 returns c =
     let w = c .before .before in
     let s = S (a w) in
-    let stop = c .refuse-unless .ensures ∙ sym (firstOf-stops (s .args .size) (k (a w)) (blockTest (n w) (s .args .limits .now) (at (s .args .zs .now))) 13 0 (i (a w) .loop-test .taken) (i (a w) .before .loop .inv .1) (ap (λ (b : Bool). refuseUnless b 13 0) (sym (test-is w) ∙ c .before .if1 .left))) in
+    let stop = c .refuse-unless .ensures
+    ∙ sym (firstOf-stops (s .args .size) (k (a w)) (blockTest (n w) (s .args .limits .now) (at (s .args .zs .now))) 13 0
+    (i (a w) .loop-test .taken) (i (a w) .before .loop .inv .1)
+    (ap (λ (b : Bool). refuseUnless b 13 0) (sym (test-is w) ∙ c .before .if1 .left))) in
     (stop, λ e. absurd (done-refused (outcomeOf (c .refuse-unless .result)) 13 0 e (c .refuse-unless .ensures)))
 
 loop-again : tie.Need-loop-again Inv-loop μ-loop
@@ -125,8 +131,10 @@ loop-again c =
     let l = i (a w) .before .loop in
     let yes = c .if1 .taken in (
       omega arith,
-      firstOf-more (k (a w)) (blockTest (n w) (s .args .limits .now) (at (s .args .zs .now))) (l .inv .1) (ap (λ (b : Bool). refuseUnless b 13 0) (sym (test-is w) ∙ yes)),
-      scatter-more (λ j. s .args .size * s .args .c + j) (λ j. floorDiv (at (s .args .zs .now) j) (2 ^ n w)) (s .args .out .now) (l .out) (k (a w)) _ _ (l .inv .2) refl (toZ-ofZ (fits w yes) ∙ value-is w yes),
+      firstOf-more (k (a w)) (blockTest (n w) (s .args .limits .now) (at (s .args .zs .now))) (l .inv .1)
+          (ap (λ (b : Bool). refuseUnless b 13 0) (sym (test-is w) ∙ yes)),
+      scatter-more (λ j. s .args .size * s .args .c + j) (λ j. floorDiv (at (s .args .zs .now) j) (2 ^ n w)) (s .args .out .now) (l .out)
+          (k (a w)) _ _ (l .inv .2) refl (toZ-ofZ (fits w yes) ∙ value-is w yes),
     )
 
 returns-2 : tie.Need-returns-2 Inv-loop μ-loop
@@ -135,7 +143,8 @@ returns-2 c =
     let l = c .before .loop in
     let e : l .k ≡ s .args .size = omega arith in (
       sym (subst (λ (k : ℕ). firstOf k (blockTest (s .args .n) (s .args .limits .now) (at (s .args .zs .now))) ≡ done tt) e (l .inv .1)),
-      λ h. subst (λ (k : ℕ). l .out ≡ scatter k (λ j. s .args .size * s .args .c + j) (λ j. floorDiv (at (s .args .zs .now) j) (2 ^ s .args .n)) (s .args .out .now)) e (l .inv .2),
+      λ h. subst (λ (k : ℕ). l .out ≡ scatter k (λ j. s .args .size * s .args .c + j)
+          (λ j. floorDiv (at (s .args .zs .now) j) (2 ^ s .args .n)) (s .args .out .now)) e (l .inv .2),
     )
 
 pub store-spec : {M : Type 1} → statement M
@@ -144,7 +153,8 @@ store-spec =
     (tie.spec
     Inv-loop
     μ-loop
-    (λ c. let h = mul-le-mul {n₁ = c .args .size} {m₁ = c .args .c} {n₂ = 27} {m₂ = 8} (c .pre .1) (let l = c .pre .2 in omega arith) in omega arith)
+    (λ c. let h = mul-le-mul {n₁ = c .args .size} {m₁ = c .args .c} {n₂ = 27} {m₂ = 8} (c .pre .1) (let l = c .pre .2 in omega arith) in
+    omega arith)
     loop-holds
     (λ c. omega arith)
     (λ c. omega arith)

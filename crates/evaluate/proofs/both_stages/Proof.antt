@@ -18,10 +18,13 @@ module _ (s : tie.Start) (k : ℕ) (e : s .args .m ≡ k) where
   abbrev g : ℕ → ℤ
   g = at (now (s .args .records))
 
-  asks : (AllPrepared k (s .args .z ∷ s .args .x ∷ []) × (s .args .z .shift ≤ 44)) × Safe roundHalfUp k (length (now (s .args .records))) (s .args .z ∷ s .args .x ∷ []) g (s .args .p)
-  asks = let a = s .args in second-as roundHalfUp (a .z) (a .x) (length (now (a .records))) g (a .p) (a .m) k e (a .z .shift) (s .pre .0) (s .pre .1)
+  asks : (AllPrepared k (s .args .z ∷ s .args .x ∷ []) × (s .args .z .shift ≤ 44))
+      × Safe roundHalfUp k (length (now (s .args .records))) (s .args .z ∷ s .args .x ∷ []) g (s .args .p)
+  asks = let a = s .args in
+      second-as roundHalfUp (a .z) (a .x) (length (now (a .records))) g (a .p) (a .m) k e (a .z .shift) (s .pre .0) (s .pre .1)
 
-  gives : worked roundHalfUp (s .args .z .shift) (s .args .z) (after roundHalfUp k (s .args .x ∷ []) g) (s .args .p) ≡ worked roundHalfUp (s .args .z .shift) (s .args .z) (after roundHalfUp (s .args .m) (s .args .x ∷ []) g) (s .args .p)
+  gives : worked roundHalfUp (s .args .z .shift) (s .args .z) (after roundHalfUp k (s .args .x ∷ []) g) (s .args .p) ≡ worked roundHalfUp
+      (s .args .z .shift) (s .args .z) (after roundHalfUp (s .args .m) (s .args .x ∷ []) g) (s .args .p)
   gives = let a = s .args in worked-as roundHalfUp (a .z) (a .x) (length (now (a .records))) g (a .p) (a .m) k e (a .z .shift)
 
 three : (c : tie.Else1) → c .before .args .m ≡ 3

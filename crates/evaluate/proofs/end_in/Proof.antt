@@ -26,7 +26,8 @@ returns c =
     let s = c .before .before .before in
     let a = c .before .before .entry in
     let b = c .before .entry2 in
-    end-of-two (s .args .m) (at (now (s .args .records))) (s .args .p) (s .args .order) _ _ (read (a .result) (a .ok) ∙ a .ensures) (read (b .result) (b .ok) ∙ b .ensures)
+    end-of-two (s .args .m) (at (now (s .args .records))) (s .args .p) (s .args .order) _ _ (read (a .result) (a .ok) ∙ a .ensures)
+    (read (b .result) (b .ok) ∙ b .ensures)
     (c .if1 .taken)
 
 returns-2 : tie.Need-returns-2
@@ -36,7 +37,8 @@ returns-2 c =
     let b = c .before .before .entry2 in
     let d = c .entry3 in
     let n = c .before .if1 .left in
-    end-of-three (s .args .m) (at (now (s .args .records))) (s .args .p) (s .args .order) _ _ (read (a .result) (a .ok) ∙ a .ensures) (read (b .result) (b .ok) ∙ b .ensures)
+    end-of-three (s .args .m) (at (now (s .args .records))) (s .args .p) (s .args .order) _ _ (read (a .result) (a .ok) ∙ a .ensures)
+    (read (b .result) (b .ok) ∙ b .ensures)
     (omega (arith, s .pre .0, s .pre .1)) _ (read (d .result) (d .ok) ∙ d .ensures)
 
 pub end-in-spec : {M : Type 1} → statement M

@@ -20,13 +20,15 @@ module _ (s : tie.Start) where
   rs = now (s .args .records)
 
   index : s .args .p < length rs
-  index = let a = s .args in safe-index roundHalfUp (a .m) (length rs) (a .x ∷ []) (at rs) (a .p) (let h = s .pre .0 .0 .m-low in omega arith) (s .pre .1)
+  index = let a = s .args in
+      safe-index roundHalfUp (a .m) (length rs) (a .x ∷ []) (at rs) (a .p) (let h = s .pre .0 .0 .m-low in omega arith) (s .pre .1)
 
 module _ (c : tie.After-end-in2) where
   abbrev start : tie.Start
   start = c .before .before .before
 
-  ends : AreEnds (start .args .m) (at (rs start)) (start .args .p) (start .args .x .order) (start .args .x .node) (record { low = c .before .end-in .result; high = c .end-in2 .result })
+  ends : AreEnds (start .args .m) (at (rs start)) (start .args .p) (start .args .x .order) (start .args .x .node)
+      (record { low = c .before .end-in .result; high = c .end-in2 .result })
   ends =
       let a = start .args in
       record {
@@ -44,8 +46,12 @@ end-in-requires c κs =
 end-in-requires-2 : tie.Need-end-in-requires-2
 end-in-requires-2 c κs =
     let s = c .before .before in
-    let h = s .pre .0 .0 in
-    (h .m-low, h .m-high, λ o l. part-index (rs s) (s .args .p) (s .args .x .node + o * s .args .x .order) (let k = s .pre .1 .0 o l .1 in omega arith))
+    let h = s .pre .0 .0 in (
+      h .m-low,
+      h .m-high,
+      λ o l. part-index (rs s) (s .args .p) (s .args .x .node + o * s .args .x .order)
+          (let k = s .pre .1 .0 o l .1 in omega arith),
+    )
 
 stage-requires : tie.Need-stage-requires
 unfolding after
@@ -54,7 +60,8 @@ stage-requires c κs = let s = start (c .before) in stage-asks (s .pre .0 .0) (e
 returns : tie.Need-returns
 returns c =
     let s = start (c .before .before) in
-    read (c .stage .result) (c .stage .ok) ∙ c .stage .ensures ∙ stage-gives (s .pre .0 .0) (ends (c .before .before)) roundHalfUp (s .args .k)
+    read (c .stage .result) (c .stage .ok) ∙ c .stage .ensures
+    ∙ stage-gives (s .pre .0 .0) (ends (c .before .before)) roundHalfUp (s .args .k)
 
 pub first-spec : {M : Type 1} → statement M
 first-spec =

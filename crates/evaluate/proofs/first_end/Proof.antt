@@ -46,7 +46,8 @@ returns c =
     let s = c .before .before .before in
     let a = c .before .before .first in
     let b = c .before .first2 in
-    end-of-two (s .args .m) (number s) (s .args .p) (s .args .order) _ _ (read (a .result) (a .ok) ∙ a .ensures) (read (b .result) (b .ok) ∙ b .ensures) (c .if1 .taken)
+    end-of-two (s .args .m) (number s) (s .args .p) (s .args .order) _ _ (read (a .result) (a .ok) ∙ a .ensures)
+    (read (b .result) (b .ok) ∙ b .ensures) (c .if1 .taken)
 
 returns-2 : tie.Need-returns-2
 returns-2 c =
@@ -54,7 +55,8 @@ returns-2 c =
     let a = c .before .before .before .first in
     let b = c .before .before .first2 in
     let d = c .first3 in
-    end-of-three (s .args .m) (number s) (s .args .p) (s .args .order) _ _ (read (a .result) (a .ok) ∙ a .ensures) (read (b .result) (b .ok) ∙ b .ensures)
+    end-of-three (s .args .m) (number s) (s .args .p) (s .args .order) _ _ (read (a .result) (a .ok) ∙ a .ensures)
+    (read (b .result) (b .ok) ∙ b .ensures)
     (three s (c .before .if1 .left)) _ (read (d .result) (d .ok) ∙ d .ensures)
 
 pub first-end-spec : {M : Type 1} → statement M

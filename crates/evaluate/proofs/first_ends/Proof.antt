@@ -16,7 +16,8 @@ add-first-end c =
     let s = c .before in
     let a = s .args in
     let m = s .pre .0 .0 .m-low in
-    let h = safe-index roundHalfUp (a .m) (length (now (a .records))) (a .x ∷ []) (at (now (a .records))) (a .p + a .node + 0 * a .order) (omega arith) (s .pre .1 0 (omega arith) .1) in
+    let h = safe-index roundHalfUp (a .m) (length (now (a .records))) (a .x ∷ []) (at (now (a .records))) (a .p + a .node + 0 * a .order)
+    (omega arith) (s .pre .1 0 (omega arith) .1) in
     omega arith
 
 pub first-ends-spec : {M : Type 1} → statement M

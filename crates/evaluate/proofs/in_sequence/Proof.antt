@@ -20,7 +20,8 @@ returns c = let s = c .before in let a = s .args in subst (Ordered s (a .y) (a .
 
 returns-2 : tie.Need-returns-2
 unfolding ofAxis beside pick
-returns-2 c = let s = c .before .before in let a = s .args in subst (Ordered s (a .x) (a .z) (a .y)) (sym (c .if2 .taken)) (refl, refl, refl)
+returns-2 c = let s = c .before .before in let a = s .args in
+    subst (Ordered s (a .x) (a .z) (a .y)) (sym (c .if2 .taken)) (refl, refl, refl)
 
 returns-3 : tie.Need-returns-3
 unfolding ofAxis beside pick

@@ -17,7 +17,8 @@ returns c =
 returns-2 : tie.Need-returns-2
 returns-2 c =
     let a = c .before .before .args in
-    subst (λ (o : ℕ). Made (a .m) o true false (a .c) (c .axis-of2 .result)) (sym (order-some (a .order) (c .before .if1 .left))) (c .axis-of2 .ensures)
+    subst (λ (o : ℕ). Made (a .m) o true false (a .c) (c .axis-of2 .result)) (sym (order-some (a .order) (c .before .if1 .left)))
+    (c .axis-of2 .ensures)
 
 pub last-stage-spec : {M : Type 1} → statement M
 last-stage-spec = tie.close (tie.spec (λ c κs. search needs) returns (λ c κs. search needs) returns-2)

@@ -30,14 +30,16 @@ third-requires : tie.Need-third-requires
 third-requires c κs =
     let d = c .before .before in
     let s = d .before .before in
-    three-ask (s .args .b) (d .axis-of .ensures) (d .before .last-stage .ensures) (c .axis-of2 .ensures) (s .args .three) (not-false _ (c .before .if1 .left)) (s .pre)
+    three-ask (s .args .b) (d .axis-of .ensures) (d .before .last-stage .ensures) (c .axis-of2 .ensures) (s .args .three)
+    (not-false _ (c .before .if1 .left)) (s .pre)
 
 returns-2 : tie.Need-returns-2
 returns-2 c =
     let e = c .before in
     let d = e .before .before in
     let s = d .before .before in
-    three-give (s .args .b) (d .axis-of .ensures) (d .before .last-stage .ensures) (e .axis-of2 .ensures) (s .args .three) (not-false _ (e .before .if1 .left))
+    three-give (s .args .b) (d .axis-of .ensures) (d .before .last-stage .ensures) (e .axis-of2 .ensures) (s .args .three)
+    (not-false _ (e .before .if1 .left))
     (read (c .third .result) (c .third .ok) ∙ c .third .ensures)
 
 pub more-axes-spec : {M : Type 1} → statement M

@@ -26,7 +26,8 @@ use Rattle.evaluate.proofs.on_lattice.Statement.{statement}
 use Rattle.evaluate.proofs.on_lattice.Tie as tie
 
 low : (b : tie.Start) → b .args .l .orders ≤ 3
-low b = let a = b .args in orders-low half-up-sound (a .s) (now (a .records)) (placeAt (a .cell)) (a .step) (a .order) (a .axis) (a .l) (b .pre .0)
+low b = let a = b .args in
+    orders-low half-up-sound (a .s) (now (a .records)) (placeAt (a .cell)) (a .step) (a .order) (a .axis) (a .l) (b .pre .0)
 
 module _ (c : tie.After-in-sequence) where
   abbrev f : tie.After-last-axis
@@ -48,7 +49,8 @@ module _ (c : tie.After-in-sequence) where
   Is = IsAxis (b .args .s) (placeAt (b .args .step))
 
   -- each axis by its number
-  axis : (i : ℕ) → i < 3 → Is i (ofAxis (c .before .before .before .strides-of .result) (c .before .before .strides-of2 .result) (c .before .strides-of3 .result) i)
+  axis : (i : ℕ) → i < 3 → Is i
+      (ofAxis (c .before .before .before .strides-of .result) (c .before .before .strides-of2 .result) (c .before .strides-of3 .result) i)
   unfolding ofAxis
   axis =
       let a = b .args in
@@ -56,39 +58,52 @@ module _ (c : tie.After-in-sequence) where
       let x = c .before .before .before .strides-of in
       let y = c .before .before .strides-of2 in
       let z = c .before .strides-of3 in
-      by-3 (λ i. Is i (ofAxis (x .result) (y .result) (z .result) i)) (is 0 (lit< tt) (x .result) (x .ensures)) (is 1 (lit< tt) (y .result) (y .ensures)) (is 2 (lit< tt) (z .result) (z .ensures))
+      by-3 (λ i. Is i (ofAxis (x .result) (y .result) (z .result) i)) (is 0 (lit< tt) (x .result) (x .ensures))
+      (is 1 (lit< tt) (y .result) (y .ensures)) (is 2 (lit< tt) (z .result) (z .ensures))
 
   -- the axis that the sequence names
-  named : (i j : ℕ) → i ≡ j → j < 3 → (v : Strides) → v ≡ ofAxis (c .before .before .before .strides-of .result) (c .before .before .strides-of2 .result) (c .before .strides-of3 .result) i → Is j v
+  named : (i j : ℕ) → i ≡ j → j < 3 → (v : Strides)
+      → v ≡ ofAxis (c .before .before .before .strides-of .result) (c .before .before .strides-of2 .result)
+      (c .before .strides-of3 .result) i → Is j v
   named i j e h v k = subst (Is j) (sym (k ∙ ap (ofAxis _ _ _) e)) (axis j h)
 
   is-first : Is (beside 0 last) (c .in-sequence .result .first)
-  is-first = named (beside 0 (f .last-axis .result)) (beside 0 last) (ap (beside 0) (f .last-axis .ensures)) (beside-low 0 last (lit< tt)) (c .in-sequence .result .first) (c .in-sequence .ensures .0)
+  is-first = named (beside 0 (f .last-axis .result)) (beside 0 last) (ap (beside 0) (f .last-axis .ensures)) (beside-low 0 last (lit< tt))
+      (c .in-sequence .result .first) (c .in-sequence .ensures .0)
 
   is-middle : Is (beside 2 last) (c .in-sequence .result .middle)
-  is-middle = named (beside 2 (f .last-axis .result)) (beside 2 last) (ap (beside 2) (f .last-axis .ensures)) (beside-low 2 last (lit< tt)) (c .in-sequence .result .middle) (c .in-sequence .ensures .1)
+  is-middle = named (beside 2 (f .last-axis .result)) (beside 2 last) (ap (beside 2) (f .last-axis .ensures)) (beside-low 2 last (lit< tt))
+      (c .in-sequence .result .middle) (c .in-sequence .ensures .1)
 
   is-last : Is last (c .in-sequence .result .last)
-  is-last = named (f .last-axis .result) last (f .last-axis .ensures) (last-low .1) (c .in-sequence .result .last) (c .in-sequence .ensures .2)
+  is-last = named (f .last-axis .result) last (f .last-axis .ensures) (last-low .1) (c .in-sequence .result .last)
+      (c .in-sequence .ensures .2)
 
   abbrev others : List Strides
   others = also (eqb n 3) (c .in-sequence .result .middle) (c .in-sequence .result .first ∷ [])
 
   are : AreAxes (b .args .s) (placeAt (b .args .step)) (without last (axes n)) others
   are =
-      subst (λ (ls : List ℕ). AreAxes (b .args .s) (placeAt (b .args .step)) ls others) (sym (axes-before n last (b .pre .1) (b .pre .0 .shape .axes-high) (last-low .0)))
-      (are-axes (b .args .s) (placeAt (b .args .step)) (eqb n 3) (beside 0 last) (beside 2 last) (c .in-sequence .result .first) (c .in-sequence .result .middle) is-first is-middle)
+      subst (λ (ls : List ℕ). AreAxes (b .args .s) (placeAt (b .args .step)) ls others)
+      (sym (axes-before n last (b .pre .1) (b .pre .0 .shape .axes-high) (last-low .0)))
+      (are-axes (b .args .s) (placeAt (b .args .step)) (eqb n 3) (beside 0 last) (beside 2 last) (c .in-sequence .result .first)
+      (c .in-sequence .result .middle) is-first is-middle)
 
-  asks : Workable roundHalfUp (b .args .l .orders) (orderOf (b .args .order)) (c .in-sequence .result .last) others (length (now (b .args .records))) (at (now (b .args .records))) (b .args .l .base)
+  asks : Workable roundHalfUp (b .args .l .orders) (orderOf (b .args .order)) (c .in-sequence .result .last) others
+      (length (now (b .args .records))) (at (now (b .args .records))) (b .args .l .base)
   asks =
       let a = b .args in
-      workable-in half-up-sound (a .s) (now (a .records)) (placeAt (a .cell)) (placeAt (a .step)) (wantOf (a .order) (a .axis)) (a .l) (b .pre .0) n last refl refl (orderOf (a .order)) (order-last (a .order) (a .axis)) (c .in-sequence .result .last) others is-last are
+      workable-in half-up-sound (a .s) (now (a .records)) (placeAt (a .cell)) (placeAt (a .step)) (wantOf (a .order) (a .axis)) (a .l)
+      (b .pre .0) n last refl refl (orderOf (a .order)) (order-last (a .order) (a .axis)) (c .in-sequence .result .last) others is-last are
 
-  gives : (r : ℤ) → WorkedOff roundHalfUp (b .args .l .orders) (orderOf (b .args .order)) (c .in-sequence .result .last) others (at (now (b .args .records))) (b .args .l .base) r
-      → r ≡ answer (askAt (b .args .s) (wantOf (b .args .order) (b .args .axis)) (placeAt (b .args .cell)) (placeAt (b .args .step))) (recordsField (b .args .s) (now (b .args .records)))
+  gives : (r : ℤ) → WorkedOff roundHalfUp (b .args .l .orders) (orderOf (b .args .order)) (c .in-sequence .result .last) others
+      (at (now (b .args .records))) (b .args .l .base) r
+      → r ≡ answer (askAt (b .args .s) (wantOf (b .args .order) (b .args .axis)) (placeAt (b .args .cell)) (placeAt (b .args .step)))
+      (recordsField (b .args .s) (now (b .args .records)))
   gives =
       let a = b .args in
-      answer-in half-up-sound (a .s) (now (a .records)) (placeAt (a .cell)) (placeAt (a .step)) (wantOf (a .order) (a .axis)) (a .l) (b .pre .0) n last refl refl (orderOf (a .order)) (order-last (a .order) (a .axis)) (c .in-sequence .result .last) others is-last are
+      answer-in half-up-sound (a .s) (now (a .records)) (placeAt (a .cell)) (placeAt (a .step)) (wantOf (a .order) (a .axis)) (a .l)
+      (b .pre .0) n last refl refl (orderOf (a .order)) (order-last (a .order) (a .axis)) (c .in-sequence .result .last) others is-last are
 
 cast-result : tie.Need-cast-result
 cast-result c =
@@ -96,7 +111,8 @@ cast-result c =
     let s = b d in
     let a = s .args in
     let r = c .more-axes in
-    fits half-up-sound (a .s) (now (a .records)) (placeAt (a .cell)) (a .step) (a .order) (a .axis) (a .l) (s .pre .0) (r .result) (r .ok) (gives d (r .result) (r .ensures))
+    fits half-up-sound (a .s) (now (a .records)) (placeAt (a .cell)) (a .step) (a .order) (a .axis) (a .l) (s .pre .0) (r .result) (r .ok)
+    (gives d (r .result) (r .ensures))
 
 returns : tie.Need-returns
 returns c =
@@ -104,7 +120,8 @@ returns c =
     let s = b d in
     let a = s .args in
     let r = c .more-axes in
-    cast half-up-sound (a .s) (now (a .records)) (placeAt (a .cell)) (a .step) (a .order) (a .axis) (a .l) (s .pre .0) (r .result) (r .ok) (gives d (r .result) (r .ensures))
+    cast half-up-sound (a .s) (now (a .records)) (placeAt (a .cell)) (a .step) (a .order) (a .axis) (a .l) (s .pre .0) (r .result) (r .ok)
+    (gives d (r .result) (r .ensures))
 
 pub on-lattice-spec : {M : Type 1} → statement M
 on-lattice-spec =

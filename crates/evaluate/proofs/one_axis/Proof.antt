@@ -14,7 +14,14 @@ first-requires c κs = let e = c .axis-of .ensures in ((made-prepared e, made-sm
 returns : tie.Need-returns
 unfolding after
 returns c =
-    record { last = c .before .axis-of .result; others = []; made-last = c .before .axis-of .ensures; made = tt; is = read (c .first .result) (c .first .ok) ∙ c .first .ensures }
+    record {
+      last = c .before .axis-of .result;
+      others = [];
+      made-last = c .before .axis-of .ensures;
+      made = tt;
+      is =
+          read (c .first .result) (c .first .ok) ∙ c .first .ensures;
+    }
 
 pub one-axis-spec : {M : Type 1} → statement M
 one-axis-spec = tie.close (tie.spec (λ c κs. search needs) first-requires returns)

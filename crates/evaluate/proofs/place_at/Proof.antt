@@ -14,7 +14,8 @@ module _ (b : tie.Start) where
   unfolding placeOf
   low l = let a = b .args in pick-true (ltb (a .t) (a .m)) _ _ (lt-ltb (a .t) (a .m) l)
 
-  high : b .args .m ≤ b .args .t → placeOf (b .args .m) (b .args .order) (b .args .node) (b .args .t) ≡ b .args .node + (b .args .t - b .args .m) * b .args .order
+  high : b .args .m ≤ b .args .t
+      → placeOf (b .args .m) (b .args .order) (b .args .node) (b .args .t) ≡ b .args .node + (b .args .t - b .args .m) * b .args .order
   unfolding placeOf
   high l = let a = b .args in pick-false (ltb (a .t) (a .m)) _ _ (le-ltb (a .t) (a .m) l)
 

@@ -37,9 +37,11 @@ module _ (c : tie.After-place-at4) where
   place = placeOf (start .args .m) (start .args .order) (start .args .node)
 
   all : (e g : ℕ) → (4 < 2 * start .args .m → e ≡ place 4) → (5 < 2 * start .args .m → g ≡ place 5) → (t : ℕ) → t < 2 * start .args .m
-      → getD (c .before .before .before .place-at .result ∷ c .before .before .place-at2 .result ∷ c .before .place-at3 .result ∷ c .place-at4 .result ∷ e ∷ g ∷ []) t 0 ≡ place t
+      → getD (c .before .before .before .place-at .result ∷ c .before .before .place-at2 .result ∷ c .before .place-at3 .result
+      ∷ c .place-at4 .result ∷ e ∷ g ∷ []) t 0 ≡ place t
   all e g ee eg =
-      six place _ _ _ _ (c .before .before .before .place-at .ensures) (c .before .before .place-at2 .ensures) (c .before .place-at3 .ensures) (c .place-at4 .ensures) e g (2 * start .args .m) ee eg
+      six place _ _ _ _ (c .before .before .before .place-at .ensures) (c .before .before .place-at2 .ensures)
+      (c .before .place-at3 .ensures) (c .place-at4 .ensures) e g (2 * start .args .m) ee eg
       (let h = start .pre .1 in omega arith)
 
   six-ends : (start .args .m ≡ 2 → ⊥) → 2 * start .args .m ≡ 6

@@ -18,26 +18,33 @@ use Rattle.evaluate.proofs.second.Tie as tie
 first-ends-requires : tie.Need-first-ends-requires
 first-ends-requires c κs =
     let s = c .before in
-    let h = s .pre .0 .0 .1 .0 in
-    ((h, subst (λ (i : ℕ). i ≤ 44) (sym (c .shift .ensures)) (shifted 0 (s .args .m) _ _ (lit≤ tt) (h .m-low) (h .m-high) .low)), s .pre .1 .0)
+    let h = s .pre .0 .0 .1 .0 in (
+      (h, subst (λ (i : ℕ). i ≤ 44) (sym (c .shift .ensures)) (shifted 0 (s .args .m) _ _ (lit≤ tt) (h .m-low) (h .m-high) .low)),
+      s .pre .1 .0,
+    )
 
 module _ (c : tie.After-first-ends) where
   abbrev start : tie.Start
   start = c .before .before
 
-  ends : AreEnds (start .args .m) (after roundHalfUp (start .args .m) (start .args .x ∷ []) (at (now (start .args .records)))) (start .args .p) (start .args .y .order) (start .args .y .node) (c .first-ends .result)
+  ends : AreEnds (start .args .m) (after roundHalfUp (start .args .m) (start .args .x ∷ []) (at (now (start .args .records))))
+      (start .args .p) (start .args .y .order) (start .args .y .node) (c .first-ends .result)
   unfolding after
   ends =
       let a = start .args in
-      subst (λ (k : ℕ). AreEnds (a .m) (worked roundHalfUp k (a .x) (at (now (a .records)))) (a .p) (a .y .order) (a .y .node) (c .first-ends .result)) (c .before .shift .ensures) (c .first-ends .ensures)
+      subst (λ (k : ℕ). AreEnds (a .m) (worked roundHalfUp k (a .x) (at (now (a .records)))) (a .p) (a .y .order) (a .y .node)
+      (c .first-ends .result)) (c .before .shift .ensures) (c .first-ends .ensures)
 
 stage-requires : tie.Need-stage-requires
-stage-requires c κs = let s = start (c .before) in stage-asks (s .pre .0 .0 .0) (ends (c .before)) (s .args .k) (s .pre .0 .1) (s .pre .1 .1)
+stage-requires c κs = let s = start (c .before) in
+    stage-asks (s .pre .0 .0 .0) (ends (c .before)) (s .args .k) (s .pre .0 .1) (s .pre .1 .1)
 
 returns : tie.Need-returns
 returns c =
     let s = start (c .before .before) in
-    read (c .stage .result) (c .stage .ok) ∙ c .stage .ensures ∙ stage-gives (s .pre .0 .0 .0) (ends (c .before .before)) roundHalfUp (s .args .k)
+    read (c .stage .result) (c .stage .ok) ∙ c .stage .ensures
+    ∙ stage-gives (s .pre .0 .0 .0) (ends (c .before .before)) roundHalfUp (s .args .k)
 
 pub second-spec : {M : Type 1} → statement M
-second-spec = tie.close (tie.spec (λ c κs. let h = c .pre .0 .0 .0 in (lit≤ tt, h .m-low, h .m-high)) first-ends-requires stage-requires returns)
+second-spec = tie.close (tie.spec
+    (λ c κs. let h = c .pre .0 .0 .0 in (lit≤ tt, h .m-low, h .m-high)) first-ends-requires stage-requires returns)

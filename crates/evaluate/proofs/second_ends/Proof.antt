@@ -22,7 +22,8 @@ use Rattle.evaluate.proofs.second_ends.Tie as tie
 -- the first t numbers stand in n
 abbrev Inv-loop : tie.InvT-loop
 Inv-loop m y x records p orderStride nodeStride place n₀ t₀ n t =
-    (t ≤ 2 * m) × (length n ≡ 6) × ((j : ℕ) → j < t → at n j ≡ after roundHalfUp m (y ∷ x ∷ []) (at records) (p + placeOf m orderStride nodeStride j))
+    (t ≤ 2 * m) × (length n ≡ 6)
+    × ((j : ℕ) → j < t → at n j ≡ after roundHalfUp m (y ∷ x ∷ []) (at records) (p + placeOf m orderStride nodeStride j))
 
 abbrev μ-loop : tie.MeasureT-loop
 μ-loop m y x records p orderStride nodeStride place n₀ t₀ n t = 2 * m - t
@@ -44,8 +45,10 @@ module _ (s : tie.Start Inv-loop μ-loop) where
   m3 = s .pre .0 .0 .m-high
 
   -- number t may be worked out, and stands in the records
-  safe : (t : ℕ) → t < 2 * s .args .m → Safe roundHalfUp (s .args .m) size (s .args .y ∷ s .args .x ∷ []) (at (now (s .args .records))) (s .args .p + place t)
-  safe = let a = s .args in at-place (a .m) (a .order) (a .node) (Safe roundHalfUp (a .m) size (a .y ∷ a .x ∷ []) (at (now (a .records)))) (a .p) (s .pre .1)
+  safe : (t : ℕ) → t < 2 * s .args .m
+      → Safe roundHalfUp (s .args .m) size (s .args .y ∷ s .args .x ∷ []) (at (now (s .args .records))) (s .args .p + place t)
+  safe = let a = s .args in
+      at-place (a .m) (a .order) (a .node) (Safe roundHalfUp (a .m) size (a .y ∷ a .x ∷ []) (at (now (a .records)))) (a .p) (s .pre .1)
 
   index : (t : ℕ) → t < 2 * s .args .m → s .args .p + place t < size
   index t l =
@@ -72,8 +75,11 @@ module _ (c : tie.In-loop Inv-loop μ-loop) where
 first-stages-requires : tie.Need-first-stages-requires Inv-loop μ-loop
 first-stages-requires c κs =
     let s = start c in
-    let a = s .args in
-    (s .pre .0, subst (λ (i : ℕ). Safe roundHalfUp (a .m) (size s) (a .y ∷ a .x ∷ []) (at (now (a .records))) (a .p + i)) (sym (here c)) (safe s (t c) (c .loop-test .taken)))
+    let a = s .args in (
+      s .pre .0,
+      subst (λ (i : ℕ). Safe roundHalfUp (a .m) (size s) (a .y ∷ a .x ∷ []) (at (now (a .records))) (a .p + i)) (sym (here c))
+          (safe s (t c) (c .loop-test .taken)),
+    )
 
 loop-again : tie.Need-loop-again Inv-loop μ-loop
 loop-again c =
@@ -82,8 +88,10 @@ loop-again c =
     let i = d .before .loop in (
       omega (arith, d .loop-test .taken),
       simp length-set (i .inv .1),
-      fill (i .n) (i .t) (λ j. number s (s .args .p + place s j)) (toZ w64 (ofZ w64 (c .first-stages .result))) (let e = i .inv .1 in let h = few d in omega arith) (i .inv .2)
-          (read (c .first-stages .result) (c .first-stages .ok) ∙ c .first-stages .ensures ∙ ap (λ (k : ℕ). number s (s .args .p + k)) (here d)),
+      fill (i .n) (i .t) (λ j. number s (s .args .p + place s j)) (toZ w64 (ofZ w64 (c .first-stages .result)))
+          (let e = i .inv .1 in let h = few d in omega arith) (i .inv .2)
+          (read (c .first-stages .result) (c .first-stages .ok) ∙ c .first-stages .ensures
+          ∙ ap (λ (k : ℕ). number s (s .args .p + k)) (here d)),
     )
 
 -- after the last turn
@@ -103,7 +111,8 @@ module _ (c : tie.After-loop Inv-loop μ-loop) where
       let a = begun .args in
       is o (omega arith) ∙ ap (number begun) (ap (λ (i : ℕ). a .p + i) (place-low (a .m) (a .order) (a .node) o l) ∙ e)
 
-  high : (o j i : ℕ) → o < begun .args .m → begun .args .m + o ≡ j → begun .args .p + begun .args .node + o * begun .args .order ≡ i → held j ≡ number begun i
+  high : (o j i : ℕ) → o < begun .args .m → begun .args .m + o ≡ j → begun .args .p + begun .args .node + o * begun .args .order ≡ i
+      → held j ≡ number begun i
   high o j i l k e =
       let a = begun .args in
       ap held (sym k) ∙ is (a .m + o) (omega arith)

@@ -12,13 +12,16 @@ use Rattle.evaluate.proofs.strides_of.Tie as tie
 
 -- the strides of the axis with number i
 module _ (s : tie.Start) (i : ℕ) (e : s .args .axis ≡ i) where
-  strides : (orderStride : ℕ) → orderStride ≡ s .args .m ^ i → stridesOf (getD (s .args .t2) i 0) (getD (s .args .t3 .strides) i 0) orderStride ≡ stridesOf (getD (s .args .t2) (s .args .axis) 0) (getD (s .args .t3 .strides) (s .args .axis) 0) (s .args .m ^ s .args .axis)
+  strides : (orderStride : ℕ) → orderStride ≡ s .args .m ^ i
+      → stridesOf (getD (s .args .t2) i 0) (getD (s .args .t3 .strides) i 0) orderStride ≡ stridesOf (getD (s .args .t2) (s .args .axis) 0)
+      (getD (s .args .t3 .strides) (s .args .axis) 0) (s .args .m ^ s .args .axis)
   strides orderStride k =
       ap (stridesOf (getD (s .args .t2) i 0) (getD (s .args .t3 .strides) i 0)) k
       ∙ ap (λ (j : ℕ). stridesOf (getD (s .args .t2) j 0) (getD (s .args .t3 .strides) j 0) (s .args .m ^ j)) (sym e)
 
 mul-t26 : tie.Need-mul-t26
-mul-t26 c = let s = c .before .before .before in let m = s .args .m in let k : m * m ≤ 3 * 3 = mul-le-mul (s .pre .0) (s .pre .0) in omega arith
+mul-t26 c = let s = c .before .before .before in let m = s .args .m in let k : m * m ≤ 3 * 3 = mul-le-mul (s .pre .0) (s .pre .0) in
+    omega arith
 
 returns : tie.Need-returns
 returns c = let s = c .before .before in strides s 0 (c .before .if1 .taken) 1 (sym (pow-zero (s .args .m)))

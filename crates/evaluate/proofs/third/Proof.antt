@@ -15,7 +15,8 @@ returns : tie.Need-returns
 returns c =
     let d = c .before .before in
     let s = d .before in
-    read (c .stage .result) (c .stage .ok) ∙ c .stage .ensures ∙ stage-gives (s .pre .0 .0 .0) (d .second-ends .ensures) roundHalfUp (s .args .z .shift)
+    read (c .stage .result) (c .stage .ok) ∙ c .stage .ensures
+    ∙ stage-gives (s .pre .0 .0 .0) (d .second-ends .ensures) roundHalfUp (s .args .z .shift)
 
 pub third-spec : {M : Type 1} → statement M
 third-spec = tie.close (tie.spec (λ c κs. (c .pre .0 .0 .1, c .pre .1 .0)) stage-requires returns)

@@ -23,7 +23,8 @@ module _ (n : ℕ) (h : n ≤ 256) where
   distance-size = le-trans (le-of-eq (ap natAbs distance)) h
 
 end-basis-requires : tie.Need-end-basis-requires
-end-basis-requires c κs = (c .pre .0, c .pre .1, c .pre .2, distance-size (c .args .u) (c .pre .3), distance-size (256 - c .args .u) (omega arith))
+end-basis-requires c κs =
+    (c .pre .0, c .pre .1, c .pre .2, distance-size (c .args .u) (c .pre .3), distance-size (256 - c .args .u) (omega arith))
 
 mirror-requires : tie.Need-mirror-requires
 mirror-requires c κs =
@@ -35,13 +36,16 @@ mirror-requires c κs =
     )
 
 end-basis-requires-2 : tie.Need-end-basis-requires-2
-end-basis-requires-2 c κs = let s = c .before .before in (s .pre .0, s .pre .1, s .pre .2, distance-size (256 - s .args .u) (omega arith), distance-size (s .args .u) (s .pre .3))
+end-basis-requires-2 c κs = let s = c .before .before in
+    (s .pre .0, s .pre .1, s .pre .2, distance-size (256 - s .args .u) (omega arith), distance-size (s .args .u) (s .pre .3))
 
 returns : tie.Need-returns
 returns c =
     let s = c .before .before .before in
-    folds (s .args .order) (s .args .m) (s .args .u) (record { low = c .end-basis2 .result; high = c .before .mirror .result }) (s .pre .0) (s .pre .1) (s .pre .2) (s .pre .3)
-    (toZ w64 (256 - s .args .u)) (toZ w64 (s .args .u)) (distance (256 - s .args .u) (omega arith)) (distance (s .args .u) (s .pre .3)) (at (c .before .before .end-basis .result))
+    folds (s .args .order) (s .args .m) (s .args .u) (record { low = c .end-basis2 .result; high = c .before .mirror .result }) (s .pre .0)
+    (s .pre .1) (s .pre .2) (s .pre .3)
+    (toZ w64 (256 - s .args .u)) (toZ w64 (s .args .u)) (distance (256 - s .args .u) (omega arith)) (distance (s .args .u) (s .pre .3))
+    (at (c .before .before .end-basis .result))
     (c .end-basis2 .ensures) (c .before .before .end-basis .ensures) (c .before .mirror .ensures)
 
 pub basis-at-spec : {M : Type 1} → statement M

@@ -16,6 +16,8 @@ by-rows-spec =
     tie.close
     (tie.spec
     (λ c κs. (row-load (at (c .args .a)) (at (c .args .x)) (λ o l. c .pre .0 o l .0) (c .pre .1), λ e. absurd (apart e)))
-    (λ c κs. let s = c .before in (row-load (at (s .args .b)) (at (s .args .x)) (λ o l. s .pre .0 o l .1) (s .pre .1), λ e. absurd (apart e)))
-    (λ c κs. let s = c .before .before in (row-load (at (s .args .c)) (at (s .args .x)) (λ o l. s .pre .0 o l .2) (s .pre .1), λ e. absurd (apart e)))
+    (λ c κs. let s = c .before in
+    (row-load (at (s .args .b)) (at (s .args .x)) (λ o l. s .pre .0 o l .1) (s .pre .1), λ e. absurd (apart e)))
+    (λ c κs. let s = c .before .before in
+    (row-load (at (s .args .c)) (at (s .args .x)) (λ o l. s .pre .0 o l .2) (s .pre .1), λ e. absurd (apart e)))
     (λ c. search needs))

@@ -8,7 +8,9 @@ use borrow.Author.Needs.{needs}
 use Rattle.hermite.proofs.convert_end.Statement.{statement}
 use Rattle.hermite.proofs.convert_end.Tie as tie
 
-same : (s : tie.Start) (k n : ℕ) → n ≡ s .args .m → endRule (s .args .back) n (s .args .high) (at (s .args .x)) k ≡ endRule (s .args .back) (s .args .m) (s .args .high) (at (s .args .x)) k
+same : (s : tie.Start) (k n : ℕ) → n ≡ s .args .m
+    → endRule (s .args .back) n (s .args .high) (at (s .args .x)) k ≡ endRule (s .args .back) (s .args .m) (s .args .high)
+    (at (s .args .x)) k
 same s k n e = ap (λ (i : ℕ). endRule (s .args .back) i (s .args .high) (at (s .args .x)) k) e
 
 returns : tie.Need-returns

@@ -26,9 +26,12 @@ returns c k l =
     let s = c .before .before .before .before in
     let m = s .args .m in
     let x = at (s .args .x) in
-    rows-on (at (c .before .before .before .row .result)) (at (c .before .before .row2 .result)) (at (c .before .row3 .result)) x (at (c .by-rows .result)) (c .by-rows .ensures)
-    (multiplier m) x (λ i p. c .before .before .before .row .ensures i) (λ i p. c .before .before .row2 .ensures i) (λ i p. c .before .row3 .ensures i) (λ i p. refl) k l
-    ∙ sum-three m (s .pre .0) (s .pre .1) (λ o. multiplier m k o *ℤ x o) (λ o g p. ap (λ z. z *ℤ x o) (no-order m (s .pre .0) (s .pre .1) o g p k l) ∙ zero-*ℤ (x o))
+    rows-on (at (c .before .before .before .row .result)) (at (c .before .before .row2 .result)) (at (c .before .row3 .result)) x
+    (at (c .by-rows .result)) (c .by-rows .ensures)
+    (multiplier m) x (λ i p. c .before .before .before .row .ensures i) (λ i p. c .before .before .row2 .ensures i)
+    (λ i p. c .before .row3 .ensures i) (λ i p. refl) k l
+    ∙ sum-three m (s .pre .0) (s .pre .1) (λ o. multiplier m k o *ℤ x o)
+    (λ o g p. ap (λ z. z *ℤ x o) (no-order m (s .pre .0) (s .pre .1) o g p k l) ∙ zero-*ℤ (x o))
 
 pub end-coefficients-spec : {M : Type 1} → statement M
 end-coefficients-spec = tie.close (tie.spec (λ c κs. search needs) (λ c κs. search needs) (λ c κs. search needs) by-rows-requires returns)

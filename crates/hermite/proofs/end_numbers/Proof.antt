@@ -33,10 +33,13 @@ module _ (q : tie.After-row2) where
   start = q .before .before
 
   -- by the rows as read
-  solved-by : Solves (held (at (q .before .row .result) 0)) (held (at (q .row2 .result) 0)) (held (at (q .row2 .result) 1)) (held (at (start .args .t2) 0)) (held (at (start .args .t2) 1)) (held (at (start .args .t2) 2))
+  solved-by : Solves (held (at (q .before .row .result) 0)) (held (at (q .row2 .result) 0)) (held (at (q .row2 .result) 1))
+      (held (at (start .args .t2) 0)) (held (at (start .args .t2) 1)) (held (at (start .args .t2) 2))
   solved-by =
-      solves-fit (held (at (q .before .row .result) 0)) (held (at (q .row2 .result) 0)) (held (at (q .row2 .result) 1)) (held (at (start .args .t2) 0)) (held (at (start .args .t2) 1)) (held (at (start .args .t2) 2))
-      (small start 1 (lit< tt) 0 (lit< tt) _ (q .before .row .ensures 0)) (small start 2 (lit< tt) 0 (lit< tt) _ (q .row2 .ensures 0)) (small start 2 (lit< tt) 1 (lit< tt) _ (q .row2 .ensures 1))
+      solves-fit (held (at (q .before .row .result) 0)) (held (at (q .row2 .result) 0)) (held (at (q .row2 .result) 1))
+      (held (at (start .args .t2) 0)) (held (at (start .args .t2) 1)) (held (at (start .args .t2) 2))
+      (small start 1 (lit< tt) 0 (lit< tt) _ (q .before .row .ensures 0)) (small start 2 (lit< tt) 0 (lit< tt) _ (q .row2 .ensures 0))
+      (small start 2 (lit< tt) 1 (lit< tt) _ (q .row2 .ensures 1))
       (size start 0 (lit< tt)) (size start 1 (lit< tt)) (size start 2 (lit< tt))
 
 returns : tie.Need-returns
@@ -47,7 +50,8 @@ returns c =
     let x = factor s 1 (lit< tt) 0 (lit< tt) _ (q .before .row .ensures 0) in
     let y = factor s 2 (lit< tt) 0 (lit< tt) _ (q .row2 .ensures 0) in
     let z = factor s 2 (lit< tt) 1 (lit< tt) _ (q .row2 .ensures 1) in
-    by-3 _ (read s 0 (lit< tt)) (solved-by q .second ∙ rw (x, read s 0 (lit< tt), read s 1 (lit< tt))) (solved-by q .third ∙ rw (x, y, z, read s 0 (lit< tt), read s 1 (lit< tt), read s 2 (lit< tt)))
+    by-3 _ (read s 0 (lit< tt)) (solved-by q .second ∙ rw (x, read s 0 (lit< tt), read s 1 (lit< tt)))
+    (solved-by q .third ∙ rw (x, y, z, read s 0 (lit< tt), read s 1 (lit< tt), read s 2 (lit< tt)))
 
 pub end-numbers-spec : {M : Type 1} → statement M
 end-numbers-spec =

@@ -20,9 +20,11 @@ module _ (c : tie.After-weights) where
   small k l =
       let s = c .before in
       le-trans (le-of-eq (ap natAbs (c .weights .ensures k l)))
-      (weight-size (s .args .order) (s .pre .0) (2 * s .args .m - 1) (held (s .args .a)) (held (s .args .b)) (omega arith) (omega arith) (held-size (s .args .a) (s .fits .a) (s .pre .3)) (held-size (s .args .b) (s .fits .b) (s .pre .4)) k l)
+      (weight-size (s .args .order) (s .pre .0) (2 * s .args .m - 1) (held (s .args .a)) (held (s .args .b)) (omega arith) (omega arith)
+      (held-size (s .args .a) (s .fits .a) (s .pre .3)) (held-size (s .args .b) (s .fits .b) (s .pre .4)) k l)
 
-  plain : (k : ℕ) → k < 3 → at (c .weights .result) k ≡ weight (c .before .args .order) (c .before .args .a) (c .before .args .b) (2 * c .before .args .m - 1) k
+  plain : (k : ℕ) → k < 3 → at (c .weights .result) k ≡ weight (c .before .args .order) (c .before .args .a) (c .before .args .b)
+      (2 * c .before .args .m - 1) k
   plain k l =
       let s = c .before in
       c .weights .ensures k l ∙ weight-held (s .args .a) (s .args .b) (s .fits .a) (s .fits .b) (s .args .order) (2 * s .args .m - 1) k
@@ -43,9 +45,11 @@ returns : tie.Need-returns
 returns c =
     let w = c .before .before .before .before in
     let s = w .before in
-    rows-on (at (c .before .before .before .column .result)) (at (c .before .before .column2 .result)) (at (c .before .column3 .result)) (at (w .weights .result)) (at (c .by-rows .result)) (c .by-rows .ensures)
+    rows-on (at (c .before .before .before .column .result)) (at (c .before .before .column2 .result)) (at (c .before .column3 .result))
+    (at (w .weights .result)) (at (c .by-rows .result)) (c .by-rows .ensures)
     (λ o k. multiplier (s .args .m) k o) (weight (s .args .order) (s .args .a) (s .args .b) (2 * s .args .m - 1))
     (c .before .before .before .column .ensures) (c .before .before .column2 .ensures) (c .before .column3 .ensures) (plain w)
 
 pub folded-spec : {M : Type 1} → statement M
-folded-spec = tie.close (tie.spec (λ c κs. search needs) (λ c κs. search needs) (λ c κs. search needs) (λ c κs. search needs) by-rows-requires returns)
+folded-spec = tie.close (tie.spec (λ c κs. search needs) (λ c κs. search needs) (λ c κs. search needs)
+    (λ c κs. search needs) by-rows-requires returns)

@@ -12,7 +12,8 @@ use Rattle.hermite.proofs.from_end.Tie as tie
 
 returns : tie.Need-returns
 unfolding fromEnd pick
-returns c o l = c .mirror .ensures o l ∙ ap (λ (i : ℕ). mirrored i (at (c .before .before .args .x) o)) (add-zero o) ∙ sym (pick-true (c .before .before .args .high) _ _ (c .before .if1 .taken))
+returns c o l = c .mirror .ensures o l ∙ ap (λ (i : ℕ). mirrored i (at (c .before .before .args .x) o)) (add-zero o)
+    ∙ sym (pick-true (c .before .before .args .high) _ _ (c .before .if1 .taken))
 
 returns-2 : tie.Need-returns-2
 unfolding fromEnd

@@ -26,7 +26,8 @@ returns c =
 returns-2 : tie.Need-returns-2
 returns-2 c =
     let s = c .before .before .before .before in
-    mirror-odd (s .args .t2) _ _ _ (s .args .order) (omega (arith, c .before .before .before .if1 .left, s .pre .0)) (value? (search known depth 40) (omega arith))
+    mirror-odd (s .args .t2) _ _ _ (s .args .order) (omega (arith, c .before .before .before .if1 .left, s .pre .0))
+    (value? (search known depth 40) (omega arith))
     (value? (search known depth 40) tt) (value? (search known depth 40) (omega arith))
 
 pub mirror-spec : {M : Type 1} → statement M

@@ -20,14 +20,17 @@ returns : tie.Need-returns
 returns c =
     let s = c .before in
     let w = cubic-products (s .args .a) (s .args .b) in
-    products-row (s .args .a) (s .args .b) (s .args .m) 2 (c .if1 .taken) _ _ _ (value? (search known depth 40 fits 3000) (omega arith) ∙ w .0) (value? (search known depth 40 fits 3000) (omega arith) ∙ w .1) (value? (search known depth 40 fits 3000) (omega arith) ∙ w .2)
+    products-row (s .args .a) (s .args .b) (s .args .m) 2 (c .if1 .taken) _ _ _
+    (value? (search known depth 40 fits 3000) (omega arith) ∙ w .0) (value? (search known depth 40 fits 3000) (omega arith) ∙ w .1)
+    (value? (search known depth 40 fits 3000) (omega arith) ∙ w .2)
 
 returns-2 : tie.Need-returns-2
 returns-2 c =
     let s = c .before in
     let w = quintic-products (s .args .a) (s .args .b) in
     let e : s .args .m ≡ 3 = omega arith in
-    products-row (s .args .a) (s .args .b) (s .args .m) 3 e _ _ _ (value? (search known depth 40 fits 3000) (omega arith) ∙ w .0) (value? (search known depth 40 fits 3000) (omega arith) ∙ w .1) (value? (search known depth 40 fits 3000) (omega arith) ∙ w .2)
+    products-row (s .args .a) (s .args .b) (s .args .m) 3 e _ _ _ (value? (search known depth 40 fits 3000) (omega arith) ∙ w .0)
+    (value? (search known depth 40 fits 3000) (omega arith) ∙ w .1) (value? (search known depth 40 fits 3000) (omega arith) ∙ w .2)
 
 pub products-spec : {M : Type 1} → statement M
 products-spec =

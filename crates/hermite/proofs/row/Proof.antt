@@ -25,4 +25,5 @@ returns-2 c o =
     ap (λ (i : ℕ). at (getD rows i []) o) e
 
 pub row-spec : {M : Type 1} → statement M
-row-spec = tie.close (tie.spec (λ c. search needs) (λ c. search needs) returns (λ c. search needs) (λ c. search needs) (λ c. search needs) returns-2)
+row-spec = tie.close (tie.spec (λ c. search needs) (λ c. search needs) returns (λ c. search needs) (λ c. search needs)
+    (λ c. search needs) returns-2)

@@ -20,13 +20,15 @@ dot-requires-2 c κs =
 add-rounded : tie.Need-add-rounded
 add-rounded c =
     let s = c .before .before .before .before .before .before in
-    added-fits (s .args .b) (at (s .args .ends .low)) (at (s .args .ends .high)) (s .pre .0 .1) (c .before .dot .result) (c .dot2 .result) (c .before .dot .ok) (c .dot2 .ok)
+    added-fits (s .args .b) (at (s .args .ends .low)) (at (s .args .ends .high)) (s .pre .0 .1) (c .before .dot .result) (c .dot2 .result)
+    (c .before .dot .ok) (c .dot2 .ok)
     (c .before .dot .ensures) (c .dot2 .ensures)
 
 rounded-requires : tie.Need-rounded-requires
 rounded-requires c κs =
     let s = c .before .before .before .before .before .before in
-    rounding-asks (s .args .b) (at (s .args .ends .low)) (at (s .args .ends .high)) (s .pre .0 .1) (c .before .dot .result) (c .dot2 .result) (c .before .dot .ok) (c .dot2 .ok)
+    rounding-asks (s .args .b) (at (s .args .ends .low)) (at (s .args .ends .high)) (s .pre .0 .1) (c .before .dot .result)
+    (c .dot2 .result) (c .before .dot .ok) (c .dot2 .ok)
     (c .before .dot .ensures) (c .dot2 .ensures) (s .args .k) (s .pre .0 .0)
 
 returns : tie.Need-returns
@@ -34,7 +36,8 @@ returns c =
     let d = c .before in
     let s = d .before .before .before .before .before .before in
     read (c .rounded .result) (c .rounded .ok) ∙ c .rounded .ensures
-    ∙ rounds (s .args .b) (at (s .args .ends .low)) (at (s .args .ends .high)) (s .pre .0 .1) (d .before .dot .result) (d .dot2 .result) (d .before .dot .ok) (d .dot2 .ok)
+    ∙ rounds (s .args .b) (at (s .args .ends .low)) (at (s .args .ends .high)) (s .pre .0 .1) (d .before .dot .result) (d .dot2 .result)
+    (d .before .dot .ok) (d .dot2 .ok)
     (d .before .dot .ensures) (d .dot2 .ensures) (2 ^ (s .args .k + 1))
 
 pub stage-spec : {M : Type 1} → statement M

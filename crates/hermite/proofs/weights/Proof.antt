@@ -18,21 +18,26 @@ use Rattle.hermite.proofs.weights.Tie as tie
 
 module _ (c : tie.After-products) where
   -- a product of the distances, as the array has it
-  product-held : (k : ℕ) → k < 3 → held (at (c .products .result) k) ≡ product (c .before .args .a) (c .before .args .b) (c .before .args .m) k
+  product-held : (k : ℕ) → k < 3
+      → held (at (c .products .result) k) ≡ product (c .before .args .a) (c .before .args .b) (c .before .args .m) k
   product-held k l =
       let s = c .before in
       ap held (c .products .ensures k l ∙ ap₂ (λ x y. product x y (s .args .m) k) (toZ-ofZ (s .fits .a)) (toZ-ofZ (s .fits .b)))
-      ∙ kept (product (s .args .a) (s .args .b) (s .args .m) k) (2 ^ 40) (product-size (s .args .m) (s .pre .1) (s .pre .2) (s .args .a) (s .args .b) (s .pre .3) (s .pre .4) k l) (lit< tt)
+      ∙ kept (product (s .args .a) (s .args .b) (s .args .m) k) (2 ^ 40)
+      (product-size (s .args .m) (s .pre .1) (s .pre .2) (s .args .a) (s .args .b) (s .pre .3) (s .pre .4) k l) (lit< tt)
 
   small : (k : ℕ) → k < 3 → natAbs (held (at (c .products .result) k)) ≤ 2 ^ 40
-  small k l = let s = c .before in rw (product-held k l) (product-size (s .args .m) (s .pre .1) (s .pre .2) (s .args .a) (s .args .b) (s .pre .3) (s .pre .4) k l)
+  small k l = let s = c .before in
+      rw (product-held k l) (product-size (s .args .m) (s .pre .1) (s .pre .2) (s .args .a) (s .args .b) (s .pre .3) (s .pre .4) k l)
 
   -- the degree
   degree : toZ w64 (2 * c .before .args .m - 1) ≡ pos (2 * c .before .args .m - 1)
   degree = is-nat w64 (2 * c .before .args .m - 1) 5 (omega arith) (lit< tt)
 
-  slopes : Slopes (toZ w64 (2 * c .before .args .m - 1)) (held (at (c .products .result) 0)) (held (at (c .products .result) 1)) (held (at (c .products .result) 2))
-  slopes = slopes-fit (toZ w64 (2 * c .before .args .m - 1)) (held (at (c .products .result) 0)) (held (at (c .products .result) 1)) (held (at (c .products .result) 2))
+  slopes : Slopes (toZ w64 (2 * c .before .args .m - 1)) (held (at (c .products .result) 0)) (held (at (c .products .result) 1))
+      (held (at (c .products .result) 2))
+  slopes = slopes-fit (toZ w64 (2 * c .before .args .m - 1)) (held (at (c .products .result) 0)) (held (at (c .products .result) 1))
+      (held (at (c .products .result) 2))
       (le-trans (le-of-eq (ap natAbs degree)) (omega arith)) (small 0 (lit< tt)) (small 1 (lit< tt)) (small 2 (lit< tt))
 
   -- a weight of a dose

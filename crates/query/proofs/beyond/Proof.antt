@@ -10,10 +10,12 @@ enum-told : tie.Need-enum-told
 enum-told c = search needs
 
 returns : tie.Need-returns
-returns c = λ v. sym (refused-first _ (sym (c .before .before .before .check-corners .ensures) ∙ ap outcomeOf (c .before .tested .given .1)))
+returns c = λ v. sym (refused-first _
+    (sym (c .before .before .before .check-corners .ensures) ∙ ap outcomeOf (c .before .tested .given .1)))
 
 returns-2 : tie.Need-returns-2
-returns-2 c = absurd (passed-not _ (c .before .before .before .pre .1 .1) (sym (c .before .before .check-corners .ensures) ∙ ap outcomeOf (c .enum-told .given .1)))
+returns-2 c = absurd (passed-not _ (c .before .before .before .pre .1 .1)
+    (sym (c .before .before .check-corners .ensures) ∙ ap outcomeOf (c .enum-told .given .1)))
 
 pub beyond-spec : {M : Type 1} → statement M
 beyond-spec =

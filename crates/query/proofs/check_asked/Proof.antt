@@ -20,7 +20,8 @@ use Rattle.query.proofs.check_asked.Tie as tie
 
 -- the tests of the shape
 table-is : (c : tie.After-check-table) → outcomeOf (c .check-table .result) ≡ shapeOutcome (c .before .args .s)
-table-is c = let b = c .before in let e = b .pre .2 in c .check-table .ensures ∙ table-shape (b .args .s) (rw (← e) (b .pre .0)) (rw (← e) (b .pre .1))
+table-is c = let b = c .before in let e = b .pre .2 in c .check-table .ensures
+    ∙ table-shape (b .args .s) (rw (← e) (b .pre .0)) (rw (← e) (b .pre .1))
 
 shape-passes : (c : tie.After-enum-told2) → shapeOutcome (c .before .before .before .args .s) ≡ done tt
 shape-passes c = sym (table-is (c .before .before)) ∙ ap outcomeOf (c .enum-told2 .given .1)
@@ -45,7 +46,8 @@ returns-2 c = λ rs e.
     g ∙ sym (first-passed _ _ (shape-passes (l .before .before)) ∙ refused-first _ (sym (long-is l rs e) ∙ g))
 
 -- what is left after the tests of the shape and of the length
-left-is : (c : tie.After-enum-told4) (rs : List ℤ) → let b = c .before .before .before .before .before .before .before in length rs ≡ b .args .given
+left-is : (c : tie.After-enum-told4) (rs : List ℤ) → let b = c .before .before .before .before .before .before .before in
+    length rs ≡ b .args .given
     → (want : Want) → askedOutcome (b .args .s) rs want ≡ wantOutcome (b .args .s) want
 unfolding askedOutcome
 left-is c rs e want =

@@ -15,7 +15,10 @@ returns-4 c =
     let d = c .before in
     let b = d .before .before .before in
     λ rs e. c .refuse-unless .ensures
-    ∙ sym (refused-first _ (refused-first _ (refused-first _ (no-axes (b .args .s .axes) (omega (arith, d .before .before .if1 .left, d .before .if2 .left, d .if3 .left))))))
+    ∙ sym (refused-first _ (refused-first _
+    (refused-first _ (no-axes (b .args .s .axes) (omega (arith, d .before .before .if1 .left, d .before .if2 .left, d .if3 .left))))))
 
 pub check-by-axes-spec : {M : Type 1} → statement M
-check-by-axes-spec = tie.close (tie.spec (λ c κs. search needs) (λ c. search needs) (λ c κs. search needs) (λ c. search needs) (λ c κs. search needs) (λ c. search needs) (λ c κs. search needs) returns-4)
+check-by-axes-spec = tie.close
+    (tie.spec (λ c κs. search needs) (λ c. search needs) (λ c κs. search needs) (λ c. search needs) (λ c κs. search needs)
+    (λ c. search needs) (λ c κs. search needs) returns-4)

@@ -22,10 +22,13 @@ returns c =
     let b = x .before in
     let a = b .args in
     let test : ℕ → ℕ → Bool = λ n i. let k = placeAt (a .u ∷ a .v ∷ a .w ∷ []) i in pick (ltb i n) (leb k steps) (eqb k 0) in
-    scanned 11 (test (a .s .axes)) (x .step-allowed .ensures ∙ ap (λ n. test n 0) (b .pre)) (y .step-allowed2 .ensures ∙ ap (λ n. test n 1) (b .pre))
-    (z .step-allowed3 .ensures ∙ ap (λ n. test n 2) (b .pre)) (y .before .refuse-unless .ensures) (z .before .refuse-after .ensures) (c .refuse-after2 .ensures)
+    scanned 11 (test (a .s .axes)) (x .step-allowed .ensures ∙ ap (λ n. test n 0) (b .pre))
+    (y .step-allowed2 .ensures ∙ ap (λ n. test n 1) (b .pre))
+    (z .step-allowed3 .ensures ∙ ap (λ n. test n 2) (b .pre)) (y .before .refuse-unless .ensures) (z .before .refuse-after .ensures)
+    (c .refuse-after2 .ensures)
 
 pub check-steps-spec : {M : Type 1} → statement M
 check-steps-spec =
     tie.close
-    (tie.spec (λ c κs. search needs) (λ c κs. search needs) (λ c κs. search needs) (λ c κs. search needs) (λ c κs. search needs) (λ c κs. search needs) returns)
+    (tie.spec (λ c κs. search needs) (λ c κs. search needs) (λ c κs. search needs) (λ c κs. search needs) (λ c κs. search needs)
+    (λ c κs. search needs) returns)

@@ -23,20 +23,26 @@ module _ (c : tie.After-enum-told) where
   b = c .before .before .before
 
   passes : (rs : List ℤ) → length rs ≡ length (now (b .args .records))
-      → testedOutcome (b .args .s) rs (wantOf (b .args .order) (b .args .axis)) (placeAt (b .args .i ∷ b .args .j ∷ b .args .k ∷ [])) (placeAt (b .args .u ∷ b .args .v ∷ b .args .w ∷ [])) ≡ done tt
+      → testedOutcome (b .args .s) rs (wantOf (b .args .order) (b .args .axis)) (placeAt (b .args .i ∷ b .args .j ∷ b .args .k ∷ []))
+      (placeAt (b .args .u ∷ b .args .v ∷ b .args .w ∷ [])) ≡ done tt
   passes rs e = sym (c .before .before .check-by-axes .ensures rs e) ∙ ap outcomeOf (c .enum-told .given .1)
 
   -- what is read of the slice made anew
-  gives : reading (b .args .s) (lent (now (b .args .records))) (wantOf (b .args .order) (b .args .axis)) (placeAt (b .args .i ∷ b .args .j ∷ b .args .k ∷ [])) (placeAt (b .args .u ∷ b .args .v ∷ b .args .w ∷ []))
-      ≡ byCell (b .args .s) (now (b .args .records)) (wantOf (b .args .order) (b .args .axis)) (placeAt (b .args .i ∷ b .args .j ∷ b .args .k ∷ [])) (placeAt (b .args .u ∷ b .args .v ∷ b .args .w ∷ []))
-  gives = rw (take-length (now (b .args .records))) (sym (by-cell-reads (b .args .s) (now (b .args .records)) (wantOf (b .args .order) (b .args .axis)) _ _ (passes (now (b .args .records)) refl)))
+  gives : reading (b .args .s) (lent (now (b .args .records))) (wantOf (b .args .order) (b .args .axis))
+      (placeAt (b .args .i ∷ b .args .j ∷ b .args .k ∷ [])) (placeAt (b .args .u ∷ b .args .v ∷ b .args .w ∷ []))
+      ≡ byCell (b .args .s) (now (b .args .records)) (wantOf (b .args .order) (b .args .axis))
+      (placeAt (b .args .i ∷ b .args .j ∷ b .args .k ∷ [])) (placeAt (b .args .u ∷ b .args .v ∷ b .args .w ∷ []))
+  gives = rw (take-length (now (b .args .records)))
+      (sym (by-cell-reads (b .args .s) (now (b .args .records)) (wantOf (b .args .order) (b .args .axis)) _ _
+      (passes (now (b .args .records)) refl)))
 
 refused-before : tie.Need-returns-2
 refused-before c =
     let d = c .before .before .before in
     let b = d .before in
     let a = b .args in
-    sym (by-cell-stops (a .s) (now (a .records)) (wantOf (a .order) (a .axis)) (placeAt (a .i ∷ a .j ∷ a .k ∷ [])) (placeAt (a .u ∷ a .v ∷ a .w ∷ []))
+    sym (by-cell-stops (a .s) (now (a .records)) (wantOf (a .order) (a .axis)) (placeAt (a .i ∷ a .j ∷ a .k ∷ []))
+    (placeAt (a .u ∷ a .v ∷ a .w ∷ []))
     (sym (d .check-by-axes .ensures (now (a .records)) refl) ∙ ap outcomeOf (c .before .tested .given .1)))
 
 -- more than one axis
@@ -44,7 +50,8 @@ two : (c : tie.Else1) → 2 ≤ b (c .before .before) .args .s .axes
 two c =
     let d = c .before .before in
     let a = b d .args in
-    let h = near (a .s) (now (a .records)) (wantOf (a .order) (a .axis)) (a .i ∷ a .j ∷ a .k ∷ []) (placeAt (a .u ∷ a .v ∷ a .w ∷ [])) (passes d (now (a .records)) refl) .shape .axes-low in
+    let h = near (a .s) (now (a .records)) (wantOf (a .order) (a .axis)) (a .i ∷ a .j ∷ a .k ∷ []) (placeAt (a .u ∷ a .v ∷ a .w ∷ []))
+    (passes d (now (a .records)) refl) .shape .axes-low in
     omega (arith, c .if1 .left)
 
 pub read-spec : {M : Type 1} → statement M
@@ -55,9 +62,11 @@ read-spec =
     (λ c. search needs)
     (λ c. search needs)
     (λ c. sym (lent-long (now (b (c .before .before .before) .args .records))))
-    (λ c κs. let d = c .before .before .before in (passes d (lent (now (b d .args .records))) (lent-long (now (b d .args .records))), c .before .if1 .taken))
+    (λ c κs. let d = c .before .before .before in
+    (passes d (lent (now (b d .args .records))) (lent-long (now (b d .args .records))), c .before .if1 .taken))
     (λ c. c .read-line .ensures ∙ gives (c .before .before .before .before))
     (λ c. sym (lent-long (now (b (c .before .before .before) .args .records))))
-    (λ c κs. let d = c .before .before .before in (passes d (lent (now (b d .args .records))) (lent-long (now (b d .args .records))), two (c .before)))
+    (λ c κs. let d = c .before .before .before in
+    (passes d (lent (now (b d .args .records))) (lent-long (now (b d .args .records))), two (c .before)))
     refused-before
     (λ c. c .read-lattice .ensures ∙ gives (c .before .before .before .before)))

@@ -7,7 +7,8 @@ use Rattle.query.proofs.QueryLaws.{Reader, reader}
 use Rattle.query.proofs.read_lattice.Statement.{statement}
 use Rattle.query.proofs.read_lattice.Tie as tie
 
-reads : (b : tie.Start) → Reader (b .args .s) (now (b .args .records)) (wantOf (b .args .order) (b .args .axis)) (b .args .cell) (placeAt (b .args .step))
+reads : (b : tie.Start) → Reader (b .args .s) (now (b .args .records)) (wantOf (b .args .order) (b .args .axis)) (b .args .cell)
+    (placeAt (b .args .step))
 reads b = let a = b .args in reader (a .s) (now (a .records)) (wantOf (a .order) (a .axis)) (a .cell) (placeAt (a .step)) (b .pre .0)
 
 pub read-lattice-spec : {M : Type 1} → statement M
@@ -19,14 +20,19 @@ read-lattice-spec =
     (λ c κs.
     let w = c .before in
     let l = w .before in
-    let b = l .before in
-    (reads b .stages-ask (l .layout-of .result) (l .layout-of .ensures) (w .corners-within .result) (w .corners-within .ensures) (c .if1 .taken), b .pre .1))
+    let b = l .before in (
+      reads b .stages-ask (l .layout-of .result) (l .layout-of .ensures) (w .corners-within .result) (w .corners-within .ensures)
+          (c .if1 .taken),
+      b .pre .1,
+    ))
     (λ c.
     let w = c .before .before in
     let r = c .on-lattice in
-    reads (w .before .before) .answered (w .corners-within .result) (w .corners-within .ensures) (c .before .if1 .taken) (r .result) (r .ok) (r .ensures))
+    reads (w .before .before) .answered (w .corners-within .result) (w .corners-within .ensures) (c .before .if1 .taken) (r .result)
+    (r .ok) (r .ensures))
     (λ c κs.
     let w = c .before in
     let l = w .before in
-    reads (l .before) .beyond-asks (l .layout-of .result) (l .layout-of .ensures) (w .corners-within .result) (w .corners-within .ensures) (c .if1 .left))
+    reads (l .before) .beyond-asks (l .layout-of .result) (l .layout-of .ensures) (w .corners-within .result) (w .corners-within .ensures)
+    (c .if1 .left))
     (λ c. reads (c .before .before .before .before) .stopped _ (c .beyond .ensures)))

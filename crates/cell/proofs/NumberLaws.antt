@@ -7,11 +7,14 @@ use lib.Dec.{lit<}
 use Rattle.lattice.specs.Digits.{number, digit}
 use Rattle.lattice.specs.Axes.{Place}
 use Rattle.lattice.proofs.DigitsLaws.{digit-below, high-digit, low-digit, pair-in, Digits, digits-in, number-in, of-digits, of-number}
-use Rattle.coefficients.specs.Corners.{coefficientCount, cornerNumbers, cornerEntry}
+use Rattle.cell.specs.Coefficients.{coefficientCount}
+use Rattle.cell.specs.Corners.{cornerNumbers, cornerEntry}
 
 pub count-split : (m n : ℕ) → coefficientCount m n ≡ 2 ^ n * m ^ n
 count-split m zero = omega (arith, pow-zero (2 * m), pow-zero m, pow-zero 2)
-count-split m (suc n) = pow-suc (2 * m) n ∙ ap (λ (a : ℕ). a * (2 * m)) (count-split m n) ∙ four (2 ^ n) (m ^ n) m ∙ sym (ap (λ (k : ℕ). k * m ^ suc n) (pow-suc 2 n) ∙ ap (λ (k : ℕ). 2 ^ n * 2 * k) (pow-suc m n))
+count-split m (suc n) =
+    pow-suc (2 * m) n ∙ ap (λ (a : ℕ). a * (2 * m)) (count-split m n) ∙ four (2 ^ n) (m ^ n) m
+    ∙ sym (ap (λ (k : ℕ). k * m ^ suc n) (pow-suc 2 n) ∙ ap (λ (k : ℕ). 2 ^ n * 2 * k) (pow-suc m n))
   where
     four : (a b m : ℕ) → a * b * (2 * m) ≡ a * 2 * (b * m)
     four a b m = omega arith
@@ -39,7 +42,10 @@ module _ (m n : ℕ) (some : 0 < m) where
 
   module _ (t : Place) (d : Digits n (2 * m) t) where
     ends-in : Digits n 2 (λ a. t a / m)
-    ends-in = record { used = λ a l. div-lt-iff-lt-mul some .1 (d .used a l); unused = λ a l. ap (λ (k : ℕ). k / m) (d .unused a l) ∙ zero-div m }
+    ends-in = record {
+      used = λ a l. div-lt-iff-lt-mul some .1 (d .used a l);
+      unused = λ a l. ap (λ (k : ℕ). k / m) (d .unused a l) ∙ zero-div m;
+    }
 
     orders-in : Digits n m (λ a. t a % m)
     orders-in = record { used = λ a l. mod-lt (t a) some; unused = λ a l. ap (λ (k : ℕ). k % m) (d .unused a l) ∙ zero-mod m }
@@ -48,7 +54,8 @@ module _ (m n : ℕ) (some : 0 < m) where
     unfolding cornerEntry
     entry-in =
         rw (count-split m n)
-        (pair-in (m ^ n) (number n (λ a. 2) (λ a. t a / m)) (number n (λ a. m) (λ a. t a % m)) (number-in n m (λ a. t a % m) orders-in) (2 ^ n) (number-in n 2 (λ a. t a / m) ends-in))
+        (pair-in (m ^ n) (number n (λ a. 2) (λ a. t a / m)) (number n (λ a. m) (λ a. t a % m)) (number-in n m (λ a. t a % m) orders-in)
+        (2 ^ n) (number-in n 2 (λ a. t a / m) ends-in))
 
     pub numbers-entry : cornerNumbers m n (cornerEntry m n t) ≡ t
     unfolding cornerNumbers cornerEntry
@@ -72,8 +79,10 @@ module _ (m n : ℕ) (some : 0 < m) where
   entry-numbers i h =
       let e = digits-in n 2 (i / m ^ n) (lit< tt) (corner-low i h) in
       let order : (a : ℕ) → digit (λ b. m) (i % m ^ n) a < m = (λ a. digit-below (λ b. m) (i % m ^ n) a some) in
-      ap (λ (p : Place). m ^ n * number n (λ a. 2) p + number n (λ a. m) (λ a. cornerNumbers m n i a % m)) (fun-ext (λ a. high-digit m (digit (λ b. 2) (i / m ^ n) a) (digit (λ b. m) (i % m ^ n) a) (order a)))
-      ∙ ap (λ (p : Place). m ^ n * number n (λ a. 2) (digit (λ b. 2) (i / m ^ n)) + number n (λ a. m) p) (fun-ext (λ a. low-digit m (digit (λ b. 2) (i / m ^ n) a) (digit (λ b. m) (i % m ^ n) a) (order a)))
+      ap (λ (p : Place). m ^ n * number n (λ a. 2) p + number n (λ a. m) (λ a. cornerNumbers m n i a % m))
+      (fun-ext (λ a. high-digit m (digit (λ b. 2) (i / m ^ n) a) (digit (λ b. m) (i % m ^ n) a) (order a)))
+      ∙ ap (λ (p : Place). m ^ n * number n (λ a. 2) (digit (λ b. 2) (i / m ^ n)) + number n (λ a. m) p)
+      (fun-ext (λ a. low-digit m (digit (λ b. 2) (i / m ^ n) a) (digit (λ b. m) (i % m ^ n) a) (order a)))
       ∙ ap (λ (k : ℕ). m ^ n * k + number n (λ a. m) (digit (λ b. m) (i % m ^ n))) (of-digits n 2 (i / m ^ n) (corner-low i h))
       ∙ ap (λ (k : ℕ). m ^ n * (i / m ^ n) + k) (of-digits n m (i % m ^ n) (order-low i))
       ∙ div-add-mod i (m ^ n)

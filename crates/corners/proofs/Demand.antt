@@ -11,12 +11,15 @@ use Rattle.lattice.specs.Buffer.{at, overwrite}
 use Rattle.lattice.specs.Shape.{ordersOf, orders, axesOutcome, degreeOutcome}
 use Rattle.lattice.specs.Records.{recordsField}
 use Rattle.lattice.proofs.ShapeLaws.{orders-range}
-use Rattle.cell.specs.Cell.{placeAt}
-use Rattle.coefficients.specs.Corners.{coefficientCount, coefficientList, coefficientsOutcome, PermittedCorners, HasCoefficients, cornerRecords, doubledEntry, entryAllowed, possibleOutcome, entryList, backOutcome, backWrites, oneCell}
 use Rattle.lattice.proofs.OutcomeLaws.{when-done, done-refused}
-use Rattle.coefficients.proofs.Possible.{within, back-of-forward, possible-of, back-permitted, forward-of-back, firstOf-either, only-13}
-use Rattle.coefficients.proofs.Calls.{written-within, back-of-written, forward-of-written}
-use Rattle.coefficients.proofs.OneCell.{onlyCell}
+use Rattle.cell.specs.Cell.{placeAt}
+use Rattle.cell.specs.Coefficients.{coefficientCount}
+use Rattle.cell.specs.Corners.{cornerRecords, oneCell}
+use Rattle.cell.proofs.OneCell.{onlyCell}
+use Rattle.coefficients.specs.Coefficients.{coefficientList, coefficientsOutcome}
+use Rattle.corners.specs.Corners.{PermittedCorners, HasCoefficients, doubledEntry, entryAllowed, possibleOutcome, entryList, backOutcome, backWrites}
+use Rattle.corners.proofs.Possible.{within, back-of-forward, possible-of, back-permitted, forward-of-back, firstOf-either, only-13}
+use Rattle.corners.proofs.Calls.{written-within, back-of-written, forward-of-written}
 
 -- ---- corner records by themselves: m is 2 or 3, n the number of axes
 
@@ -88,17 +91,21 @@ module _ (n degree : ℕ) (axes-ok : axesOutcome n ≡ done tt) (degree-ok : deg
 
 -- what forward writes lies within ±2^30
 pub written-coefficients : (s : Shape) (rs : List ℤ) (cell : List ℕ) (room : ℕ) → coefficientsOutcome s rs (placeAt cell) room ≡ done tt
-    → (K : ℕ) → K < coefficientCount (orders s) (s .axes) → natAbs (at (coefficientList (orders s) (s .axes) (placeAt cell) (recordsField s rs)) K) ≤ 2 ^ 30
+    → (K : ℕ) → K < coefficientCount (orders s) (s .axes)
+    → natAbs (at (coefficientList (orders s) (s .axes) (placeAt cell) (recordsField s rs)) K) ≤ 2 ^ 30
 written-coefficients = written-within
 
 -- back of what forward writes is not refused and writes the cell's corner records
-pub forward-then-back : (s : Shape) (rs : List ℤ) (cell : List ℕ) (room : ℕ) → coefficientsOutcome s rs (placeAt cell) room ≡ done tt → (room′ : ℕ) → coefficientCount (orders s) (s .axes) ≤ room′
+pub forward-then-back : (s : Shape) (rs : List ℤ) (cell : List ℕ) (room : ℕ) → coefficientsOutcome s rs (placeAt cell) room ≡ done tt
+    → (room′ : ℕ) → coefficientCount (orders s) (s .axes) ≤ room′
     → (backOutcome (s .axes) (s .degree) (coefficientList (orders s) (s .axes) (placeAt cell) (recordsField s rs)) room′ ≡ done tt)
-    × (entryList (orders s) (s .axes) (coefficientList (orders s) (s .axes) (placeAt cell) (recordsField s rs)) ≡ cornerRecords s rs (placeAt cell))
+    × (entryList (orders s) (s .axes) (coefficientList (orders s) (s .axes) (placeAt cell) (recordsField s rs))
+    ≡ cornerRecords s rs (placeAt cell))
 forward-then-back = back-of-written
 
 -- forward of what back writes, as the table of one cell, is not refused and writes the coefficients
-pub back-then-forward : (n degree : ℕ) (cs : List ℤ) (room : ℕ) → backOutcome n degree cs room ≡ done tt → (room′ : ℕ) → coefficientCount (ordersOf degree) n ≤ room′
+pub back-then-forward : (n degree : ℕ) (cs : List ℤ) (room : ℕ) → backOutcome n degree cs room ≡ done tt → (room′ : ℕ)
+    → coefficientCount (ordersOf degree) n ≤ room′
     → (coefficientsOutcome (oneCell n degree) (entryList (ordersOf degree) n cs) (placeAt onlyCell) room′ ≡ done tt)
     × (coefficientList (ordersOf degree) n (placeAt onlyCell) (recordsField (oneCell n degree) (entryList (ordersOf degree) n cs)) ≡ cs)
 back-then-forward = forward-of-written
