@@ -7,10 +7,13 @@ use borrow.Author.Needs.{needs}
 use Rattle.cell.proofs.cells_of.Statement.{statement}
 use Rattle.cell.proofs.cells_of.Tie as tie
 
+abbrev begun : tie.After-cells-on3 → tie.Start
+begun c = c .before .before .before .before .before .before
+
 returns : tie.Need-returns
 unfolding cellsAlong count
 returns c =
-    three-same _ _ _ (cellsAlong (c .before .before .before .before .before .before .args .t1))
+    three-same _ _ _ (cellsAlong (begun c .args .t1))
     (c .before .before .before .before .cells-on .ensures)
     (c .before .before .cells-on2 .ensures)
     (c .cells-on3 .ensures)

@@ -24,6 +24,9 @@ Inv-loop records l limits n corners c₀ c = (c ≤ corners) × (firstOf c (corn
 abbrev μ-loop : tie.MeasureT-loop
 μ-loop records l limits n corners c₀ c = corners - c
 
+abbrev turn : tie.After-enum-told2 Inv-loop μ-loop → tie.At-loop Inv-loop μ-loop
+turn c = c .before .before .before .before .before .before
+
 module _ (c : tie.At-loop Inv-loop μ-loop) where
   abbrev b : tie.Start Inv-loop μ-loop
   b = c .before .before .before
@@ -93,7 +96,7 @@ enum-told : tie.Need-enum-told Inv-loop μ-loop
 enum-told c = search needs
 
 add-c : tie.Need-add-c Inv-loop μ-loop
-add-c c = let a = c .before .before .before .before .before .before in let h =
+add-c c = let a = turn c in let h =
     inside a (c .before .before .before .before .before .loop-test .taken) in omega arith
 
 loop-again : tie.Need-loop-again Inv-loop μ-loop

@@ -13,6 +13,9 @@ use borrow.Author.Needs.{needs}
 use Rattle.corners.proofs.check_numbers.Statement.{statement}
 use Rattle.corners.proofs.check_numbers.Tie as tie
 
+abbrev begun : tie.After-check-lengths → tie.Start
+begun c = c .before .before .before .before .before .before
+
 -- 15 and 9 after 1 and 2
 lengthsOf : ℕ → ℕ → ℕ → ℕ → Check
 lengthsOf n degree given room =
@@ -52,7 +55,7 @@ check-lengths-requires c κs = let s = c .before .before .before .before .before
 returns-2 : tie.Need-returns-2
 unfolding lengthsOf
 returns-2 c =
-    let a = c .before .before .before .before .before .before .args in
+    let a = begun c .args in
     c .check-lengths .ensures
     ∙ sym (regroup (a .axes) (a .degree) (a .given) (a .room)
     ∙ first-passed (first (axesOutcome (a .axes)) (degreeOutcome (a .degree))) (lengthsOf (a .axes) (a .degree) (a .given) (a .room))

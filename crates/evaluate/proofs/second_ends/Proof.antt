@@ -28,6 +28,9 @@ Inv-loop m y x records p orderStride nodeStride place n₀ t₀ n t =
 abbrev μ-loop : tie.MeasureT-loop
 μ-loop m y x records p orderStride nodeStride place n₀ t₀ n t = 2 * m - t
 
+abbrev of-three : tie.After-t55 Inv-loop μ-loop → tie.Else1 Inv-loop μ-loop
+of-three c = c .before .before .before .before .before .before
+
 module _ (s : tie.Start Inv-loop μ-loop) where
   abbrev size : ℕ
   size = length (now (s .args .records))
@@ -138,7 +141,7 @@ returns c =
 
 returns-2 : tie.Need-returns-2 Inv-loop μ-loop
 returns-2 c =
-    let t1 = c .before .before .before .before .before .before in
+    let t1 = of-three c in
     let d = t1 .before in
     let a = begun d .args in
     let m3 : a .m ≡ 3 = omega (arith, m2 (begun d), m3 (begun d), t1 .if1 .left) in

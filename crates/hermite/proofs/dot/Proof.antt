@@ -6,6 +6,9 @@ use borrow.Author.Needs.{needs}
 use Rattle.hermite.proofs.dot.Statement.{statement}
 use Rattle.hermite.proofs.dot.Tie as tie
 
+abbrev begun : tie.After-result2 → tie.Start
+begun c = c .before .before .before .before .before .before .before
+
 mul-two : tie.Need-mul-two
 mul-two c = let p = c .before .before in
     one-fits (at (p .args .t2)) (at (p .args .t3)) (p .pre .0) 0 (lit< tt) (c .before .two .given) (c .two2 .given)
@@ -27,7 +30,7 @@ returns c =
     (s .before .two3 .given) (s .two4 .given) (p .pre .1 (c .if1 .taken))
 
 mul-result : tie.Need-mul-result
-mul-result c = let p = c .before .before .before .before .before .before .before in
+mul-result c = let p = begun c in
     one-fits (at (p .args .t2)) (at (p .args .t3)) (p .pre .0) 2 (lit< tt) (c .before .result .given) (c .result2 .given)
 
 add-result : tie.Need-add-result

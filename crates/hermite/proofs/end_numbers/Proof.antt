@@ -14,6 +14,9 @@ use borrow.Author.Needs.{needs}
 use Rattle.hermite.proofs.end_numbers.Statement.{statement}
 use Rattle.hermite.proofs.end_numbers.Tie as tie
 
+abbrev row2-before : tie.After-t26 → tie.After-row2
+row2-before c = c .before .before .before .before .before .before
+
 module _ (s : tie.Start) where
   -- a coefficient, and a multiplier, as read
   size : (i : ℕ) → i < 3 → natAbs (held (at (s .args .t2) i)) ≤ 2 ^ 50
@@ -45,7 +48,7 @@ module _ (q : tie.After-row2) where
 returns : tie.Need-returns
 unfolding solved
 returns c =
-    let q = c .before .before .before .before .before .before in
+    let q = row2-before c in
     let s = q .before .before in
     let x = factor s 1 (lit< tt) 0 (lit< tt) _ (q .before .row .ensures 0) in
     let y = factor s 2 (lit< tt) 0 (lit< tt) _ (q .row2 .ensures 0) in
@@ -71,6 +74,6 @@ end-numbers-spec =
     (λ c. solved-by (c .before .before .before .before .before) .qx)
     (λ c. solved-by (c .before .before .before .before .before) .less-qx)
     (λ c. search needs)
-    (λ c. solved-by (c .before .before .before .before .before .before) .rd)
-    (λ c. solved-by (c .before .before .before .before .before .before) .less-rd)
+    (λ c. solved-by (row2-before c) .rd)
+    (λ c. solved-by (row2-before c) .less-rd)
     returns)

@@ -7,6 +7,9 @@ use Rattle.hermite.proofs.StageLaws.{low-fits, high-fits, added-fits, r
 use Rattle.hermite.proofs.stage.Statement.{statement}
 use Rattle.hermite.proofs.stage.Tie as tie
 
+abbrev begun : tie.After-dot2 → tie.Start
+begun c = c .before .before .before .before .before .before
+
 dot-requires : tie.Need-dot-requires
 dot-requires c κs =
     let s = c .before .before .before .before in
@@ -19,14 +22,14 @@ dot-requires-2 c κs =
 
 add-rounded : tie.Need-add-rounded
 add-rounded c =
-    let s = c .before .before .before .before .before .before in
+    let s = begun c in
     added-fits (s .args .b) (at (s .args .ends .low)) (at (s .args .ends .high)) (s .pre .0 .1) (c .before .dot .result) (c .dot2 .result)
     (c .before .dot .ok) (c .dot2 .ok)
     (c .before .dot .ensures) (c .dot2 .ensures)
 
 rounded-requires : tie.Need-rounded-requires
 rounded-requires c κs =
-    let s = c .before .before .before .before .before .before in
+    let s = begun c in
     rounding-asks (s .args .b) (at (s .args .ends .low)) (at (s .args .ends .high)) (s .pre .0 .1) (c .before .dot .result)
     (c .dot2 .result) (c .before .dot .ok) (c .dot2 .ok)
     (c .before .dot .ensures) (c .dot2 .ensures) (s .args .k) (s .pre .0 .0)
@@ -34,7 +37,7 @@ rounded-requires c κs =
 returns : tie.Need-returns
 returns c =
     let d = c .before in
-    let s = d .before .before .before .before .before .before in
+    let s = begun d in
     read (c .rounded .result) (c .rounded .ok) ∙ c .rounded .ensures
     ∙ rounds (s .args .b) (at (s .args .ends .low)) (at (s .args .ends .high)) (s .pre .0 .1) (d .before .dot .result) (d .dot2 .result)
     (d .before .dot .ok) (d .dot2 .ok)

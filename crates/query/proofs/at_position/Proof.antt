@@ -9,15 +9,24 @@ use Rattle.query.proofs.Locate.{stands-for, cell-below, cell-held, on-a
 use Rattle.query.proofs.at_position.Statement.{statement}
 use Rattle.query.proofs.at_position.Tie as tie
 
+abbrev unsigned-before : tie.After-cell-of3 → tie.After-unsigned
+unsigned-before c = c .before .before .before .before .before .before .before .before .before .before
+
+abbrev unsigned2-before : tie.After-cell-of3 → tie.After-unsigned2
+unsigned2-before c = c .before .before .before .before .before .before .before .before
+
+abbrev unsigned3-before : tie.After-cell-of3 → tie.After-unsigned3
+unsigned3-before c = c .before .before .before .before .before .before
+
 module _ (c : tie.After-cell-of3) where
   abbrev x : tie.After-unsigned
-  x = c .before .before .before .before .before .before .before .before .before .before
+  x = unsigned-before c
 
   abbrev y : tie.After-unsigned2
-  y = c .before .before .before .before .before .before .before .before
+  y = unsigned2-before c
 
   abbrev z : tie.After-unsigned3
-  z = c .before .before .before .before .before .before
+  z = unsigned3-before c
 
 returns : tie.Need-returns
 unfolding count

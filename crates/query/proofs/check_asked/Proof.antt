@@ -18,6 +18,9 @@ use Rattle.query.specs.Queries.{wantOutcome, askedOutcome}
 use Rattle.query.proofs.check_asked.Statement.{statement}
 use Rattle.query.proofs.check_asked.Tie as tie
 
+abbrev begun : tie.After-enum-told4 → tie.Start
+begun c = c .before .before .before .before .before .before .before
+
 -- the tests of the shape
 table-is : (c : tie.After-check-table) → outcomeOf (c .check-table .result) ≡ shapeOutcome (c .before .args .s)
 table-is c = let b = c .before in let e = b .pre .2 in c .check-table .ensures
@@ -46,7 +49,7 @@ returns-2 c = λ rs e.
     g ∙ sym (first-passed _ _ (shape-passes (l .before .before)) ∙ refused-first _ (sym (long-is l rs e) ∙ g))
 
 -- what is left after the tests of the shape and of the length
-left-is : (c : tie.After-enum-told4) (rs : List ℤ) → let b = c .before .before .before .before .before .before .before in
+left-is : (c : tie.After-enum-told4) (rs : List ℤ) → let b = begun c in
     length rs ≡ b .args .given
     → (want : Want) → askedOutcome (b .args .s) rs want ≡ wantOutcome (b .args .s) want
 unfolding askedOutcome
@@ -58,14 +61,14 @@ returns-3 : tie.Need-returns-3
 unfolding wantOutcome
 returns-3 c = λ rs e.
     let d = c .before in
-    let a = d .before .before .before .before .before .before .before .args in
+    let a = begun d .args in
     sym (left-is d rs e (wantOf (a .order) (a .axis)) ∙ ap (λ (o : ℕ). wantOutcome (a .s) (wantOf o (a .axis))) (c .if1 .taken))
 
 returns-4 : tie.Need-returns-4
 unfolding wantOutcome
 returns-4 c = λ rs e.
     let d = c .before .before in
-    let b = d .before .before .before .before .before .before .before in
+    let b = begun d in
     let a = b .args in
     c .refuse-unless2 .ensures ∙ ap (λ (n : ℕ). refuseUnless (ltb (a .axis) n) 12 0) (b .pre .2)
     ∙ sym (left-is d rs e (wantOf (a .order) (a .axis)) ∙ ap (wantOutcome (a .s)) (want-some (a .order) (a .axis) (c .before .if1 .left)))
