@@ -89,8 +89,8 @@ abbrev pub Alike : ℕ → ℕ → Place → Place → ℕ → ℕ → ℕ → T
 Alike m n c d a i j = (a < n → SameNumber m (c a) (d a) i j) × (n ≤ a → (i ≡ 0) × (j ≡ 0))
 
 -- the same asked of another cell
-abbrev pub inCell : Ask → Place → Ask
-inCell q d = record { m = q .m; n = q .n; want = q .want; N = q .N; cell = d; step = q .step }
+abbrev pub movedTo : Ask → Place → Ask
+movedTo q d = record { m = q .m; n = q .n; want = q .want; N = q .N; cell = d; step = q .step }
 
 module _ (round : Rounding) (q : Ask) (d : Place) where
   abbrev Any : ℕ → ℕ → ℕ → Type 0
@@ -100,7 +100,7 @@ module _ (round : Rounding) (q : Ask) (d : Place) where
   Pair = Alike (q .m) (q .n) (q .cell) d
 
   -- a stage reads the numbers of its cell
-  stage-carries : (a : ℕ) → a < q .n → Carries (stageOn q a) (stageOn (inCell q d) a) (Any a) (Pair a)
+  stage-carries : (a : ℕ) → a < q .n → Carries (stageOn q a) (stageOn (movedTo q d) a) (Any a) (Pair a)
   unfolding stageOn
   stage-carries a l x y j k s h =
       stage-moved (orderOn (q .want) a) (q .m) (q .N a) (q .cell a) (d a) (q .step a) x y
@@ -110,24 +110,24 @@ module _ (round : Rounding) (q : Ask) (d : Place) where
       not-both : {a n : ℕ} → a < n → n ≤ a → ⊥
       not-both l k = omega arith
 
-  eighth-carries : (a : ℕ) → a < q .n → Carries (toEighth round q a) (toEighth round (inCell q d) a) (Any a) (Pair a)
+  eighth-carries : (a : ℕ) → a < q .n → Carries (toEighth round q a) (toEighth round (movedTo q d) a) (Any a) (Pair a)
   unfolding toEighth divisorOn
   eighth-carries a l x y j k s h = ap (λ z. round z (divisorOn q a)) (stage-carries a l x y j k s h)
 
-  unit-carries : (a : ℕ) → a < q .n → Carries (toUnit round q a) (toUnit round (inCell q d) a) (Any a) (Pair a)
+  unit-carries : (a : ℕ) → a < q .n → Carries (toUnit round q a) (toUnit round (movedTo q d) a) (Any a) (Pair a)
   unfolding toUnit divisorOn
   unit-carries a l x y j k s h = ap (λ z. round z (8 * divisorOn q a)) (stage-carries a l x y j k s h)
 
   -- cells with the same numbers have the same answers
   pub answer-moved : lastAxis (q .n) (q .want) < q .n → (g h : Field)
       → ((p r : Place) → ((a : ℕ) → Alike (q .m) (q .n) (q .cell) d a (p a) (r a)) → g p ≡ h r)
-      → answerBy round q g ≡ answerBy round (inCell q d) h
+      → answerBy round q g ≡ answerBy round (movedTo q d) h
   unfolding answerBy before inEighths
   answer-moved last g h eq =
       unit-carries l last (λ t. sweep ls (toEighth round q) (inEighths g) (put l t origin))
-      (λ t. sweep ls (toEighth round (inCell q d)) (inEighths h) (put l t origin)) 0 0 tt
-      (λ s t e. sweep-carries Any Pair (toEighth round q) (toEighth round (inCell q d)) ls (distinct-before q)
-      (each-before q (λ a. Carries (toEighth round q a) (toEighth round (inCell q d) a) (Any a) (Pair a)) (λ a k n. eighth-carries a k))
+      (λ t. sweep ls (toEighth round (movedTo q d)) (inEighths h) (put l t origin)) 0 0 tt
+      (λ s t e. sweep-carries Any Pair (toEighth round q) (toEighth round (movedTo q d)) ls (distinct-before q)
+      (each-before q (λ a. Carries (toEighth round q a) (toEighth round (movedTo q d) a) (Any a) (Pair a)) (λ a k n. eighth-carries a k))
       (inEighths g) (inEighths h) (λ p r x. ap (λ z. pos 8 *ℤ z) (eq p r x)) (put l s origin) (put l t origin)
       (record { done = λ b f. tt; left = λ b f. other s t e b f (ℕ-discrete b l) }))
     where
