@@ -38,6 +38,18 @@
  *    byte 4 + 4 * n      number of samples, the product of the node counts
  *    byte 8 + 4 * n      the samples in order of node numbers; nothing follows them
  *
+ * The text of a table. One token for each sample, in order of node numbers. Space, tab, line feed
+ * and carriage return separate tokens, one or more of them; they may also lead and end the text. A
+ * token is a longest run of other bytes, whatever they are. It is a number as in RFC 8259, section
+ * 6, of at most LUKHTARI_TOKEN_BYTES_MAX bytes:
+ *
+ *    number = [ - ] int [ . digits ] [ (e or E) [ + or - ] digits ]
+ *    int    = 0, or digits of which the first is not 0
+ *    digits = one or more of 0 to 9
+ *
+ * Its exact decimal value, in grams per kilogram, times 100 is the sample: 0.5 and 5e-1 are 50
+ * units, -0 and 0e99 are 0. It has to be a whole number; nothing is rounded.
+ *
  * Slices. A slice is a pointer and its number of elements. The pointer is aligned and valid for so
  * many elements until the call returns. Slices lent to one call do not overlap where one of them
  * is written. With length 0 the pointer may be NULL: it is not used, and since every call needs
@@ -48,10 +60,11 @@
  * axes, counts and length are 0. Place is the first offending index as said there, else 0. A
  * buffer longer than needed keeps its tail.
  *
- * Refusals come before reading. Every call but lukhtari_read gives each refusal but 5 and 13 by the
- * numbers and lengths handed over, before it reads an element of a slice. lukhtari_read reads the
- * numbers before the samples one by one, none beyond the bytes lent, and gives each refusal but 5
- * before it reads a sample.
+ * Refusals come before reading. Every call but lukhtari_read and lukhtari_import gives each refusal
+ * but 5 and 13 by the numbers and lengths handed over, before it reads an element of a slice.
+ * lukhtari_read reads the numbers before the samples one by one, none beyond the bytes lent, and
+ * gives each refusal but 5 before it reads a sample. lukhtari_import gives 1, 2 and 3 before it
+ * reads a byte of the text. Neither reads the slice that it fills.
  *
  * Surroundings. The archive is for x86-64 Linux. It needs memcpy and memset and nothing else, uses
  * no heap and has no data that changes: calls may run at the same time, in threads and in signal
@@ -70,7 +83,7 @@ extern "C" {
 #endif
 
 /* The number of this interface; another number means other structs or calls. */
-#define LUKHTARI_INTERFACE 1
+#define LUKHTARI_INTERFACE 2
 
 /* Steps of a cell along an axis. */
 #define LUKHTARI_STEPS 256
@@ -88,6 +101,9 @@ extern "C" {
 
 /* Doses and slopes are smaller than this in size. */
 #define LUKHTARI_ANSWER_LIMIT 16777216
+
+/* The most bytes of a token. */
+#define LUKHTARI_TOKEN_BYTES_MAX 64
 
 /* The largest sizes of buffers: entries of one record and of all records of a table; coefficients
  * of a cell, which are as many as the entries of its corner records; bytes of a table file. */
@@ -108,11 +124,12 @@ extern "C" {
 #define LUKHTARI_FILE_BYTES(axes, nodes) (4 * (2 + (size_t)(axes) + (size_t)(nodes)))
 
 /* Bytes of stack, at most: of lukhtari_estimate; of lukhtari_coefficients and lukhtari_corners; of
- * each dose and slope; of lukhtari_read and lukhtari_write. */
+ * each dose and slope; of lukhtari_read and lukhtari_write; of lukhtari_import. */
 #define LUKHTARI_STACK_ESTIMATE 8192
 #define LUKHTARI_STACK_CONVERSION 4096
 #define LUKHTARI_STACK_QUERY 2048
 #define LUKHTARI_STACK_FILE 1024
+#define LUKHTARI_STACK_IMPORT 1024
 
 /* The numbers of refusals. */
 enum lukhtari_refusal {
@@ -124,7 +141,8 @@ enum lukhtari_refusal {
     LUKHTARI_REFUSED_DEGREE = 2,
     /* A node count is not allowed; place: the axis. */
     LUKHTARI_REFUSED_NODE_COUNT = 3,
-    /* The samples or records lent are not exactly as many as the shape has. */
+    /* The samples or records lent, or the tokens of a text, are not exactly as many as the shape
+     * has. */
     LUKHTARI_REFUSED_LENGTH = 4,
     /* A sample or entry is beyond its limit; place: its index in the slice. Queries and
      * lukhtari_coefficients look at the corner records of their cell alone, in corner order. */
@@ -150,7 +168,13 @@ enum lukhtari_refusal {
      * axis. */
     LUKHTARI_REFUSED_CELL = 14,
     /* The coefficients lent are not exactly (degree + 1)^axes. */
-    LUKHTARI_REFUSED_COEFFICIENT_COUNT = 15
+    LUKHTARI_REFUSED_COEFFICIENT_COUNT = 15,
+    /* A token is longer than 64 bytes; place: the index in the text of its first byte. */
+    LUKHTARI_REFUSED_TOKEN_TOO_LONG = 16,
+    /* A token does not fit the grammar; place: the same. */
+    LUKHTARI_REFUSED_TOKEN_GRAMMAR = 17,
+    /* A token is not a whole number of units; place: the same. */
+    LUKHTARI_REFUSED_TOKEN_NOT_WHOLE = 18
 };
 
 /* A table's number of axes (1 to 3), degree (3 or 5) and node counts: 2 to 64 on each used axis,
@@ -296,6 +320,11 @@ lukhtari_table lukhtari_read(const uint8_t *bytes, size_t bytes_len, int32_t *sa
  * Refusals in order: 1, 3, 4, 9, 5. */
 lukhtari_written lukhtari_write(uint32_t axes, lukhtari_index counts, const int32_t *samples,
                                 size_t samples_len, uint8_t *bytes, size_t bytes_len);
+
+/* Reads the text of a table of this shape and writes its samples.
+ * Refusals in order: 1, 2, 3, 4 (the number of tokens), 9, then token by token 16, 17, 18, 5. */
+lukhtari_done lukhtari_import(lukhtari_shape shape, const uint8_t *text, size_t text_len,
+                              int32_t *samples, size_t samples_len);
 
 #ifdef __cplusplus
 }

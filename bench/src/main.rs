@@ -1,6 +1,7 @@
 //! The library's calls beside hand-written Rust and C of the same whole calls, the published method
-//! in f64, and LittleCMS where it is installed. All times are of one run, in nanoseconds a call; in
-//! brackets is the library's time divided by the other's. The tables are those of `docs/SPEED.md`.
+//! in f64, and LittleCMS where it is installed. All times are of one run, in nanoseconds a call, of
+//! import a byte; in brackets is the library's time divided by the other's. The tables are those of
+//! `docs/SPEED.md`.
 //!
 //! Doses and slopes by hand are of two kinds: specialised, with one copy of the code for each
 //! degree, number of axes and slope axis; and plain, with one copy for all of them. Each kind works
@@ -13,6 +14,7 @@ mod double;
 mod estimation;
 mod floats;
 mod hand;
+mod import;
 mod inputs;
 mod lcms;
 mod queries;
@@ -22,7 +24,8 @@ use std::env;
 
 // All parts, or those named by the arguments.
 fn main() {
-    let parts: [(&str, fn()); 6] = [
+    let parts: [(&str, fn()); 7] = [
+        ("import", import::run),
         ("estimation", estimation::run),
         ("conversion", conversion::run),
         ("queries", queries::run),

@@ -263,3 +263,19 @@ extern "C" {
         bytes_len: usize,
     ) -> Written;
 }
+
+// import
+extern "C" {
+    /// Reads the text of a table: see [`import`](crate::import).
+    ///
+    /// # Safety
+    ///
+    /// The slices `text` and `samples` are lent as the [module](self) says.
+    pub fn lukhtari_import(
+        shape: Shape,
+        text: *const u8,
+        text_len: usize,
+        samples: *mut i32,
+        samples_len: usize,
+    ) -> Done;
+}

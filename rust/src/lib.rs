@@ -1,10 +1,10 @@
 //! Hermite interpolation on lattices of one to three axes, cubic or quintic, in whole numbers.
 //!
-//! A table is a [`Shape`] with one sample for each node. Estimation makes each node's record from
-//! the samples; doses and slopes are then asked for by table position, by cell or by float. Every
-//! call either answers or gives a [`Refusal`] with its number and place, and a refused call
-//! leaves every lent buffer as it was. All calls are made by the static library `liblukhtari.a`;
-//! the crate uses neither `std` nor other crates.
+//! A table is a [`Shape`] with one sample for each node, from the host, a table file or decimal
+//! text. Estimation makes each node's record from the samples; doses and slopes are then asked for
+//! by table position, by cell or by float. Every call either answers or gives a [`Refusal`] with
+//! its number and place, and a refused call leaves every lent buffer as it was. All calls are made
+//! by the static library `liblukhtari.a`; the crate uses neither `std` nor other crates.
 //!
 //! Samples, records and coefficients stand in slices with x fastest. A position counts 256 steps
 //! for each cell. Arrays of three hold one number for each axis, x first, and 0 on unused axes
@@ -36,6 +36,9 @@ pub use real::{dose_float, slope_float};
 
 mod file;
 pub use file::{read, write, Table};
+
+mod import;
+pub use import::import;
 
 // The examples of the README are run.
 #[cfg(doctest)]

@@ -1,7 +1,7 @@
 //! Limits of tables and the largest sizes of buffers, as `lukhtari.h` has them.
 
 /// Number of the C interface; another number means other structs or calls.
-pub const INTERFACE: u32 = 1;
+pub const INTERFACE: u32 = 2;
 
 /// Steps of a cell along an axis.
 pub const STEPS: u32 = 256;
@@ -35,6 +35,9 @@ pub const COEFFICIENT_LIMIT: i32 = 1 << 30;
 /// Doses and slopes are smaller than this in size.
 pub const ANSWER_LIMIT: i32 = 1 << 24;
 
+/// Most bytes of a token.
+pub const TOKEN_BYTES_MAX: usize = 64;
+
 /// Most entries of one record.
 pub const RECORD_ENTRIES_MAX: usize = 27;
 
@@ -58,3 +61,6 @@ pub const STACK_QUERY: usize = 2048;
 
 /// Most bytes of stack that reading or writing a table file uses.
 pub const STACK_FILE: usize = 1024;
+
+/// Most bytes of stack that reading the text of a table uses.
+pub const STACK_IMPORT: usize = 1024;

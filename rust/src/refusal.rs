@@ -13,7 +13,7 @@ use core::fmt;
 /// ```
 #[derive(Clone, Copy, Debug, PartialEq, Eq)]
 pub struct Refusal {
-    /// 1 to 15, the constants below
+    /// 1 to 18, the constants below
     pub number: u32,
     /// An index counted from 0, and 0 where the reason names none
     pub place: u64,
@@ -27,7 +27,7 @@ impl Refusal {
     pub const DEGREE: u32 = 2;
     /// A node count is not allowed; the place is the axis.
     pub const NODE_COUNT: u32 = 3;
-    /// The samples or records lent are not exactly as many as the shape has.
+    /// The samples or records lent, or the tokens of a text, are not as many as the shape has.
     pub const LENGTH: u32 = 4;
     /// A sample or entry is beyond its limit; the place is its index in the slice.
     pub const BEYOND_LIMIT: u32 = 5;
@@ -51,6 +51,12 @@ impl Refusal {
     pub const CELL: u32 = 14;
     /// The coefficients lent are not exactly as many as a cell has.
     pub const COEFFICIENT_COUNT: u32 = 15;
+    /// A token is longer than 64 bytes; the place is its first byte.
+    pub const TOKEN_TOO_LONG: u32 = 16;
+    /// A token does not fit the grammar of numbers; the place is its first byte.
+    pub const TOKEN_GRAMMAR: u32 = 17;
+    /// A token is not a whole number of units; the place is its first byte.
+    pub const TOKEN_NOT_WHOLE: u32 = 18;
 }
 
 impl fmt::Display for Refusal {
@@ -61,7 +67,10 @@ impl fmt::Display for Refusal {
             Self::AXES => write!(f, "the number of axes is not 1, 2 or 3"),
             Self::DEGREE => write!(f, "the degree is neither 3 nor 5"),
             Self::NODE_COUNT => write!(f, "the node count of axis {place} is not allowed"),
-            Self::LENGTH => write!(f, "the samples or records are not as many as the shape has"),
+            Self::LENGTH => write!(
+                f,
+                "the samples, records or tokens are not as many as the shape has"
+            ),
             Self::BEYOND_LIMIT => write!(f, "the number at index {place} is beyond its limit"),
             Self::FILE_ENDS_EARLY => write!(f, "the file ends early, after {place} bytes"),
             Self::FILE_LEFT_OVER => write!(f, "the file has bytes left over, from byte {place} on"),
@@ -78,6 +87,14 @@ impl fmt::Display for Refusal {
             }
             Self::CELL => write!(f, "the cell index on axis {place} is outside the table"),
             Self::COEFFICIENT_COUNT => write!(f, "the coefficients are not as many as a cell has"),
+            Self::TOKEN_TOO_LONG => write!(f, "the token at byte {place} is longer than 64 bytes"),
+            Self::TOKEN_GRAMMAR => write!(f, "the token at byte {place} is no number"),
+            Self::TOKEN_NOT_WHOLE => {
+                write!(
+                    f,
+                    "the token at byte {place} is not a whole number of units"
+                )
+            }
             _ => write!(f, "unknown reason"),
         }
     }

@@ -1,4 +1,4 @@
-//! The C example compiles against the header and the archive, and runs; the README shows it.
+//! The C examples compile against the header and the archive, and run; the README shows the first.
 
 mod c;
 
@@ -16,6 +16,18 @@ fn readme_block() -> (String, String) {
 fn dose_example() {
     let example = c::repository().join("examples/dose.c");
     assert_eq!(c::run("c99", &example), PRINTED);
+}
+
+#[test]
+fn import_example() {
+    let example = c::repository().join("examples/import.c");
+    let printed = "0 100 250\n-50 40 180\n-120 -10 90\n";
+    assert_eq!(c::run("c99", &example), printed);
+    // Its text is the one of the examples.
+    let source = c::text("examples/import.c");
+    for line in c::text("examples/plane.txt").lines() {
+        assert!(source.contains(&format!("\"{line}\\n\"")), "{line}");
+    }
 }
 
 #[test]

@@ -36,6 +36,17 @@ fn node_counts() {
 }
 
 #[test]
+fn tokens() {
+    let shape = cube(1, 3, 2);
+    let refused = |length| {
+        let text = format!("1 0.{}", "0".repeat(length - 2));
+        number(import(shape, text.as_bytes(), &mut [0; 2]))
+    };
+    assert_eq!(refused(TOKEN_BYTES_MAX), 0);
+    assert_eq!(refused(TOKEN_BYTES_MAX + 1), Refusal::TOKEN_TOO_LONG);
+}
+
+#[test]
 fn largest_table() {
     let shape = cube(3, 5, COUNT_MAX);
     assert_eq!(shape.nodes(), NODES_MAX);

@@ -1,4 +1,5 @@
-//! The reference model on all worked examples and traps of document 01.
+//! The reference model on all worked examples and traps of document 01, and on the texts of request
+//! U1 of document 02.
 
 mod model;
 
@@ -10,6 +11,7 @@ use model::int::Int;
 use model::program::output;
 use model::query::{locate, query, query_float, Where};
 use model::stages::{axis_weights, exact, stages, stages_in_order, Point};
+use model::text::import;
 use model::{Answer, Rational, Refusal, Shape};
 
 fn line(degree: u32) -> Shape {
@@ -297,4 +299,34 @@ fn axes_in_any_order_give_the_same_estimates() {
     for order in [[0, 2, 1], [1, 0, 2], [1, 2, 0], [2, 0, 1], [2, 1, 0]] {
         assert_eq!(records_by_axes(&shape, &samples, &order), first);
     }
+}
+
+#[test]
+fn texts() {
+    let samples = |text: &str| import(&line(3), text.as_bytes(), 2);
+    let zeros = "0".repeat(58);
+    let large = format!("0 1{zeros}e-58");
+    for (text, first, second) in [
+        ("5e-1 0.5", 50, 50),
+        ("-0 0e99", 0, 0),
+        ("\t-12.50E+1\r\n0e-400 ", -12500, 0),
+        (&large[..], 0, 100),
+    ] {
+        assert_eq!(samples(text), Ok(vec![first, second]), "{text}");
+    }
+    let long = format!("0 0{zeros}000000");
+    for (text, number, place) in [
+        ("", 4, 0),
+        ("1", 4, 0),
+        ("1 2 01", 4, 0),
+        (&long[..], 16, 2),
+        ("01 1", 17, 0),
+        ("1 \u{b}", 17, 2),
+        ("1 1e-400", 18, 2),
+        ("1e400 01", 5, 0),
+        ("0 -327.69", 5, 1),
+    ] {
+        assert_eq!(samples(text), refused(number, place), "{text}");
+    }
+    assert_eq!(import(&line(3), b"01 1", 1), refused(9, 0));
 }

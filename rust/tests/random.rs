@@ -4,12 +4,14 @@
 
 mod common;
 mod model;
+mod texts;
 
 use common::*;
 use lukhtari::*;
 use model::query::{checked_point, last_step, Where};
 use model::Rational;
 use std::env;
+use texts::damaged;
 
 // What is asked for.
 #[derive(Clone, Copy, PartialEq)]
@@ -37,7 +39,7 @@ fn run(degree: u32, axes: u32, kind: Kind) {
     }
 }
 
-// Estimates one table, asks it, and returns the number of calls.
+// Imports and estimates one table, asks it, and returns the number of calls.
 fn run_table(random: &mut Random, seed: u64, (degree, axes, kind): (u32, u32, Kind)) -> u64 {
     let most = match axes {
         1 => random.pick(&[2, 3, 8, 64]),
@@ -65,17 +67,31 @@ fn run_table(random: &mut Random, seed: u64, (degree, axes, kind): (u32, u32, Ki
         }
     }
     convert(&query, seed);
-    queries + 3
+    queries + 5
 }
 
 // Records by the library, equal to the model's.
 fn estimated(random: &mut Random, seed: u64, shape: Shape) -> Vec<i32> {
-    let samples = random.samples(shape.nodes());
+    let samples = imported(random, seed, shape);
     let mut records = vec![0; shape.entries()];
     estimate(shape, &samples, &mut records).expect("accepted table");
     let expected = model::estimate::estimate(&plain_shape(shape), &samples, records.len());
     assert!(Ok(&records) == expected.as_ref(), "seed {seed}");
     records
+}
+
+// Samples by the library from text, equal to those that were typed; and a damaged text.
+fn imported(random: &mut Random, seed: u64, shape: Shape) -> Vec<i32> {
+    let typed = random.samples(shape.nodes());
+    let text = random.typed(&typed);
+    let mut samples = vec![0; shape.nodes()];
+    import(shape, &text, &mut samples).expect("accepted text");
+    assert!(samples == typed, "seed {seed}");
+    let text = damaged(random, &text);
+    let got = import(shape, &text, &mut samples).map(|()| samples);
+    let expected = model::text::import(&plain_shape(shape), &text, typed.len());
+    assert!(plain(got) == expected, "seed {seed}");
+    typed
 }
 
 // A point in the table: by position, by cell or by float.

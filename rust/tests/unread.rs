@@ -1,7 +1,8 @@
 //! Refusals that follow from the lengths and the numbers handed over: nothing of a slice is read.
 //! NULL with length 0 is such a slice, and its call is refused.
 //!
-//! Every slice here is a pointer to no memory, so that a read or a write ends the test by a fault.
+//! Every slice here but the text of an import that is refused for it is a pointer to no memory, so
+//! that a read or a write ends the test by a fault.
 //! The calls are the raw ones of the C interface, which take the pointer and the length as they
 //! are: no Rust slice is made of them, and a call that reads and writes nothing is sound with them.
 
@@ -40,6 +41,46 @@ fn coefficients(shape: Shape, records: usize, cell: u32, room: usize) -> u32 {
 fn corners(axes: u32, degree: u32, coefficients: usize, room: usize) -> u32 {
     // SAFETY: nothing is read or written.
     unsafe { lukhtari_corners(axes, degree, nowhere(), coefficients, nowhere(), room) }.number
+}
+
+// With a text at no place.
+fn import_nowhere(shape: Shape, length: usize, room: usize) -> u32 {
+    // SAFETY: nothing is read or written.
+    unsafe { lukhtari_import(shape, nowhere(), length, nowhere(), room) }.number
+}
+
+// With a slice for the samples at no place.
+fn import(shape: Shape, text: &str, room: usize) -> u32 {
+    // SAFETY: the text is lent; the samples are neither read nor written.
+    unsafe { lukhtari_import(shape, text.as_ptr(), text.len(), nowhere(), room) }.number
+}
+
+#[test]
+fn importing() {
+    for (axes, degree) in KINDS {
+        let shape = cube(axes, degree, 2);
+        for room in [LONG, shape.nodes(), 0] {
+            assert_eq!(import_nowhere(Shape { axes: 0, ..shape }, LONG, room), 1);
+            assert_eq!(import_nowhere(Shape { degree: 4, ..shape }, LONG, room), 2);
+            assert_eq!(import_nowhere(cube(axes, degree, 65), LONG, room), 3);
+            assert_eq!(import_nowhere(shape, 0, room), 4);
+        }
+        let mut tokens = vec!["1"; shape.nodes()];
+        for room in [shape.nodes() - 1, 1, 0] {
+            assert_eq!(import(shape, &tokens.join(" "), room), 9);
+        }
+        let long = "1".repeat(65);
+        for (last, number) in [(&long[..], 16), ("1.", 17), ("0.001", 18), ("1e3", 5)] {
+            *tokens.last_mut().unwrap() = last;
+            for room in [LONG, shape.nodes()] {
+                assert_eq!(import(shape, &tokens.join("\n"), room), number);
+            }
+        }
+        tokens.push("1");
+        for room in [LONG, 0] {
+            assert_eq!(import(shape, &tokens.join(" "), room), 4);
+        }
+    }
 }
 
 #[test]
@@ -238,4 +279,21 @@ fn null_with_length_0_for_files() {
         ]
     };
     assert_eq!(files, [4, 4, 9, 0, 6, 6, 9, 0]);
+}
+
+#[test]
+fn null_with_length_0_for_texts() {
+    let shape = cube(1, 3, 2);
+    let (text, mut samples) = (b"1 2", [0; 2]);
+    let (t, s) = (text.as_ptr(), samples.as_mut_ptr());
+    // SAFETY: the slices are lent; one of length 0 may be NULL.
+    let texts = unsafe {
+        [
+            lukhtari_import(shape, null(), 0, null_mut(), 0).number,
+            lukhtari_import(shape, null(), 0, s, 2).number,
+            lukhtari_import(shape, t, 3, null_mut(), 0).number,
+            lukhtari_import(shape, t, 3, s, 2).number,
+        ]
+    };
+    assert_eq!(texts, [4, 4, 9, 0]);
 }

@@ -3,6 +3,7 @@
 pub mod checks;
 pub mod conversion;
 pub mod estimation;
+pub mod import;
 pub mod method;
 pub mod plain;
 pub mod point;

@@ -3,6 +3,7 @@ pub mod conversion;
 pub mod estimation;
 pub mod files;
 pub mod float_queries;
+pub mod text;
 pub mod whole_queries;
 
 ghost use mathlib.Core.Path.{_≡_};

@@ -23,7 +23,8 @@ static uint32_t slope_axis;
 static int32_t samples[NODES], records[NODES * LUKHTARI_RECORD_ENTRIES_MAX];
 static int32_t coefficients[LUKHTARI_COEFFICIENTS_MAX], corners[LUKHTARI_COEFFICIENTS_MAX];
 static uint8_t file[LUKHTARI_FILE_BYTES(3, NODES)];
-static size_t nodes, entries, cell_numbers, bytes;
+static char text[NODES * (LUKHTARI_TOKEN_BYTES_MAX + 2)];
+static size_t nodes, entries, cell_numbers, bytes, letters;
 static uint32_t number;
 
 static void estimate(void) {
@@ -68,6 +69,10 @@ static void write_file(void) {
 
 static void read_file(void) { number = lukhtari_read(file, bytes, samples, NODES).number; }
 
+static void import(void) {
+    number = lukhtari_import(shape, (const uint8_t *)text, letters, samples, nodes).number;
+}
+
 enum {
     ESTIMATE,
     COEFFICIENTS,
@@ -80,6 +85,7 @@ enum {
     SLOPE_FLOAT,
     WRITE,
     READ,
+    IMPORT,
     CALLS
 };
 
@@ -99,6 +105,7 @@ static const struct {
     {"slope_float", slope_float, LUKHTARI_STACK_QUERY},
     {"write", write_file, LUKHTARI_STACK_FILE},
     {"read", read_file, LUKHTARI_STACK_FILE},
+    {"import", import, LUKHTARI_STACK_IMPORT},
 };
 
 static size_t most[CALLS];
@@ -128,6 +135,15 @@ static int measure(int which, uint32_t expected) {
     return number == expected;
 }
 
+/* Types the samples as text, with another token in place of the last. */
+static void type(const char *last) {
+    letters = 0;
+    for (size_t i = 0; i + 1 < nodes; i++) {
+        letters += (size_t)sprintf(&text[letters], "%d.00e-2\n", (int)samples[i]);
+    }
+    letters += (size_t)sprintf(&text[letters], "%s", last);
+}
+
 /* Sets everything for a table. */
 static void prepare(uint32_t axes, uint32_t degree) {
     lukhtari_shape wanted = {axes, degree, {X, axes > 1 ? 3 : 1, axes > 2 ? 3 : 1}};
@@ -140,6 +156,7 @@ static void prepare(uint32_t axes, uint32_t degree) {
     for (size_t i = 0; i < nodes; i++) {
         samples[i] = (int32_t)(i * 7919 % 60000) - 30000;
     }
+    type("-1.50");
     for (uint32_t axis = 0; axis < axes; axis++) {
         position.at[axis] = 77;
         u.at[axis] = 77;
@@ -166,6 +183,14 @@ static int measure_table(uint32_t axes, uint32_t degree) {
     right &= measure(COEFFICIENTS, LUKHTARI_REFUSED_BEYOND_LIMIT);
     coefficients[0] = 1;
     right &= measure(CORNERS, LUKHTARI_REFUSED_NO_CORNER_RECORDS);
+    type("1234567890123456789012345678901234567890123456789012345678901234.5");
+    right &= measure(IMPORT, LUKHTARI_REFUSED_TOKEN_TOO_LONG);
+    type("1e");
+    right &= measure(IMPORT, LUKHTARI_REFUSED_TOKEN_GRAMMAR);
+    type("1e-999999999999");
+    right &= measure(IMPORT, LUKHTARI_REFUSED_TOKEN_NOT_WHOLE);
+    type("327.69");
+    right &= measure(IMPORT, LUKHTARI_REFUSED_BEYOND_LIMIT);
     samples[nodes - 1] = LUKHTARI_SAMPLE_LIMIT + 1;
     right &= measure(ESTIMATE, LUKHTARI_REFUSED_BEYOND_LIMIT);
     right &= measure(WRITE, LUKHTARI_REFUSED_BEYOND_LIMIT);

@@ -1,6 +1,6 @@
-//! Reference model of document 01 in rational numbers: plain and slow.
+//! Reference model of documents 01 and 02 in rational numbers: plain and slow.
 //!
-//! Every call has its counterpart here, with the refusals in the document's order. A call that
+//! Every call has its counterpart here, with the refusals in the documents' order. A call that
 //! fills a lent buffer takes the buffer's length (`room`) and returns what is to be written.
 
 #![allow(dead_code, unused_imports)]
@@ -16,6 +16,7 @@ pub mod query;
 pub mod rational;
 pub mod shape;
 pub mod stages;
+pub mod text;
 
 pub use rational::Rational;
 pub use shape::{Answer, Refusal, Shape};
