@@ -19,6 +19,12 @@
  * on several axes is so derived along each of them. A sample lies within +-32768, an entry within
  * +-32768 * 2^(a + b + c).
  *
+ * Estimation. Along an axis, with l and r the neighbours of f, order 1 is r - l and order 2 is
+ * l - 2 * f + r. A neighbour missing at a border continues the line: l = 2 * f - r at the first
+ * node, r = 2 * f - l at the last one. So there order 1 is twice the difference of the two nodes
+ * and order 2 is 0. The rule is applied along each used axis. To leave room for it, samples given
+ * for estimation lie within +-32768 / 2^axes: 16384, 8192, 4096 on 1, 2, 3 axes.
+ *
  * Coefficients. Coefficient (a, b, c) of a cell, each index from 0 to degree and 0 on an unused
  * axis, has number a + s * (b + s * c) with s = degree + 1, and lies within +-2^30. It is held
  * doubled once for each used axis. With t = u / 256 on each axis the exact dose is the sum over all
@@ -61,7 +67,7 @@
  * buffer longer than needed keeps its tail.
  *
  * Refusals come before reading. Every call but lukhtari_read and lukhtari_import gives each refusal
- * but 5 and 13 by the numbers and lengths handed over, before it reads an element of a slice.
+ * but 5, 13 and 19 by the numbers and lengths handed over, before it reads an element of a slice.
  * lukhtari_read reads the numbers before the samples one by one, none beyond the bytes lent, and
  * gives each refusal but 5 before it reads a sample. lukhtari_import gives 1, 2 and 3 before it
  * reads a byte of the text. Neither reads the slice that it fills.
@@ -93,9 +99,10 @@ extern "C" {
 #define LUKHTARI_COUNT_MAX 64
 #define LUKHTARI_NODES_MAX 262144
 
-/* The largest size of a sample, of an entry whose orders add up to a number (0 to 6), and of a
- * coefficient. */
+/* The largest size of a sample, of a sample given for estimation on a number of axes (1 to 3), of
+ * an entry whose orders add up to a number (0 to 6), and of a coefficient. */
 #define LUKHTARI_SAMPLE_LIMIT 32768
+#define LUKHTARI_ESTIMATE_LIMIT(axes) (LUKHTARI_SAMPLE_LIMIT / (1 << (axes)))
 #define LUKHTARI_ENTRY_LIMIT(orders) (LUKHTARI_SAMPLE_LIMIT * (1 << (orders)))
 #define LUKHTARI_COEFFICIENT_LIMIT 1073741824
 
@@ -144,8 +151,9 @@ enum lukhtari_refusal {
     /* The samples or records lent, or the tokens of a text, are not exactly as many as the shape
      * has. */
     LUKHTARI_REFUSED_LENGTH = 4,
-    /* A sample or entry is beyond its limit; place: its index in the slice. Queries and
-     * lukhtari_coefficients look at the corner records of their cell alone, in corner order. */
+    /* A sample of a file or text, or an entry, is beyond its limit; place: its index in the slice.
+     * Queries and lukhtari_coefficients look at the corner records of their cell alone, in corner
+     * order. */
     LUKHTARI_REFUSED_BEYOND_LIMIT = 5,
     /* The file's bytes end early; place: the number of bytes lent. */
     LUKHTARI_REFUSED_FILE_ENDS_EARLY = 6,
@@ -174,7 +182,9 @@ enum lukhtari_refusal {
     /* A token does not fit the grammar; place: the same. */
     LUKHTARI_REFUSED_TOKEN_GRAMMAR = 17,
     /* A token is not a whole number of units; place: the same. */
-    LUKHTARI_REFUSED_TOKEN_NOT_WHOLE = 18
+    LUKHTARI_REFUSED_TOKEN_NOT_WHOLE = 18,
+    /* A sample given for estimation is beyond 32768 / 2^axes; place: its index. */
+    LUKHTARI_REFUSED_BEYOND_ESTIMATE_LIMIT = 19
 };
 
 /* A table's number of axes (1 to 3), degree (3 or 5) and node counts: 2 to 64 on each used axis,
@@ -258,8 +268,9 @@ LUKHTARI_SIZE(lukhtari_written, 24);
 #endif
 
 /* Writes the records of all nodes, estimated from the samples. A record has 2^axes entries for
- * degree 3 and 3^axes for degree 5. Samples lie within +-32768.
- * Refusals in order: 1, 2, 3, 4, 9, 5. */
+ * degree 3 and 3^axes for degree 5. Samples lie within +-32768 / 2^axes. At a border the estimate
+ * continues the line.
+ * Refusals in order: 1, 2, 3, 4, 9, 19. */
 lukhtari_done lukhtari_estimate(lukhtari_shape shape, const int32_t *samples, size_t samples_len,
                                 int32_t *records, size_t records_len);
 

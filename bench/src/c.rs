@@ -1,7 +1,7 @@
 //! Doses by position beside hand-written C, called through the same interface.
 
 use super::clock::{side_by_side, Run};
-use super::inputs::{cube, positions, samples, KINDS};
+use super::inputs::{cube, estimable, positions, KINDS};
 use super::report::{heading, kind, line};
 use lukhtari::ffi::{lukhtari_dose, Position, Whole};
 use lukhtari::{estimate, Shape};
@@ -19,7 +19,7 @@ pub fn run() {
     for (degree, axes) in KINDS {
         let shape = cube(degree, axes, if axes == 3 { 17 } else { 33 });
         let mut records = vec![0; shape.entries()];
-        estimate(shape, &samples(shape), &mut records).expect("accepted table");
+        estimate(shape, &estimable(shape), &mut records).expect("accepted table");
         let positions = positions(shape, POINTS);
         let ask = |call: Call, at: [i32; 3]| {
             // SAFETY: the pointer and the length are those of the records.

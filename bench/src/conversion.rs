@@ -2,7 +2,7 @@
 
 use super::clock::{side_by_side, Run};
 use super::hand::conversion;
-use super::inputs::{cell_and_u, cube, positions, samples, KINDS};
+use super::inputs::{cell_and_u, cube, estimable, positions, KINDS};
 use super::report::{heading, kind, line};
 use lukhtari::{coefficients, corners, estimate, Refusal, Shape};
 
@@ -20,7 +20,7 @@ pub fn run() {
     for (degree, axes) in KINDS {
         let shape = cube(degree, axes, 9);
         let mut records = vec![0; shape.entries()];
-        estimate(shape, &samples(shape), &mut records).expect("accepted table");
+        estimate(shape, &estimable(shape), &mut records).expect("accepted table");
         let cells: Vec<[u32; 3]> = positions(shape, 256)
             .into_iter()
             .map(|position| cell_and_u(shape, position).0)

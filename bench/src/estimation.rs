@@ -2,7 +2,7 @@
 
 use super::clock::{side_by_side, Run};
 use super::hand::estimation::{by_neighbourhood, by_window};
-use super::inputs::{cube, samples};
+use super::inputs::{cube, estimable};
 use super::report::{heading, kind, line};
 use lukhtari::{estimate, Refusal, Shape};
 
@@ -31,7 +31,7 @@ pub fn run() {
 
 // Nanoseconds a table of each call.
 fn times(shape: Shape) -> Vec<f64> {
-    let samples = samples(shape);
+    let samples = estimable(shape);
     let mut expected = vec![0; shape.entries()];
     estimate(shape, &samples, &mut expected).expect("accepted table");
     let samples = &samples;

@@ -5,7 +5,7 @@ use super::hand::method::{Folded, Printed};
 use super::hand::plain::Plain;
 use super::hand::query;
 use super::hand::stages::Specialised;
-use super::inputs::{cube, positions, samples, KINDS};
+use super::inputs::{cube, estimable, positions, KINDS};
 use super::queries::WHOLE;
 use super::report::{heading, kind, line, wanted};
 use lukhtari::{dose_float, estimate, slope_float, Refusal};
@@ -27,7 +27,7 @@ pub fn run() {
 fn times(degree: u32, axes: u32, along: Option<u32>) -> Vec<f64> {
     let shape = cube(degree, axes, if axes == 3 { 17 } else { 33 });
     let mut records = vec![0; shape.entries()];
-    estimate(shape, &samples(shape), &mut records).expect("accepted table");
+    estimate(shape, &estimable(shape), &mut records).expect("accepted table");
     let records = &records[..];
     let points = positions(shape, POINTS);
     let points: Vec<[f32; 3]> = points

@@ -42,6 +42,12 @@ pub fn samples(shape: Shape) -> Vec<i32> {
     (0..shape.nodes()).map(sample).collect()
 }
 
+// The same, made smaller so that estimation takes it.
+pub fn estimable(shape: Shape) -> Vec<i32> {
+    let smaller = |sample: i32| sample >> shape.axes;
+    samples(shape).into_iter().map(smaller).collect()
+}
+
 // Random points within a table, as positions in steps.
 pub fn positions(shape: Shape, number: usize) -> Vec<[i32; 3]> {
     let mut random = Random::new(11);

@@ -11,7 +11,7 @@ pub use linked::run;
 #[cfg(lcms2)]
 mod linked {
     use crate::clock::{side_by_side, Run};
-    use crate::inputs::{cube, positions, samples};
+    use crate::inputs::{cube, estimable, positions};
     use crate::report::{heading, kind, line};
     use lukhtari::{dose, estimate};
     use std::ffi::c_void;
@@ -74,7 +74,7 @@ mod linked {
 
     fn times(degree: u32) -> Vec<f64> {
         let shape = cube(degree, 3, COUNT);
-        let samples = samples(shape);
+        let samples = estimable(shape);
         let mut records = vec![0; shape.entries()];
         estimate(shape, &samples, &mut records).expect("accepted table");
         let table: Vec<u16> = samples

@@ -6,7 +6,7 @@ use super::hand::method::{Folded, Printed};
 use super::hand::plain::Plain;
 use super::hand::query;
 use super::hand::stages::Specialised;
-use super::inputs::{cell_and_u, cube, positions, samples, KINDS};
+use super::inputs::{cell_and_u, cube, estimable, positions, KINDS};
 use super::report::{heading, kind, line, wanted};
 use lukhtari::{dose, dose_in_cell, estimate, slope, slope_in_cell, Refusal, Shape};
 
@@ -67,7 +67,7 @@ impl Table {
     fn new(degree: u32, axes: u32) -> Table {
         let shape = cube(degree, axes, if axes == 3 { 17 } else { 33 });
         let mut records = vec![0; shape.entries()];
-        estimate(shape, &samples(shape), &mut records).expect("accepted table");
+        estimate(shape, &estimable(shape), &mut records).expect("accepted table");
         let double = Double::new(shape, &records);
         let positions = positions(shape, POINTS);
         Table {

@@ -11,10 +11,10 @@ use crate::{ffi, Refusal, Shape};
 /// use lukhtari::{coefficients, Refusal, Shape};
 /// let shape = Shape { axes: 1, degree: 3, counts: [2, 1, 1] };
 /// let mut out = [0; 4];
-/// coefficients(shape, &[0, 100, 100, 100], [0, 0, 0], &mut out)?;
-/// assert_eq!(out, [0, 100, 500, 200]);
+/// coefficients(shape, &[0, 200, 100, 200], [0, 0, 0], &mut out)?;
+/// assert_eq!(out, [0, 200, 400, 200]);
 ///
-/// let refusal = coefficients(shape, &[0, 100, 100, 100], [1, 0, 0], &mut out).unwrap_err();
+/// let refusal = coefficients(shape, &[0, 200, 100, 200], [1, 0, 0], &mut out).unwrap_err();
 /// assert_eq!(refusal, Refusal { number: 14, place: 0 });
 /// # Ok::<(), Refusal>(())
 /// ```

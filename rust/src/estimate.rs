@@ -5,17 +5,20 @@ use crate::{ffi, Refusal, Shape};
 
 /// Writes all records of a table, estimated from its samples, to the front of `records`.
 ///
-/// Refusals in order: 1, 2, 3, 4, 9, 5.
+/// A neighbour missing at a border continues the line: straight samples have straight records.
+/// Samples lie within [`estimate_limit`](crate::limits::estimate_limit) of the number of axes.
+///
+/// Refusals in order: 1, 2, 3, 4, 9, 19.
 ///
 /// ```
 /// use lukhtari::{estimate, Refusal, Shape};
 /// let shape = Shape { axes: 1, degree: 3, counts: [2, 1, 1] };
 /// let mut records = [0; 4];
 /// estimate(shape, &[0, 100], &mut records)?;
-/// assert_eq!(records, [0, 100, 100, 100]);
+/// assert_eq!(records, [0, 200, 100, 200]);
 ///
-/// let refusal = estimate(shape, &[0, 32769], &mut records).unwrap_err();
-/// assert_eq!(refusal, Refusal { number: 5, place: 1 });
+/// let refusal = estimate(shape, &[0, 16385], &mut records).unwrap_err();
+/// assert_eq!(refusal, Refusal { number: 19, place: 1 });
 /// # Ok::<(), Refusal>(())
 /// ```
 pub fn estimate(shape: Shape, samples: &[i32], records: &mut [i32]) -> Result<(), Refusal> {

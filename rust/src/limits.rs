@@ -18,6 +18,16 @@ pub const NODES_MAX: usize = (COUNT_MAX as usize).pow(3);
 /// Largest size of a sample.
 pub const SAMPLE_LIMIT: i32 = 32768;
 
+/// Largest size of a sample given for estimation on `axes` axes, 1 to 3.
+///
+/// ```
+/// use lukhtari::limits::estimate_limit;
+/// assert_eq!([1, 2, 3].map(estimate_limit), [16384, 8192, 4096]);
+/// ```
+pub const fn estimate_limit(axes: u32) -> i32 {
+    SAMPLE_LIMIT / 2_i32.saturating_pow(axes)
+}
+
 /// Largest size of an entry whose orders add up to `orders`, which is at most 6.
 ///
 /// ```

@@ -16,7 +16,7 @@ fn float_position([x, y, z]: [f32; 3]) -> ffi::FloatPosition {
 /// let shape = Shape { axes: 1, degree: 3, counts: [2, 1, 1] };
 /// let mut records = [0; 4];
 /// estimate(shape, &[0, 100], &mut records)?;
-/// assert_eq!(dose_float(shape, &records, [0.25, 0.0, 0.0])?, 20.0);
+/// assert_eq!(dose_float(shape, &records, [0.25, 0.0, 0.0])?, 25.0);
 ///
 /// let refusal = dose_float(shape, &records, [f32::NAN, 0.0, 0.0]).unwrap_err();
 /// assert_eq!(refusal, Refusal { number: 10, place: 0 });
@@ -40,7 +40,7 @@ pub fn dose_float(shape: Shape, records: &[i32], position: [f32; 3]) -> Result<f
 /// let shape = Shape { axes: 1, degree: 3, counts: [2, 1, 1] };
 /// let mut records = [0; 4];
 /// estimate(shape, &[0, 100], &mut records)?;
-/// assert_eq!(slope_float(shape, &records, [0.5, 0.0, 0.0], 0)?, 125.0);
+/// assert_eq!(slope_float(shape, &records, [0.5, 0.0, 0.0], 0)?, 100.0);
 /// # Ok::<(), Refusal>(())
 /// ```
 #[inline]

@@ -13,7 +13,7 @@ use core::fmt;
 /// ```
 #[derive(Clone, Copy, Debug, PartialEq, Eq)]
 pub struct Refusal {
-    /// 1 to 18, the constants below
+    /// 1 to 19, the constants below
     pub number: u32,
     /// An index counted from 0, and 0 where the reason names none
     pub place: u64,
@@ -29,7 +29,8 @@ impl Refusal {
     pub const NODE_COUNT: u32 = 3;
     /// The samples or records lent, or the tokens of a text, are not as many as the shape has.
     pub const LENGTH: u32 = 4;
-    /// A sample or entry is beyond its limit; the place is its index in the slice.
+    /// A sample of a file or text, or an entry, is beyond its limit; the place is its index in the
+    /// slice.
     pub const BEYOND_LIMIT: u32 = 5;
     /// The file's bytes end early; the place is their number.
     pub const FILE_ENDS_EARLY: u32 = 6;
@@ -57,6 +58,8 @@ impl Refusal {
     pub const TOKEN_GRAMMAR: u32 = 17;
     /// A token is not a whole number of units; the place is its first byte.
     pub const TOKEN_NOT_WHOLE: u32 = 18;
+    /// A sample given for estimation is beyond its limit there; the place is its index.
+    pub const BEYOND_ESTIMATE_LIMIT: u32 = 19;
 }
 
 impl fmt::Display for Refusal {
@@ -93,6 +96,12 @@ impl fmt::Display for Refusal {
                 write!(
                     f,
                     "the token at byte {place} is not a whole number of units"
+                )
+            }
+            Self::BEYOND_ESTIMATE_LIMIT => {
+                write!(
+                    f,
+                    "the sample at index {place} is beyond the limit of estimation"
                 )
             }
             _ => write!(f, "unknown reason"),

@@ -12,7 +12,7 @@ use crate::{ffi, Refusal, Shape};
 /// let shape = Shape { axes: 1, degree: 3, counts: [2, 1, 1] };
 /// let mut records = [0; 4];
 /// estimate(shape, &[0, 100], &mut records)?;
-/// assert_eq!(dose(shape, &records, [64, 0, 0])?, 20);
+/// assert_eq!(dose(shape, &records, [64, 0, 0])?, 25);
 ///
 /// let refusal = dose(shape, &records, [257, 0, 0]).unwrap_err();
 /// assert_eq!(refusal, Refusal { number: 11, place: 0 });
@@ -35,7 +35,7 @@ pub fn dose(shape: Shape, records: &[i32], position: [i32; 3]) -> Result<i32, Re
 /// let shape = Shape { axes: 1, degree: 3, counts: [2, 1, 1] };
 /// let mut records = [0; 4];
 /// estimate(shape, &[0, 100], &mut records)?;
-/// assert_eq!(slope(shape, &records, [128, 0, 0], 0)?, 125);
+/// assert_eq!(slope(shape, &records, [128, 0, 0], 0)?, 100);
 ///
 /// let refusal = slope(shape, &records, [128, 0, 0], 1).unwrap_err();
 /// assert_eq!(refusal, Refusal { number: 12, place: 0 });
@@ -85,7 +85,7 @@ pub fn dose_in_cell(
 /// let shape = Shape { axes: 1, degree: 3, counts: [2, 1, 1] };
 /// let mut records = [0; 4];
 /// estimate(shape, &[0, 100], &mut records)?;
-/// assert_eq!(slope_in_cell(shape, &records, [0, 0, 0], [0, 0, 0], 0)?, 50);
+/// assert_eq!(slope_in_cell(shape, &records, [0, 0, 0], [0, 0, 0], 0)?, 100);
 /// # Ok::<(), Refusal>(())
 /// ```
 #[inline]

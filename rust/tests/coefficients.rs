@@ -50,11 +50,11 @@ fn run(call: &Call) -> Answer<()> {
 
 #[test]
 fn worked_examples() {
-    let cubic = Call::new(shape(1, 3, [2, 1, 1]), vec![0, 100, 100, 100], [0; 3]);
-    assert_eq!(run_out(&cubic), Ok(vec![0, 100, 500, 200]));
-    let records = vec![0, 100, 100, 100, 100, -100];
+    let cubic = Call::new(shape(1, 3, [2, 1, 1]), vec![0, 200, 100, 200], [0; 3]);
+    assert_eq!(run_out(&cubic), Ok(vec![0, 200, 400, 200]));
+    let records = vec![0, 200, 0, 100, 200, 0];
     let quintic = Call::new(shape(1, 5, [2, 1, 1]), records, [0; 3]);
-    assert_eq!(run_out(&quintic), Ok(vec![0, 100, 500, 1500, 900, 200]));
+    assert_eq!(run_out(&quintic), Ok(vec![0, 200, 800, 1200, 800, 200]));
 }
 
 #[test]
@@ -62,7 +62,7 @@ fn all_cells_of_estimated_tables() {
     let mut random = Random::new(1);
     for (axes, degree) in KINDS {
         let shape = random.shape(axes, degree, 4);
-        let samples = random.samples(shape.nodes());
+        let samples = random.estimable(shape);
         let mut records = vec![0; shape.entries()];
         estimate(shape, &samples, &mut records).unwrap();
         for cell in cells(shape) {

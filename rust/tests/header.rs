@@ -27,6 +27,7 @@ fn constants() -> BTreeMap<String, u64> {
     add!(all, "LUKHTARI_REFUSED_", Refusal, BUFFER_TOO_SHORT, NOT_FINITE, POSITION, SLOPE_AXIS);
     add!(all, "LUKHTARI_REFUSED_", Refusal, NO_CORNER_RECORDS, CELL, COEFFICIENT_COUNT);
     add!(all, "LUKHTARI_REFUSED_", Refusal, TOKEN_TOO_LONG, TOKEN_GRAMMAR, TOKEN_NOT_WHOLE);
+    add!(all, "LUKHTARI_REFUSED_", Refusal, BEYOND_ESTIMATE_LIMIT);
     all.insert("LUKHTARI_NOT_REFUSED".to_string(), 0);
     all
 }
@@ -82,22 +83,27 @@ fn constants_have_the_same_values() {
         source += &format!("    printf(\"%lld\\n\", (long long){name});\n");
     }
     source += "    for (int orders = 0; orders <= 6; orders++) {\n";
-    source += "        printf(\"%d\\n\", LUKHTARI_ENTRY_LIMIT(orders));\n    }\n    return 0;\n}\n";
+    source += "        printf(\"%d\\n\", LUKHTARI_ENTRY_LIMIT(orders));\n    }\n";
+    source += "    for (int axes = 1; axes <= 3; axes++) {\n";
+    source += "        printf(\"%d\\n\", LUKHTARI_ESTIMATE_LIMIT(axes));\n    }\n";
+    source += "    return 0;\n}\n";
     let printed = c::run("c99", &c::source("constants.c", &source));
-    let limits = (0..=6).map(|orders| limits::entry_limit(orders) as u64);
+    let entries = (0..=6).map(|orders| limits::entry_limit(orders) as u64);
+    let samples = (1..=3).map(|axes| limits::estimate_limit(axes) as u64);
+    let limits = entries.chain(samples);
     let expected: Vec<u64> = constants().into_values().chain(limits).collect();
     assert_eq!(numbers(&printed), expected);
 }
 
 #[test]
-fn refusals_are_numbered_from_1_to_18() {
+fn refusals_are_numbered_from_1_to_19() {
     let refused = |(name, number): (String, u64)| {
         let refused = name.starts_with("LUKHTARI_REFUSED_");
         refused.then_some(number)
     };
     let mut all: Vec<u64> = constants().into_iter().filter_map(refused).collect();
     all.sort();
-    assert_eq!(all, (1..=18).collect::<Vec<u64>>());
+    assert_eq!(all, (1..=19).collect::<Vec<u64>>());
 }
 
 #[test]
@@ -149,6 +155,7 @@ int main(void) {
 const USE: &str = "#include \"lukhtari.h\"
 #include \"lukhtari.h\"
 int32_t records[LUKHTARI_ENTRIES(2, 5, LUKHTARI_NODES(4, 3, 1))];
+int32_t most = LUKHTARI_ESTIMATE_LIMIT(2);
 uint8_t file[LUKHTARI_FILE_BYTES(2, 12)];
 int refused(lukhtari_done done);
 int refused(lukhtari_done done) {

@@ -14,11 +14,25 @@ fn number<T>(answer: Result<T, Refusal>) -> u32 {
 
 #[test]
 fn samples() {
-    let shape = cube(1, 3, 2);
     for sign in [1, -1] {
-        let refused = |sample| number(estimate(shape, &[0, sign * sample], &mut [0; 4]));
+        let refused = |sample| number(write(1, [2, 1, 1], &[0, sign * sample], &mut [0; 20]));
         assert_eq!(refused(SAMPLE_LIMIT), 0);
         assert_eq!(refused(SAMPLE_LIMIT + 1), Refusal::BEYOND_LIMIT);
+    }
+}
+
+#[test]
+fn samples_for_estimation() {
+    for (axes, degree) in KINDS {
+        let shape = cube(axes, degree, 2);
+        let refused = |sample| {
+            let samples = vec![sample; shape.nodes()];
+            number(estimate(shape, &samples, &mut vec![0; shape.entries()]))
+        };
+        let limit = estimate_limit(axes);
+        assert_eq!([limit, -limit].map(refused), [0; 2]);
+        let beyond = [limit + 1, -limit - 1].map(refused);
+        assert_eq!(beyond, [Refusal::BEYOND_ESTIMATE_LIMIT; 2]);
     }
 }
 
@@ -27,7 +41,7 @@ fn node_counts() {
     for (axes, degree) in KINDS {
         let refused = |count| {
             let shape = cube(axes, degree, count);
-            let samples = vec![SAMPLE_LIMIT; shape.nodes()];
+            let samples = vec![estimate_limit(axes); shape.nodes()];
             number(estimate(shape, &samples, &mut vec![0; shape.entries()]))
         };
         let counts = [COUNT_MIN - 1, COUNT_MIN, COUNT_MAX, COUNT_MAX + 1];

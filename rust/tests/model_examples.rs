@@ -1,5 +1,5 @@
-//! The reference model on all worked examples and traps of document 01, and on the texts of request
-//! U1 of document 02.
+//! The reference model on all worked examples and traps of document 01, as request U2 of document
+//! 02 works them out anew, and on the texts of request U1.
 
 mod model;
 
@@ -41,8 +41,9 @@ fn dose(degree: u32, samples: [i32; 2], p: i32) -> Answer<i32> {
     )
 }
 
-fn cubic_slope(p: i32) -> Answer<i32> {
-    let shape = line(3);
+// Slope of the samples 0, 100 at a position.
+fn slope(degree: u32, p: i32) -> Answer<i32> {
+    let shape = line(degree);
     let records = records(&shape, &[0, 100]);
     query(&shape, &records, Where::Position([p, 0, 0]), Some(0))
 }
@@ -57,38 +58,40 @@ fn point(u: u32) -> Point {
 
 #[test]
 fn records_of_0_100() {
-    assert_eq!(records(&line(3), &[0, 100]), [0, 100, 100, 100]);
-    assert_eq!(records(&line(5), &[0, 100]), [0, 100, 100, 100, 100, -100]);
+    assert_eq!(records(&line(3), &[0, 100]), [0, 200, 100, 200]);
+    assert_eq!(records(&line(5), &[0, 100]), [0, 200, 0, 100, 200, 0]);
 }
 
 #[test]
 fn coefficients_of_0_100() {
-    let cubic = coefficients(&line(3), &[0, 100, 100, 100], [0; 3], 4);
-    assert_eq!(cubic, Ok(vec![0, 100, 500, 200]));
+    let cubic = coefficients(&line(3), &[0, 200, 100, 200], [0; 3], 4);
+    assert_eq!(cubic, Ok(vec![0, 200, 400, 200]));
     let shape = line(5);
     let quintic = coefficients(&shape, &records(&shape, &[0, 100]), [0; 3], 6);
-    assert_eq!(quintic, Ok(vec![0, 100, 500, 1500, 900, 200]));
+    assert_eq!(quintic, Ok(vec![0, 200, 800, 1200, 800, 200]));
 }
 
 #[test]
 fn doses_of_0_100() {
     for degree in [3, 5] {
+        assert_eq!(dose(degree, [0, 100], 64), Ok(25));
         assert_eq!(dose(degree, [0, 100], 128), Ok(50));
         assert_eq!(dose(degree, [0, 100], 256), Ok(100));
         assert_eq!(dose(degree, [0, 100], 257), refused(11, 0));
         assert_eq!(dose(degree, [0, 100], -1), refused(11, 0));
+        let records = records(&line(degree), &[0, 100]);
+        let value = exact(&line(degree), &records, &point(64));
+        assert_eq!(value, Rational::whole(25));
     }
-    assert_eq!(dose(3, [0, 100], 64), Ok(20));
-    assert_eq!(dose(5, [0, 100], 64), Ok(19));
-    let records = records(&line(3), &[0, 100]);
-    let value = exact(&line(3), &records, &point(64));
-    assert_eq!(value, Rational::ratio(203125, 10000));
 }
 
 #[test]
 fn slopes_of_0_100() {
-    assert_eq!(cubic_slope(0), Ok(50));
-    assert_eq!(cubic_slope(128), Ok(125));
+    for degree in [3, 5] {
+        for p in 0..=256 {
+            assert_eq!(slope(degree, p), Ok(100));
+        }
+    }
 }
 
 #[test]
@@ -115,17 +118,28 @@ fn two_axes() {
     };
     let records = records(&shape, &[0, 100, 0, 100]);
     let after = stages(&shape, &records, &point(64));
-    assert_eq!(after[0].at([0, 0, 0]), Rational::ratio(163, 8));
+    assert_eq!(after[0].at([0, 0, 0]), Rational::ratio(200, 8));
     let dose = query(&shape, &records, Where::Position([64, 0, 0]), None);
-    assert_eq!(dose, Ok(20));
+    assert_eq!(dose, Ok(25));
 }
 
 #[test]
-fn sample_limit() {
+fn sample_limits() {
     let shape = line(3);
-    assert!(estimate(&shape, &[32768, -32768], 4).is_ok());
-    assert_eq!(estimate(&shape, &[0, 32769], 4), refused(5, 1));
-    assert_eq!(estimate(&shape, &[-32769, 32769], 4), refused(5, 0));
+    assert!(estimate(&shape, &[16384, -16384], 4).is_ok());
+    assert_eq!(estimate(&shape, &[0, 16385], 4), refused(19, 1));
+    assert_eq!(estimate(&shape, &[-16385, 32769], 4), refused(19, 0));
+    assert_eq!(estimate(&shape, &[0, 40000], 4), refused(19, 1));
+    // Files keep theirs.
+    let file = |samples| write(1, [2, 1, 1], samples, 20);
+    let bytes = file(&[32768, -32768]).expect("a file");
+    assert_eq!(
+        read(&bytes, 2).map(|table| table.samples),
+        Ok(vec![32768, -32768])
+    );
+    assert_eq!(output(&bytes), "refused 19\n");
+    assert_eq!(file(&[0, 32769]), refused(5, 1));
+    assert_eq!(file(&[-32769, 32769]), refused(5, 0));
 }
 
 #[test]
@@ -146,7 +160,7 @@ fn float_query() {
     let shape = line(3);
     let records = records(&shape, &[0, 100]);
     let ask = |x, y| query_float(&shape, &records, [x, y, 0.0], None);
-    assert_eq!(ask(0.25, 0.0), Ok(20.0));
+    assert_eq!(ask(0.25, 0.0), Ok(25.0));
     assert_eq!(ask(1.0, 0.0), Ok(100.0));
     assert_eq!(ask(1.01, f32::NAN), refused(11, 0));
     assert_eq!(ask(1.0, f32::NAN), refused(10, 1));
@@ -198,7 +212,7 @@ fn trap_division_towards_zero() {
     assert_eq!(Rational::ratio(-1, 2).round(), Int::ZERO);
     assert_eq!(Rational::ratio(1, 2).round(), Int::from(1));
     assert_eq!(Rational::ratio(-3, 2).round(), Int::from(-1));
-    // Exact value -0.796875.
+    // Exact value -0.75.
     assert_eq!(dose(3, [0, -1], 192), Ok(-1));
 }
 

@@ -1,4 +1,4 @@
-//! Readings of document 01 that theorems leave open, fixed by printed numbers: the rows of
+//! Readings of the documents that theorems leave open, fixed by printed numbers: the rows of
 //! crates/claims/specs/Pinned.antt and more of their kind.
 
 mod common;
@@ -8,8 +8,8 @@ mod printed;
 mod queries;
 
 use common::*;
-use files::EXAMPLE;
-use lukhtari::dose_float;
+use files::{words, EXAMPLE};
+use lukhtari::{dose_float, read};
 use model::query::Where::{Cell, Position};
 use model::Rational;
 use printed::*;
@@ -82,12 +82,55 @@ fn lengths_before_rooms() {
 }
 
 #[test]
-fn samples_are_within_32768() {
+fn samples_of_a_file_are_within_32768() {
+    let said = |samples: &[i32]| written(1, [3, 1, 1], samples, 24);
+    assert_eq!(said(&[32768, -32768, 32768]), Ok(24));
+    assert_eq!(said(&[32768, -32768, 32769]), refused(5, 2));
+    let file = |third: i32| {
+        let samples = [32768, -32768, third].map(|sample| sample as u32);
+        let bytes = words(&[&[1, 3, 3], &samples[..]].concat());
+        let mut samples = [0; 3];
+        plain(read(&bytes, &mut samples)).map(|_| samples)
+    };
+    assert_eq!(file(32768), Ok([32768, -32768, 32768]));
+    assert_eq!(file(32769), refused(5, 2));
+}
+
+#[test]
+fn samples_for_estimation_are_within_16384_8192_4096() {
     let line = cube(1, 3, 3);
-    let beyond = estimated(line, &[32768, -32768, 32769], 6);
-    assert_eq!(beyond, refused(5, 2));
-    let within = estimated(line, &[32768, -32768, 32768], 6);
-    assert_eq!(within, Ok(vec![32768, -65536, -32768, 0, 32768, 65536]));
+    let within = estimated(line, &[16384, -16384, 16384], 6);
+    assert_eq!(within, Ok(vec![16384, -65536, -16384, 0, 16384, 65536]));
+    for (axes, limit) in [(1, 16384), (2, 8192), (3, 4096)] {
+        for degree in [3, 5] {
+            let shape = cube(axes, degree, 3);
+            let said = |third: i32| {
+                let mut samples = vec![0; shape.nodes()];
+                samples[..3].copy_from_slice(&[limit, -limit, third]);
+                outcome(&estimated(shape, &samples, shape.entries()))
+            };
+            assert_eq!([limit, -limit].map(said), [Ok(()); 2]);
+            for third in [limit + 1, -limit - 1, 32769, 40000, i32::MIN] {
+                assert_eq!(said(third), refused(19, 2), "{third}");
+            }
+        }
+    }
+    // The first place; 4 and 9 come before.
+    assert_eq!(estimated(line, &[0, -32769, 16385], 6), refused(19, 1));
+    assert_eq!(estimated(line, &[32769, 0, 0], 5), refused(9, 0));
+    assert_eq!(estimated(line, &[32769, 0], 6), refused(4, 0));
+}
+
+#[test]
+fn borders_continue_the_line() {
+    let line = estimated(cube(1, 5, 3), &[1, 3, 10], 9);
+    assert_eq!(line, Ok(vec![1, 4, 0, 3, 9, 5, 10, 14, 0]));
+    let plane = estimated(cube(2, 3, 2), &[0, 0, 0, 100], 16);
+    let records = vec![
+        0, 0, 0, 400, 0, 0, 200, 400, //
+        0, 200, 0, 400, 100, 200, 200, 400,
+    ];
+    assert_eq!(plane, Ok(records));
 }
 
 #[test]

@@ -3,7 +3,8 @@
 mod common;
 mod model;
 
-use common::{program, Random};
+use common::{program, shape, Random};
+use lukhtari::Shape;
 use model::program::{output, BYTES, NODES};
 use std::fs::File;
 use std::io::{Read, Write};
@@ -48,15 +49,25 @@ fn words(numbers: &[u32]) -> Vec<u8> {
     numbers.iter().flat_map(|n| n.to_le_bytes()).collect()
 }
 
-// A table file with random samples.
-fn file(random: &mut Random, counts: &[u32]) -> Vec<u8> {
-    let nodes = counts.iter().product();
+// The table file of these samples.
+fn file_of(counts: &[u32], samples: &[i32]) -> Vec<u8> {
     let mut numbers = vec![counts.len() as u32];
     numbers.extend(counts);
-    numbers.push(nodes);
-    let samples = random.samples(nodes as usize);
+    numbers.push(samples.len() as u32);
     numbers.extend(samples.iter().map(|&sample| sample as u32));
     words(&numbers)
+}
+
+// The shape of a table with these node counts.
+fn shape_of(counts: &[u32]) -> Shape {
+    let mut all = [1; 3];
+    all[..counts.len()].copy_from_slice(counts);
+    shape(counts.len() as u32, 3, all)
+}
+
+// A table file with random samples that estimation takes.
+fn file(random: &mut Random, counts: &[u32]) -> Vec<u8> {
+    file_of(counts, &random.estimable(shape_of(counts)))
 }
 
 #[test]
@@ -74,7 +85,7 @@ fn worked_examples() {
 fn negative_doses() {
     let text = check(&words(&[1, 2, 2, 0, -100i32 as u32]));
     assert_eq!(text, "0 0 0 -50 -50\n");
-    check(&words(&[2, 2, 2, 4, -32768i32 as u32, 0, 5, -7i32 as u32]));
+    check(&file_of(&[2, 2], &[-8192, 0, 5, -7]));
 }
 
 #[test]
@@ -93,7 +104,11 @@ fn random_tables() {
         for axes in 1..=3 {
             let most = if axes == 3 { 5 } else { 9 };
             let counts = random.shape(axes, 3, most).counts;
-            check(&file(&mut random, &counts[..axes as usize]));
+            let counts = &counts[..axes as usize];
+            check(&file(&mut random, counts));
+            // Samples of which many are beyond the limit of estimation.
+            let nodes = counts.iter().product::<u32>() as usize;
+            check(&file_of(counts, &random.samples(nodes)));
         }
     }
 }
@@ -183,7 +198,40 @@ fn refusals() {
     assert_eq!(case(&[3, 2, 65, 0]), "refused 3\n");
     assert_eq!(case(&[1, 2, 2, 0, 32769]), "refused 5\n");
     assert_eq!(case(&[1, 2, 2, -32769i32 as u32, 0]), "refused 5\n");
-    assert_eq!(case(&[1, 2, 2, 32768, -32768i32 as u32]), "0 0 0 0 0\n");
+    assert_eq!(case(&[1, 2, 2, 16384, -16384i32 as u32]), "0 0 0 0 0\n");
+    assert_eq!(case(&[1, 2, 2, 32768, -32768i32 as u32]), "refused 19\n");
+}
+
+#[test]
+fn samples_that_estimation_does_not_take() {
+    for (counts, limit) in [(&[3][..], 16384), (&[2, 3], 8192), (&[2, 3, 2], 4096)] {
+        let nodes = counts.iter().product::<u32>() as usize;
+        for sign in [1, -1] {
+            for node in 0..nodes {
+                let mut samples = vec![7; nodes];
+                samples[node] = sign * limit;
+                assert!(!check(&file_of(counts, &samples)).starts_with("refused"));
+                for beyond in [limit + 1, 32768] {
+                    samples[node] = sign * beyond;
+                    assert_eq!(check(&file_of(counts, &samples)), "refused 19\n");
+                }
+            }
+        }
+        // All refusals of the file come before.
+        let mut samples = vec![limit + 1; nodes];
+        let file = file_of(counts, &samples);
+        assert_eq!(check(&file[..file.len() - 1]), "refused 6\n");
+        assert_eq!(check(&[&file[..], &[0]].concat()), "refused 7\n");
+        samples[nodes - 1] = -32769;
+        assert_eq!(check(&file_of(counts, &samples)), "refused 5\n");
+        samples.pop();
+        let mut other_count = file_of(counts, &samples);
+        assert_eq!(check(&other_count), "refused 8\n");
+        other_count[4] = 65;
+        assert_eq!(check(&other_count), "refused 3\n");
+    }
+    let many = file_of(&[9, 57], &[8193; 513]);
+    assert_eq!(check(&many), "refused 9\n");
 }
 
 #[test]

@@ -125,10 +125,10 @@ fn worked_examples() {
     let shape = shape(1, 3, [2, 1, 1]);
     let ask = |bits: u32| {
         let at = [f32::from_bits(bits), 0.0, 0.0];
-        let query = float_query(shape, vec![0, 100, 100, 100], at, None);
+        let query = float_query(shape, vec![0, 200, 100, 200], at, None);
         run(&query).map(|_| call(&query).unwrap())
     };
-    assert_eq!(ask(0.25f32.to_bits()), Ok(20.0));
+    assert_eq!(ask(0.25f32.to_bits()), Ok(25.0));
     assert_eq!(ask(0.5f32.to_bits()), Ok(50.0));
     assert_eq!(ask(1.0f32.to_bits()), Ok(100.0));
     // Steps 1 and 0 of a steep line.

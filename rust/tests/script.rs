@@ -88,6 +88,7 @@ fn refusals_in_words() {
         (7, words(&[1, 2, 2, 0, 100, 0])),
         (8, words(&[1, 2, 3, 0, 100])),
         (9, vec![0; 4097]),
+        (19, words(&[1, 2, 2, 0, 16385])),
     ];
     for (number, file) in cases {
         fs::write(here.join("table"), file).unwrap();

@@ -12,7 +12,7 @@ use queries::*;
 
 // Records estimated by the model.
 fn estimated(random: &mut Random, shape: Shape) -> Vec<i32> {
-    let samples = random.samples(shape.nodes());
+    let samples = random.estimable(shape);
     estimated_from(shape, &samples)
 }
 
@@ -69,18 +69,18 @@ fn worked_examples() {
         assert_eq!(ask(degree, [0, 100], 128, None), Ok(50));
         assert_eq!(ask(degree, [0, 100], 256, None), Ok(100));
         assert_eq!(ask(degree, [0, 100], 257, None), refused(11, 0));
+        assert_eq!(ask(degree, [0, 100], 64, None), Ok(25));
+        for p in [0, 64, 128, 256] {
+            assert_eq!(ask(degree, [0, 100], p, Some(0)), Ok(100));
+        }
     }
-    assert_eq!(ask(3, [0, 100], 64, None), Ok(20));
-    assert_eq!(ask(5, [0, 100], 64, None), Ok(19));
-    assert_eq!(ask(3, [0, 100], 0, Some(0)), Ok(50));
-    assert_eq!(ask(3, [0, 100], 128, Some(0)), Ok(125));
     assert_eq!(ask(3, [0, 1], 128, None), Ok(1));
     assert_eq!(ask(3, [0, -1], 128, None), Ok(0));
     assert_eq!(ask(3, [0, -1], 192, None), Ok(-1));
     let square = shape(2, 3, [2, 2, 1]);
     let records = estimated_from(square, &[0, 100, 0, 100]);
     let query = Query::new(square, records, Where::Position([64, 0, 0]), None);
-    assert_eq!(run(&query), Ok(20));
+    assert_eq!(run(&query), Ok(25));
 }
 
 #[test]
@@ -159,7 +159,7 @@ fn a_node_gives_its_sample() {
     let mut random = Random::new(5);
     for (axes, degree) in KINDS {
         let shape = random.shape(axes, degree, 5);
-        let samples = random.samples(shape.nodes());
+        let samples = random.estimable(shape);
         let records = estimated_from(shape, &samples);
         let nodes = indices(shape.counts.map(|count| count as usize));
         for (node, &sample) in nodes.into_iter().zip(&samples) {

@@ -14,9 +14,9 @@ use Rattle.hermite.specs.Hermite.{multiplier, mirrored, share, forward, solved,
 use Rattle.cell.specs.Cell.{placeAt, cellOutcome, cornerPlace, cornerEntries, entryOutcome, cornersOutcome}
 use Rattle.cell.specs.Coefficients.{coefficients}
 use Rattle.cell.specs.Corners.{cornerNumbers}
-use Rattle.table_file.specs.Numbers.{numberAt, bytesOf, bytesOfAll}
-use Rattle.table_file.specs.File.{sectionOne, sectionTwo, fileOf, complete, countIn, nodesIn, countOutcome, oneOutcome, nothingAfter, twoOutcome, readCheck}
-use Rattle.estimate.specs.Estimate.{left, right, byOrder, estimate, records, tableRecords, recordsOf, estimateOutcome, estimateWrites}
+use Rattle.table_file.specs.Numbers.{numberAt, bytesOf, bytesOfAll, signedOf}
+use Rattle.table_file.specs.File.{sectionOne, sectionTwo, fileOf, complete, countIn, nodesIn, samplesIn, countOutcome, oneOutcome, nothingAfter, twoOutcome, readCheck}
+use Rattle.estimate.specs.Estimate.{left, right, byOrder, estimate, records, tableRecords, recordsOf, estimateLimit, estimateOutcome, estimateWrites}
 use Rattle.coefficients.specs.Coefficients.{requestOutcome, coefficientList, coefficientsOutcome}
 use Rattle.corners.specs.Corners.{numbersOutcome, coefficientsField, doubledEntry, entryAllowed, possibleOutcome, entryList, backOutcome}
 use Rattle.evaluate.specs.Evaluate.{orderOn, lastAxis, weightOn, sumOver, exactSum, divisorOn, exactDivisor, stageOn, toEighth, toUnit, inEighths, before, answerBy, askAt}
@@ -28,12 +28,14 @@ use Rattle.claims.specs.Pinned.{answerFrom, notZero, sparse, among, numb
 -- all definitions that the rows compute with, opened together
 opened : Unit {0}
 unfolding answerFrom notZero sparse among numbered limits leftOver distances only flat fileWith allowedDistance readCheck twoOutcome
-    nothingAfter oneOutcome countOutcome nodesIn countIn complete fileOf sectionTwo sectionOne bytesOfAll bytesOf numberAt unsignedOf
+    nothingAfter oneOutcome countOutcome samplesIn nodesIn countIn complete fileOf sectionTwo sectionOne bytesOfAll bytesOf numberAt
+    signedOf unsignedOf
     placeAt byCell testedOutcome stepsOutcome recordsFrom coefficientsOf coefficientsFrom backInto firstStage exactly answerTo bothCalls
     queried cellRead stepRead byPosition positionStep positionCell cellOf positionOutcome positionAt reading askAt askedOutcome wantOutcome
     answerBy before inEighths toUnit toEighth stageOn exactDivisor divisorOn exactSum sumOver weightOn lastAxis orderOn estimateWrites
-    estimateOutcome recordsOf tableRecords records estimate byOrder right left coefficientsOutcome requestOutcome numbersOutcome
-    coefficientList backOutcome possibleOutcome entryAllowed entryList doubledEntry coefficientsField cornerNumbers coefficients
+    estimateOutcome estimateLimit recordsOf tableRecords records estimate byOrder right left coefficientsOutcome requestOutcome
+    numbersOutcome coefficientList backOutcome possibleOutcome entryAllowed entryList doubledEntry coefficientsField cornerNumbers
+    coefficients
     cellOutcome cornersOutcome entryOutcome cornerEntries cornerPlace stageSum divisor weightAt weight forward backward solved share
     mirrored multiplier limitOutcome entryLimit totalOrder entryPlace recordsField entryIndex entryNumber samplesField nodeNumber without
     axes sweep put shapeOutcome countsOutcome countAllowed degreeOutcome axesOutcome size entries nodes ordersOf count digit span number

@@ -1,4 +1,4 @@
--- The worked examples of document 01 with a star: one table, computed by the definitions, and one claim that covers all its rows.
+-- The worked examples with a star: one table, computed by the definitions, and one claim that covers all its rows.
 use mathlib.Core.Path.{_≡_}
 use mathlib.Core.List.{List, [], _∷_, map}
 use Prim.Native.Nat.{ℕ}
@@ -101,16 +101,17 @@ at-x p = pos p ∷ pos 0 ∷ pos 0 ∷ []
 
 unfoldable pub table : List Row
 table =
-    (recordsFrom (rising 3) gives pos 0 ∷ pos 100 ∷ pos 100 ∷ pos 100 ∷ [])
-    ∷ (coefficientsFrom (rising 3) gives pos 0 ∷ pos 100 ∷ pos 500 ∷ pos 200 ∷ [])
-    ∷ (coefficientsFrom (rising 5) gives pos 0 ∷ pos 100 ∷ pos 500 ∷ pos 1500 ∷ pos 900 ∷ pos 200 ∷ [])
+    (recordsFrom (rising 3) gives pos 0 ∷ pos 200 ∷ pos 100 ∷ pos 200 ∷ [])
+    ∷ (coefficientsFrom (rising 3) gives pos 0 ∷ pos 200 ∷ pos 400 ∷ pos 200 ∷ [])
+    ∷ (coefficientsFrom (rising 5) gives pos 0 ∷ pos 200 ∷ pos 800 ∷ pos 1200 ∷ pos 800 ∷ pos 200 ∷ [])
     ∷ (answerTo (rising 3) dose (at-x 128) gives pos 50 ∷ [])
     ∷ (answerTo (rising 5) dose (at-x 128) gives pos 50 ∷ [])
-    ∷ (answerTo (rising 3) dose (at-x 64) gives pos 20 ∷ [])
-    ∷ (exactly (rising 3) dose (at-x 64) gives pos 203125 ∷ pos 0 ∷ [])
-    ∷ (answerTo (rising 5) dose (at-x 64) gives pos 19 ∷ [])
-    ∷ (answerTo (rising 3) (slopeAlong 0) (at-x 0) gives pos 50 ∷ [])
-    ∷ (answerTo (rising 3) (slopeAlong 0) (at-x 128) gives pos 125 ∷ [])
+    ∷ (answerTo (rising 3) dose (at-x 64) gives pos 25 ∷ [])
+    ∷ (exactly (rising 3) dose (at-x 64) gives pos 250000 ∷ pos 0 ∷ [])
+    ∷ (answerTo (rising 5) dose (at-x 64) gives pos 25 ∷ [])
+    ∷ (exactly (rising 5) dose (at-x 64) gives pos 250000 ∷ pos 0 ∷ [])
+    ∷ (answerTo (rising 3) (slopeAlong 0) (at-x 0) gives pos 100 ∷ [])
+    ∷ (answerTo (rising 3) (slopeAlong 0) (at-x 128) gives pos 100 ∷ [])
     ∷ (answerTo (rising 3) dose (at-x 256) gives pos 100 ∷ [])
     ∷ (answerTo (rising 5) dose (at-x 256) gives pos 100 ∷ [])
     ∷ (answerTo (rising 3) dose (at-x 257) refusedAs 11 atPlace 0)
@@ -119,6 +120,6 @@ table =
     ∷ (answerTo (pair 3 (pos 0) (negsuc 0)) dose (at-x 128) gives pos 0 ∷ [])
     ∷ (backFrom 1 3 (pos 0 ∷ pos 100 ∷ pos 500 ∷ pos 200 ∷ []) gives pos 0 ∷ pos 100 ∷ pos 100 ∷ pos 100 ∷ [])
     ∷ (backFrom 1 3 (pos 1 ∷ pos 0 ∷ pos 0 ∷ pos 0 ∷ []) refusedAs 13 atPlace 0)
-    ∷ (firstStage square (at-x 64) gives pos 163 ∷ [])
-    ∷ (answerTo square dose (at-x 64) gives pos 20 ∷ [])
+    ∷ (firstStage square (at-x 64) gives pos 200 ∷ [])
+    ∷ (answerTo square dose (at-x 64) gives pos 25 ∷ [])
     ∷ []

@@ -1,5 +1,5 @@
 -- Further rows: where a theorem would hold of more than one reading of document 01, a computed row fixes the reading.
--- Refusal numbers, places and order; the order of nodes, entries, coefficients and corners on two and three axes; limits;
+-- Refusal numbers, places and order; borders; the order of nodes, entries, coefficients and corners on two and three axes; limits;
 -- the order of the stages; the cell of a shared node; the distances.
 use mathlib.Core.List.{List, [], _∷_, _++_}
 use Prim.Native.Nat.{ℕ, suc, _+_, _*_, _-_}
@@ -17,7 +17,7 @@ use Rattle.estimate.specs.Estimate.{tableRecords, estimateOutcome}
 use Rattle.evaluate.specs.Evaluate.{Want, dose, slopeAlong, exactSum, exactDivisor}
 use Rattle.table_file.specs.File.{readCheck, fileOf, header}
 use Rattle.claims.specs.Third.{Query, atPosition, inCell, queried, allowedDistance, asked}
-use Rattle.claims.specs.Examples.{Table, listed, Row, _gives_, _refusedAs_atPlace_, coefficientsOf, backFrom, backInto, pair, at-x}
+use Rattle.claims.specs.Examples.{Table, listed, Row, _gives_, _refusedAs_atPlace_, recordsFrom, coefficientsOf, backFrom, backInto, pair, at-x}
 
 -- ---- what a row computes
 
@@ -85,6 +85,10 @@ block = shapeOf 3 3 (2 ∷ 3 ∷ 4 ∷ [])
 abbrev pub sheet : Shape
 sheet = shapeOf 2 3 (3 ∷ 4 ∷ 1 ∷ [])
 
+-- samples of the cube, 0 behind those given
+abbrev pub onCube : List ℤ → List ℤ
+onCube xs = xs ++ replicate 5 (pos 0)
+
 -- all entries 0 but one
 unfoldable pub only : Shape → ℕ → ℤ → List ℤ
 only s i v = replicate i (pos 0) ++ (v ∷ replicate (size s - suc i) (pos 0))
@@ -113,9 +117,14 @@ refusals =
     ∷ (answerFrom (shapeOf 2 7 (2 ∷ 65 ∷ 1 ∷ [])) [] dose start refusedAs 2 atPlace 0)
     ∷ (answerFrom (shapeOf 2 3 (64 ∷ 65 ∷ 1 ∷ [])) [] dose start refusedAs 3 atPlace 1)
     ∷ (answerFrom (shapeOf 2 5 (64 ∷ 64 ∷ 1 ∷ [])) [] (slopeAlong 2) start refusedAs 4 atPlace 0)
-    -- 4 before 9; a sample of 32768 stands
+    -- 4 before 9, 9 before 19; samples of 16384, 8192 and 4096 stand on one, two and three axes, and of 32768 in a file
     ∷ (tested (estimateOutcome plane (pos 0 ∷ []) 0) refusedAs 4 atPlace 0)
-    ∷ (tested (estimateOutcome threeNodes (pos 32768 ∷ negsuc 32767 ∷ pos 32769 ∷ []) 6) refusedAs 5 atPlace 2)
+    ∷ (tested (estimateOutcome threeNodes (pos 32769 ∷ pos 0 ∷ pos 0 ∷ []) 5) refusedAs 9 atPlace 0)
+    ∷ (tested (estimateOutcome threeNodes (pos 16384 ∷ negsuc 16383 ∷ pos 16385 ∷ []) 6) refusedAs 19 atPlace 2)
+    ∷ (tested (estimateOutcome threeNodes (pos 0 ∷ negsuc 32768 ∷ pos 16385 ∷ []) 6) refusedAs 19 atPlace 1)
+    ∷ (tested (estimateOutcome plane (pos 8192 ∷ negsuc 8191 ∷ pos 0 ∷ negsuc 8192 ∷ []) 16) refusedAs 19 atPlace 3)
+    ∷ (tested (estimateOutcome cube (onCube (pos 4096 ∷ negsuc 4095 ∷ pos 4097 ∷ [])) 64) refusedAs 19 atPlace 2)
+    ∷ (tested (readCheck (fileOf (header 1 (3 ∷ 1 ∷ 1 ∷ [])) (pos 32768 ∷ negsuc 32767 ∷ pos 32769 ∷ [])) 3) refusedAs 5 atPlace 2)
     -- 15 before 9; the place of 13 is 0 wherever the entry stands
     ∷ (backInto 0 1 3 (pos 0 ∷ []) refusedAs 15 atPlace 0)
     ∷ (backFrom 1 3 (pos 0 ∷ pos 0 ∷ pos 65537 ∷ pos 0 ∷ []) refusedAs 13 atPlace 0)
@@ -128,12 +137,18 @@ refusals =
     ∷ (tested (readCheck (fileWith (0 ∷ 0 ∷ [])) 0) refusedAs 7 atPlace 20)
     ∷ []
 
--- ---- cells, limits, nodes and entries
+-- ---- borders, cells, limits, nodes and entries
 
 unfoldable pub readings : List Row
 readings =
+    -- at both borders D is twice the difference and S is 0, between them neither; along y as along x
+    (recordsFrom (record { shape = shapeOf 1 5 (3 ∷ 1 ∷ 1 ∷ []); samples = pos 1 ∷ pos 3 ∷ pos 10 ∷ [] })
+    gives pos 1 ∷ pos 4 ∷ pos 0 ∷ pos 3 ∷ pos 9 ∷ pos 5 ∷ pos 10 ∷ pos 14 ∷ pos 0 ∷ [])
+    ∷ (recordsFrom (record { shape = plane; samples = pos 0 ∷ pos 0 ∷ pos 0 ∷ pos 100 ∷ [] })
+    gives pos 0 ∷ pos 0 ∷ pos 0 ∷ pos 400 ∷ pos 0 ∷ pos 0 ∷ pos 200 ∷ pos 400
+    ∷ pos 0 ∷ pos 200 ∷ pos 0 ∷ pos 400 ∷ pos 100 ∷ pos 200 ∷ pos 200 ∷ pos 400 ∷ [])
     -- a position on a shared node is read in the upper cell
-    (answerFrom threeNodes (pos 32769 ∷ pos 0 ∷ pos 7 ∷ pos 0 ∷ pos 9 ∷ pos 0 ∷ []) dose (atPosition (at-x 256)) gives pos 7 ∷ [])
+    ∷ (answerFrom threeNodes (pos 32769 ∷ pos 0 ∷ pos 7 ∷ pos 0 ∷ pos 9 ∷ pos 0 ∷ []) dose (atPosition (at-x 256)) gives pos 7 ∷ [])
     -- the limits of the entries of a record
     ∷ (done (limits 2 8 ++ limits 3 9)
     gives pos 32768 ∷ pos 65536 ∷ pos 65536 ∷ pos 131072 ∷ pos 65536 ∷ pos 131072 ∷ pos 131072 ∷ pos 262144

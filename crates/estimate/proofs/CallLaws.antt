@@ -1,7 +1,8 @@
 -- What follows where estimation is not refused: the facts of the table, and every record within its limits and found again by its place.
 use mathlib.Core.Path.{_≡_, ap, _∙_}
 use mathlib.Core.List.{List}
-use Prim.Native.Nat.{ℕ, _/_, _≤_}
+use Prim.Native.Nat.{ℕ, _*_, _/_, _^_, _≤_}
+use native.Mathlib.Nat.{le-trans, mul-le-mul-right, div-mul-le-self, div-le-self}
 use lib.Dec.{leb, eqb}
 use lib.IntN.{ℤ, pos, natAbs}
 use lib.ListN.{length}
@@ -10,12 +11,12 @@ use Rattle.lattice.specs.declared.Shape.{Shape}
 use Rattle.lattice.specs.Outcome.{Check, done, refuseUnless, first}
 use Rattle.lattice.specs.Shape.{count, orders, nodes, size, shapeOutcome}
 use Rattle.lattice.specs.Axes.{Place}
-use Rattle.lattice.specs.Records.{samplesField, recordsField, entryIndex, entryPlace, sampleLimit, entryLimit, limitOutcome}
+use Rattle.lattice.specs.Records.{samplesField, recordsField, entryIndex, entryPlace, totalOrder, sampleLimit, entryLimit, limitOutcome}
 use Rattle.lattice.proofs.OutcomeLaws.{first-done, refuse-done}
 use Rattle.lattice.proofs.BufferLaws.{length-tabulate, getD-tabulate}
 use Rattle.lattice.proofs.ShapeLaws.{shaped, nodes-is}
 use Rattle.lattice.proofs.RecordsLaws.{InTable, index-below, place-back, limit-each}
-use Rattle.estimate.specs.Estimate.{tableRecords, recordsOf, estimateOutcome, Estimable}
+use Rattle.estimate.specs.Estimate.{tableRecords, recordsOf, estimateLimit, estimateOutcome, Estimable}
 use Rattle.estimate.specs.Passes.{gridOf, Samples}
 use Rattle.estimate.proofs.EstimateLaws.{limits}
 use Rattle.estimate.proofs.RowsLaws.{grids}
@@ -25,7 +26,7 @@ use Rattle.estimate.proofs.RowsLaws.{grids}
 pub estimated : (s : Shape) (xs : List ℤ) (room : ℕ) → estimateOutcome s xs room ≡ done tt → Estimable s xs room
 unfolding estimateOutcome
 estimated s xs room h =
-    let last : Check = limitOutcome 5 sampleLimit xs in
+    let last : Check = limitOutcome 19 (estimateLimit (s .axes)) xs in
     let fits : Check = first (refuseUnless (leb (size s) room) 9 0) last in
     let a = first-done (shapeOutcome s) (first (refuseUnless (eqb (length xs) (nodes s)) 4 0) fits) tt h in
     let b = first-done (refuseUnless (eqb (length xs) (nodes s)) 4 0) fits tt (a .1) in
@@ -34,13 +35,27 @@ estimated s xs room h =
       passed = a .0;
       shape = shaped s (a .0);
       whole = eqb-true (length xs) (nodes s) (refuse-done (eqb (length xs) (nodes s)) 4 0 (b .0));
-      small = limit-each 5 sampleLimit xs (c .1);
+      small = limit-each 19 (estimateLimit (s .axes)) xs (c .1);
       fits = leb-true (size s) room (refuse-done (leb (size s) room) 9 0 (c .0));
     }
 
+-- the limit, doubled once an axis, is within that of samples
+limit-doubled : (n : ℕ) → estimateLimit n * 2 ^ n ≤ sampleLimit
+unfolding estimateLimit
+limit-doubled n = div-mul-le-self sampleLimit (2 ^ n)
+
+limit-low : (n : ℕ) → estimateLimit n ≤ sampleLimit
+unfolding estimateLimit
+limit-low n = div-le-self sampleLimit (2 ^ n)
+
 pub grid-samples : (s : Shape) (xs : List ℤ) (room : ℕ) → Estimable s xs room → Samples (gridOf s) xs
 unfolding gridOf
-grid-samples s xs room ok = record { grid = grids s (ok .shape); whole = ok .whole ∙ nodes-is s; small = ok .small }
+grid-samples s xs room ok =
+    record {
+      grid = grids s (ok .shape);
+      whole = ok .whole ∙ nodes-is s;
+      small = λ i. le-trans (ok .small i) (limit-low (s .axes));
+    }
 
 -- ---- its records
 
@@ -60,4 +75,6 @@ read-back s xs p l here none =
 pub entry-limit : (s : Shape) (xs : List ℤ) (room : ℕ) → Estimable s xs room → (p : Place)
     → natAbs (tableRecords s xs p) ≤ entryLimit (orders s) (s .axes) p
 unfolding entryLimit tableRecords samplesField
-entry-limit s xs room ok p = limits sampleLimit (orders s) (s .axes) (count s) (samplesField s xs) (λ q. ok .small _) p
+entry-limit s xs room ok p =
+    le-trans (limits (estimateLimit (s .axes)) (orders s) (s .axes) (count s) (samplesField s xs) (λ q. ok .small _) p)
+    (mul-le-mul-right (2 ^ totalOrder (orders s) (s .axes) p) (limit-doubled (s .axes)))

@@ -1,6 +1,5 @@
 -- An entry of the records by its node and its orders: it is what the passes along z, y and x give. An unused axis is one with a single
--- order,
--- and the order of axes does not matter.
+-- order, and the order of axes does not matter.
 use mathlib.Core.Path.{_≡_, refl, sym, ap, subst, _∙_, fun-ext}
 use mathlib.Core.Logic.{⊎-elim}
 use mathlib.Core.List.{List, [], _∷_}
@@ -24,10 +23,10 @@ use Rattle.lattice.proofs.DigitsLaws.{digit-below, span-power, digit-beyond, di
 use Rattle.lattice.proofs.ShapeLaws.{orders-range, pow-one, pow-two, pow-three, entries-pos}
 use Rattle.lattice.proofs.RecordsLaws.{node-is}
 use Rattle.estimate.specs.declared.Grid.{Grid}
-use Rattle.estimate.specs.Estimate.{left, right, byOrder, estimate, records, tableRecords}
-use Rattle.estimate.specs.Passes.{grouped, ordersOn, gridOf, OrderCount, rowStart, rowZ, rowYZ, rowOf, recordSize}
+use Rattle.estimate.specs.Estimate.{byOrder, estimate, records, tableRecords}
+use Rattle.estimate.specs.Passes.{grouped, ordersAt, ordersOn, gridOf, OrderCount, rowStart, rowZ, rowYZ, rowOf, recordSize}
 use Rattle.estimate.proofs.EstimateLaws.{estimate-linear}
-use Rattle.estimate.proofs.PassesLaws.{group-of, member-of, lower-at, upper-at}
+use Rattle.estimate.proofs.PassesLaws.{group-of, member-of}
 
 -- ---- a single order
 
@@ -88,16 +87,16 @@ module _ (s : Shape) where
 
 module _ (s : Shape) (xs : List ℤ) where
   sample : ℕ → ℕ → ℕ → ℤ
-  sample x y z = at xs (x + count s 0 * (y + count s 1 * z))
+  sample x y z = at xs (count s 0 * (y + count s 1 * z) + x)
 
   along-z : ℕ → ℕ → ℕ → ℕ → ℤ
-  along-z c x y z = byOrder c (sample x y (left z)) (sample x y z) (sample x y (right (count s 2) z))
+  along-z c x y z = ordersAt (count s 2) (λ v. sample x y v) z c
 
   along-y : ℕ → ℕ → ℕ → ℕ → ℕ → ℤ
-  along-y b c x y z = byOrder b (along-z c x (left y) z) (along-z c x y z) (along-z c x (right (count s 1) y) z)
+  along-y b c x y z = ordersAt (count s 1) (λ v. along-z c x v z) y b
 
   along-x : ℕ → ℕ → ℕ → ℕ → ℕ → ℕ → ℤ
-  along-x a b c x y z = byOrder a (along-y b c (left x) y z) (along-y b c x y z) (along-y b c (right (count s 0) x) y z)
+  along-x a b c x y z = ordersAt (count s 0) (λ v. along-y b c v y z) x a
 
   -- the definition
   defined : s .axes ≤ 3 → (p : Place)
@@ -106,7 +105,8 @@ module _ (s : Shape) (xs : List ℤ) where
   unfolding samplesField estimate put pick sample along-z along-y along-x
   defined l p =
       ap (λ (f : Field). f p) (x-last s l xs)
-      ∙ ap (λ (g : Field). along 0 (rules s 0) (along 1 (rules s 1) (along 2 (rules s 2) g)) p) (fun-ext (λ q. ap (at xs) (node-is s q)))
+      ∙ ap (λ (g : Field). along 0 (rules s 0) (along 1 (rules s 1) (along 2 (rules s 2) g)) p)
+      (fun-ext (λ q. ap (at xs) (node-is s q ∙ add-comm (q 0) (count s 0 * (q 1 + count s 1 * q 2)))))
 
   -- the passes
   abbrev g : Grid
@@ -115,40 +115,27 @@ module _ (s : Shape) (xs : List ℤ) where
   module _ (some : (a : ℕ) → 0 < ordersOn s a) where
     passed-z : (x y z c : ℕ) → c < g .mz → rowZ g xs y z (g .mz * x + c) ≡ along-z c x y z
     unfolding rowZ grouped rowStart gridOf along-z sample
-    passed-z x y z c l = rw (
-      high-digit (ordersOn s 2) x c l,
-      low-digit (ordersOn s 2) x c l,
-      add-comm (count s 0 * (y + count s 1 * z)) x,
-      add-comm (count s 0 * (y + count s 1 * left z)) x,
-      add-comm (count s 0 * (y + count s 1 * right (count s 2) z)) x,
-    )
+    passed-z x y z c l = rw (high-digit (ordersOn s 2) x c l, low-digit (ordersOn s 2) x c l)
 
     passed-y : (x y z h : ℕ) → h < g .my * g .mz → rowYZ g xs y z (g .my * g .mz * x + h) ≡ along-y (h % g .my) (h / g .my) x y z
     unfolding rowYZ grouped gridOf along-y
     passed-y x y z h l =
         let k : h / ordersOn s 1 < ordersOn s 2 = high-below (some 1) l in
-        rw (
-          group-of (some 1) (ordersOn s 2) x h,
-          member-of (ordersOn s 1) (ordersOn s 2) x h,
-          passed-z x (left y) z (h / ordersOn s 1) k,
-          passed-z x y z (h / ordersOn s 1) k,
-          passed-z x (right (count s 1) y) z (h / ordersOn s 1) k,
-        )
+        rw (group-of (some 1) (ordersOn s 2) x h, member-of (ordersOn s 1) (ordersOn s 2) x h)
+        (ap (λ (f : ℕ → ℤ). ordersAt (count s 1) f y (h % ordersOn s 1)) (fun-ext (λ v. passed-z x v z (h / ordersOn s 1) k)))
 
-    passed : (x y z e : ℕ) → x < g .cx → e < recordSize g
+    passed : (x y z e : ℕ) → e < recordSize g
         → rowOf g (rowYZ g xs y z) (recordSize g * x + e) ≡ along-x (e % g .mx) (e / g .mx % g .my) (e / g .mx / g .my) x y z
     unfolding rowOf grouped gridOf along-x
-    passed x y z e i l =
+    passed x y z e l =
         let k : e / ordersOn s 0 < ordersOn s 1 * ordersOn s 2 = high-below (some 0) l in
         rw (
           group-of (some 0) (ordersOn s 1 * ordersOn s 2) x e,
           member-of (ordersOn s 0) (ordersOn s 1 * ordersOn s 2) x e,
-          lower-at (ordersOn s 1 * ordersOn s 2) x (e / ordersOn s 0) k,
-          upper-at (ordersOn s 1 * ordersOn s 2) x (e / ordersOn s 0) k (count s 0) i,
-          passed-y (left x) y z (e / ordersOn s 0) k,
-          passed-y x y z (e / ordersOn s 0) k,
-          passed-y (right (count s 0) x) y z (e / ordersOn s 0) k,
+          high-digit (ordersOn s 1 * ordersOn s 2) x (e / ordersOn s 0) k,
+          low-digit (ordersOn s 1 * ordersOn s 2) x (e / ordersOn s 0) k,
         )
+        (ap (λ (f : ℕ → ℤ). ordersAt (count s 0) f x (e % ordersOn s 0)) (fun-ext (λ v. passed-y v y z (e / ordersOn s 0) k)))
 
 -- ---- the index of an entry
 
@@ -225,5 +212,4 @@ module _ (s : Shape) (ok : Shaped s) where
         let z = place-on 2 (lit< tt) in
         defined s xs (ok .axes-high) (entryPlace s i)
         ∙ rw (x .0, y .0, z .0, x .1, y .1, z .1, mod-eq-of-lt k)
-        (sym (passed s xs orders-some (v % count s 0) (v / count s 0 % count s 1) (v / count s 0 / count s 1 % count s 2) e
-        (mod-lt v (ok .low 0 (lit< tt))) below))
+        (sym (passed s xs orders-some (v % count s 0) (v / count s 0 % count s 1) (v / count s 0 / count s 1 % count s 2) e below))

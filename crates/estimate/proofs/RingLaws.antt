@@ -14,15 +14,15 @@ use Rattle.arith.proofs.Choices.{on-pick}
 use Rattle.lattice.specs.Buffer.{at}
 use Rattle.lattice.proofs.DigitsLaws.{high-below, high-digit}
 use Rattle.estimate.specs.declared.Grid.{Grid}
-use Rattle.estimate.specs.Estimate.{left, right, NextTo}
-use Rattle.estimate.specs.Passes.{placed, since, grouped, passOf, rowStart, rowZ, rowYZ, Read, Samples, RowStands, Ring}
-use Rattle.estimate.proofs.EstimateLaws.{near-left, near-right}
+use Rattle.estimate.specs.Estimate.{NextTo}
+use Rattle.estimate.specs.Passes.{placed, since, grouped, before, behind, atBorder, passOf, rowStart, rowZ, rowYZ, Read, Samples, RowStands, Ring}
+use Rattle.estimate.proofs.EstimateLaws.{near-before, near-behind}
 use Rattle.estimate.proofs.PlacedLaws.{placed-length, placed-off, placed-at, placed-front}
-use Rattle.estimate.proofs.PassesLaws.{row-read, row-z-high, row-yz-high, row-z-size, one-pass}
+use Rattle.estimate.proofs.PassesLaws.{row-read, row-z-high, row-yz-high, row-z-size, one-order, pass-is}
 
-right-top : {count i v : ℕ} → NextTo count i v → v ≤ right count i
-unfolding right
-right-top {count} {i} {v} near =
+behind-top : {count i v : ℕ} → NextTo count i v → v ≤ behind count i
+unfolding behind
+behind-top {count} {i} {v} near =
     on-pick (λ k. v ≤ k) (ltb (suc i) count) (suc i) i (λ e. omega (arith, near .high))
     (λ e. omega (arith, near .there, ltb-false (suc i) count e))
 
@@ -45,8 +45,7 @@ module _ {g : Grid} {xs : List ℤ} (ok : Samples g xs) where
   plain e v z i l =
       record {
         inside = rw (e, one-mul (g .cx)) (row-read g xs v z ok i l .inside);
-        same = λ t h. sym (one-pass (g .mz) e (since xs (rowStart g v (left z))) (since xs (rowStart g v z))
-            (since xs (rowStart g v (right (g .cz) z))) t);
+        same = λ t h. sym (one-order (g .mz) e (g .cz) (λ k. since xs (rowStart g v k)) z t);
       }
 
   -- ---- a row is added to the ring
@@ -92,36 +91,37 @@ module _ {g : Grid} {xs : List ℤ} (ok : Samples g xs) where
   plain-three u y v z in-u in-y in-v in-z e =
       record { below = plain e u z in-u in-z; here = plain e y z in-y in-z; above = plain e v z in-v in-z }
 
-  module _ (u y v : ℕ) {z : ℕ} (low-is : u ≡ left y) (high-is : v ≡ right (g .cy) y) where
+  module _ (u y v : ℕ) {z : ℕ} (low-is : u ≡ before y) (high-is : v ≡ behind (g .cy) y) where
     -- a pass along y over the three
     pub made : {low mid high : ℕ} {b next : List ℤ} → Three g xs u y v z b low mid high → (r : List ℤ) → length r ≡ 576
-        → next ≡ placed 0 (g .my * w) (passOf (g .my) (since b low) (since b mid) (since b high)) r
+        → next ≡ placed 0 (g .my * w) (passOf (atBorder (g .cy) y) (g .my) (since b low) (since b mid) (since b high)) r
         → (t : ℕ) → t < g .my * w → at next t ≡ rowYZ g xs y z t
     unfolding rowYZ grouped
     made {low} {mid} {high} {b} s r long e t i =
         let q : t / g .my < w = high-below (ok .grid .my .0) i in
         ap (λ (b : List ℤ). at b t) e
-        ∙ placed-front (g .my * w) (passOf (g .my) (since b low) (since b mid) (since b high)) r t i
+        ∙ placed-front (g .my * w) (passOf (atBorder (g .cy) y) (g .my) (since b low) (since b mid) (since b high)) r t i
         (omega (arith, row-yz-high g (ok .grid)))
         ∙ rw (s .below .same (t / g .my) q, s .here .same (t / g .my) q, s .above .same (t / g .my) q, low-is, high-is)
+        (pass-is (g .my) (g .cy) y (ok .grid .y-used) (λ v. rowZ g xs v z) t)
 
     -- in the ring they stand once the upper one is added
     module _ (in-y : y < g .cy) (some : g .mz ≡ 1 → ⊥) {b next : List ℤ} (long : length b ≡ 576) (ring : Ring g xs y z b)
         (e : next ≡ placed (slot v) w (rowZ g xs v z) b) where
       stand : (i : ℕ) → NextTo (g .cy) y i → RowStands g xs i z next (slot i)
       stand i near =
-          let h = rw (← high-is) at (near-right (g .cy) y in-y) in
+          let h = rw (← high-is) at (near-behind (g .cy) y in-y) in
           ⊎-elim (λ (d : i ≡ v). rw d (added v z b next long e))
           (λ (d : i < v). kept v z b next long e i d (omega (arith, h .high, near .low))
           (ring some i (near .low) (omega (arith, h .high)) (near .there)))
-          (eq-or-lt-of-le (rw high-is (right-top near)))
+          (eq-or-lt-of-le (rw high-is (behind-top near)))
 
       pub ring-three : Three g xs u y v z next (slot u) (slot y) (slot v)
       ring-three =
           record {
-            below = stand u (rw low-is (near-left (g .cy) y in-y));
+            below = stand u (rw low-is (near-before (g .cy) y in-y));
             here = stand y (record { low = omega arith; high = omega arith; there = in-y });
-            above = stand v (rw high-is (near-right (g .cy) y in-y));
+            above = stand v (rw high-is (near-behind (g .cy) y in-y));
           }
 
       pub ring-next : Ring g xs (y + 1) z next

@@ -1,8 +1,9 @@
 -- The records of a row depend on the numbers of that row only; plane after plane, row after row, they are the records of the definition.
 use mathlib.Core.Path.{_≡_, sym, ap, _∙_}
 use mathlib.Core.List.{List}
-use Prim.Native.Nat.{ℕ, _+_, _*_, _/_, _%_, _<_}
-use native.Mathlib.Nat.{mul-le-mul, mul-le-mul-left, mod-lt, div-add-mod, mod-eq-of-lt, div-eq-of-lt, lt-of-le-of-lt, div-div-eq-div-mul}
+use Prim.Native.Nat.{ℕ, _+_, _*_, _/_, _%_, _≤_, _<_}
+use native.Mathlib.Nat.{mul-le-mul, mul-le-mul-left, mod-lt, div-add-mod, mod-eq-of-lt, div-eq-of-lt, div-div-eq-div-mul}
+use native.Mathlib.Decide.{decLt}
 use native.Mathlib.Omega.{arith}
 use lib.Dec.{lit<}
 use lib.IntN.{ℤ}
@@ -11,12 +12,13 @@ use Rattle.lattice.specs.Shape.{count, size, Shaped}
 use Rattle.lattice.specs.Buffer.{at}
 use Rattle.lattice.specs.Records.{entryPlace}
 use Rattle.lattice.proofs.ShapeLaws.{nodes-is}
-use Rattle.lattice.proofs.DigitsLaws.{high-below, high-digit, low-digit}
+use Rattle.lattice.proofs.DigitsLaws.{group-room, high-below, high-digit, low-digit}
 use Rattle.estimate.specs.declared.Grid.{Grid}
-use Rattle.estimate.specs.Estimate.{left, right, tableRecords}
-use Rattle.estimate.specs.Passes.{since, grouped, gridOf, rowStart, rowZ, rowYZ, lower, upper, nodeSize, recordSize, rowSize, rowOf, planeSize, planeOf, planesOf, Grids}
-use Rattle.estimate.proofs.PassesLaws.{one-pass, lower-low, upper-in}
-use Rattle.estimate.proofs.EntryLaws.{order-count, record-size, entry-is}
+use Rattle.estimate.specs.Estimate.{tableRecords}
+use Rattle.estimate.specs.Passes.{since, grouped, ordersOn, gridOf, rowStart, rowZ, rowYZ, nodeSize, recordSize, rowSize, rowOf, planeSize, planeOf, planesOf, Grids}
+use Rattle.estimate.proofs.EstimateLaws.{orders-same}
+use Rattle.estimate.proofs.PassesLaws.{one-order}
+use Rattle.estimate.proofs.EntryLaws.{orders-unused, order-count, record-size, entry-is}
 
 -- ---- one row
 
@@ -24,23 +26,19 @@ pub row-same : (g : Grid) → Grids g → (row other : ℕ → ℤ) → ((t : �
     → t < rowSize g → rowOf g row t ≡ rowOf g other t
 unfolding rowOf grouped
 row-same g ok row other same t l =
-    let n : ℕ = nodeSize g * g .cx in
     let q : ℕ = t / g .mx in
-    let in-q : q < n = high-below (ok .mx .0) (omega arith) in
-    let each : (i : ℕ) → i < n → row i ≡ other i = λ i h. same i (omega arith) in
-    rw (
-      each (lower (nodeSize g) q) (lt-of-le-of-lt (lower-low (nodeSize g) q) in-q),
-      each q in-q,
-      each (upper (nodeSize g) n q) (upper-in (nodeSize g) q n in-q),
-    )
+    let in-q : q < nodeSize g * g .cx = high-below (ok .mx .0) (omega arith) in
+    let some : 0 < nodeSize g = mul-le-mul (ok .my .0) (ok .mz .0) in
+    orders-same (g .cx) (λ v. row (nodeSize g * v + q % nodeSize g)) (λ v. other (nodeSize g * v + q % nodeSize g)) (q / nodeSize g)
+    (t % g .mx) (ok .x-low) (high-below some in-q)
+    (λ v l. same _ (omega (arith, group-room (nodeSize g) v (g .cx) l, mod-lt q some)))
 
 -- one axis: the only row is the samples
 module _ (g : Grid) (xs : List ℤ) (my : g .my ≡ 1) (mz : g .mz ≡ 1) where
   line-row : (t : ℕ) → rowYZ g xs 0 0 t ≡ at xs t
   unfolding rowYZ rowZ rowStart
   line-row t =
-      one-pass (g .my) my (rowZ g xs (left 0) 0) (rowZ g xs 0 0) (rowZ g xs (right (g .cy) 0) 0) t
-      ∙ one-pass (g .mz) mz (since xs (rowStart g 0 (left 0))) (since xs (rowStart g 0 0)) (since xs (rowStart g 0 (right (g .cz) 0))) t
+      one-order (g .my) my (g .cy) (λ v. rowZ g xs v 0) 0 t ∙ one-order (g .mz) mz (g .cz) (λ v. since xs (rowStart g 0 v)) 0 t
       ∙ ap (at xs) (omega arith)
 
   pub line-rows : Grids g → (t : ℕ) → t < rowSize g → rowOf g (at xs) t ≡ planesOf g xs t
@@ -61,10 +59,19 @@ grids s ok =
       x-high = ok .high 0 (lit< tt);
       y-high = ok .high 1 (lit< tt);
       z-high = ok .high 2 (lit< tt);
+      y-used = wide 1 (lit< tt);
+      z-used = wide 2 (lit< tt);
       mx = order-count s 0;
       my = order-count s 1;
       mz = order-count s 2;
     }
+  where
+    wide : (a : ℕ) → a < 3 → (ordersOn s a ≡ 1 → ⊥) → 2 ≤ count s a
+    wide a l k = go (decLt a (s .axes))
+      where
+        go : Dec (a < s .axes) → 2 ≤ count s a
+        go (yes h) = ok .used a h
+        go (no h) = absurd (k (orders-unused s a (omega (arith, h))))
 
 module _ (s : Shape) (ok : Shaped s) (xs : List ℤ) where
   abbrev g : Grid

@@ -1,6 +1,6 @@
 -- Estimates: all records from the samples, and the call that writes them.
 use mathlib.Core.Path.{_≡_}
-use Prim.Native.Nat.{ℕ, zero, suc, _+_, _/_, _%_, _≤_, _<_}
+use Prim.Native.Nat.{ℕ, zero, suc, _+_, _/_, _%_, _^_, _≤_, _<_}
 use mathlib.Core.List.{List}
 use lib.Dec.{leb, ltb, eqb}
 use lib.IntN.{ℤ, pos, _+ℤ_, _-ℤ_, _*ℤ_, natAbs}
@@ -13,13 +13,13 @@ use Rattle.lattice.specs.Shape.{count, orders, nodes, size, shapeOutcome, Shape
 use Rattle.lattice.specs.Axes.{Field, Rule, sweep, axes}
 use Rattle.lattice.specs.Records.{samplesField, entryPlace, sampleLimit, limitOutcome}
 
--- a neighbour missing at a border is taken equal to f: it is the node itself
-unfoldable pub left : ℕ → ℕ
-left zero = zero
-left (suc i) = i
+-- the neighbours l and r of node i along one axis; one that is missing at a border continues the line: l = 2f − r, r = 2f − l
+unfoldable pub left : (ℕ → ℤ) → ℕ → ℤ
+left x zero = pos 2 *ℤ x 0 -ℤ x 1
+left x (suc i) = x i
 
-unfoldable pub right : ℕ → ℕ → ℕ
-right count i = pick (ltb (suc i) count) (suc i) i
+unfoldable pub right : ℕ → (ℕ → ℤ) → ℕ → ℤ
+right count x i = pick (ltb (suc i) count) (x (suc i)) (pos 2 *ℤ x i -ℤ left x i)
 
 -- order 0 is the value, order 1 is D = r − l, order 2 is S = l − 2f + r
 unfoldable pub byOrder : ℕ → ℤ → ℤ → ℤ → ℤ
@@ -29,7 +29,7 @@ byOrder (suc (suc o)) l f r = l -ℤ pos 2 *ℤ f +ℤ r
 
 -- along one axis: order o at node i stands at place m·i + o
 unfoldable pub estimate : ℕ → ℕ → Rule
-estimate m count x j = byOrder (j % m) (x (left (j / m))) (x (j / m)) (x (right count (j / m)))
+estimate m count x j = byOrder (j % m) (left x (j / m)) (x (j / m)) (right count x (j / m))
 
 -- all records come from the samples this way, axis after axis
 unfoldable pub records : ℕ → ℕ → (ℕ → ℕ) → Field → Field
@@ -50,11 +50,16 @@ tableRecords s xs = records (orders s) (s .axes) (count s) (samplesField s xs)
 unfoldable pub recordsOf : Shape → List ℤ → List ℤ
 recordsOf s xs = tabulate (size s) (λ i. tableRecords s xs (entryPlace s i))
 
--- 1, 2, 3, then 4, 9, 5
+-- samples given for estimation lie within ±32768/2^n
+unfoldable pub estimateLimit : ℕ → ℕ
+estimateLimit n = sampleLimit / 2 ^ n
+
+-- 1, 2, 3, then 4, 9, 19
 unfoldable pub estimateOutcome : Shape → List ℤ → ℕ → Check
 estimateOutcome s xs room =
     first (shapeOutcome s)
-    (first (refuseUnless (eqb (length xs) (nodes s)) 4 0) (first (refuseUnless (leb (size s) room) 9 0) (limitOutcome 5 sampleLimit xs)))
+    (first (refuseUnless (eqb (length xs) (nodes s)) 4 0)
+    (first (refuseUnless (leb (size s) room) 9 0) (limitOutcome 19 (estimateLimit (s .axes)) xs)))
 
 -- what the records slice holds afterwards
 unfoldable pub estimateWrites : Shape → List ℤ → List ℤ → List ℤ
@@ -65,5 +70,5 @@ pub record Estimable (s : Shape) (xs : List ℤ) (room : ℕ) : Type 0 where
   pub passed : shapeOutcome s ≡ done tt
   pub shape : Shaped s
   pub whole : length xs ≡ nodes s
-  pub small : (i : ℕ) → natAbs (at xs i) ≤ sampleLimit
+  pub small : (i : ℕ) → natAbs (at xs i) ≤ estimateLimit (s .axes)
   pub fits : size s ≤ room

@@ -1,12 +1,12 @@
--- What the inner functions write. A pass takes three rows of numbers, at the lower neighbours, at the nodes and at the upper neighbours,
--- and gives the
--- orders of each; the order is the fastest digit of the index. The axes are worked off in the order z, y, x.
+-- What the inner functions write. A pass along an axis takes three rows of numbers, at the nodes before, at the nodes and at the nodes
+-- behind, and gives the orders of each; the order is the fastest digit of the index. The axes are worked off in the order z, y, x.
 -- The promises of `estimate` mention none of this.
 use mathlib.Core.Path.{_≡_}
 use Prim.Native.Nat.{ℕ, zero, suc, _+_, _-_, _*_, _/_, _%_, _≤_, _<_}
+use mathlib.Core.Bool.{Bool, true}
 use mathlib.Core.List.{List}
-use lib.Dec.{ltb}
-use lib.IntN.{ℤ, natAbs}
+use lib.Dec.{leb, ltb}
+use lib.IntN.{ℤ, _+ℤ_, _-ℤ_, natAbs}
 use lib.ListN.{length, set}
 use Rattle.arith.specs.Choice.{pick}
 use Rattle.lattice.specs.declared.Shape.{Shape}
@@ -29,9 +29,37 @@ since xs k t = at xs (k + t)
 unfoldable pub grouped : ℕ → (ℕ → ℕ → ℤ) → ℕ → ℤ
 grouped m f t = f (t / m) (t % m)
 
+-- the nodes before and behind node i of an axis; at a border the node itself stands for the missing one
+unfoldable pub before : ℕ → ℕ
+before zero = zero
+before (suc i) = i
+
+unfoldable pub behind : ℕ → ℕ → ℕ
+behind count i = pick (ltb (suc i) count) (suc i) i
+
+-- the first or the last node
+unfoldable pub atBorder : ℕ → ℕ → Bool
+atBorder count zero = true
+atBorder count (suc i) = leb count (suc (suc i))
+
+-- the neighbours l and r of f, from the numbers at the nodes before and behind: at a border the line goes on beyond f
+unfoldable pub lower : Bool → ℤ → ℤ → ℤ → ℤ
+lower border l f r = pick border (f -ℤ (r -ℤ l)) l
+
+unfoldable pub upper : Bool → ℤ → ℤ → ℤ → ℤ
+upper border l f r = pick border (f +ℤ (r -ℤ l)) r
+
 -- one pass: the m orders of each number
-abbrev pub passOf : ℕ → (ℕ → ℤ) → (ℕ → ℤ) → (ℕ → ℤ) → ℕ → ℤ
-passOf m l f r = grouped m (λ i o. byOrder o (l i) (f i) (r i))
+abbrev pub passOf : Bool → ℕ → (ℕ → ℤ) → (ℕ → ℤ) → (ℕ → ℤ) → ℕ → ℤ
+passOf border m l f r = grouped m (λ i o. byOrder o (lower border (l i) (f i) (r i)) (f i) (upper border (l i) (f i) (r i)))
+
+-- the orders of node i of an axis
+abbrev pub ordersAt : ℕ → (ℕ → ℤ) → ℕ → ℕ → ℤ
+ordersAt count x i o = byOrder o (left x i) (x i) (right count x i)
+
+-- the orders of row i of an axis of rows
+abbrev pub ordersOfRow : ℕ → ℕ → (ℕ → ℕ → ℤ) → ℕ → ℕ → ℤ
+ordersOfRow m count rows i = grouped m (λ t. ordersAt count (λ v. rows v t) i)
 
 -- the numbers that a record holds along axis a: 1 along an unused one
 unfoldable pub ordersOn : Shape → ℕ → ℕ
@@ -46,26 +74,19 @@ rowStart g y z = g .cx * (y + g .cy * z)
 
 -- row (y, z), worked off along z
 unfoldable pub rowZ : Grid → List ℤ → ℕ → ℕ → ℕ → ℤ
-rowZ g xs y z = passOf (g .mz) (since xs (rowStart g y (left z))) (since xs (rowStart g y z)) (since xs (rowStart g y (right (g .cz) z)))
+rowZ g xs y z = ordersOfRow (g .mz) (g .cz) (λ v. since xs (rowStart g y v)) z
 
 -- and along y
 unfoldable pub rowYZ : Grid → List ℤ → ℕ → ℕ → ℕ → ℤ
-rowYZ g xs y z = passOf (g .my) (rowZ g xs (left y) z) (rowZ g xs y z) (rowZ g xs (right (g .cy) y) z)
-
--- the neighbours of number q of a row of n numbers, k at each node
-unfoldable pub lower : ℕ → ℕ → ℕ
-lower k q = pick (ltb q k) q (q - k)
-
-unfoldable pub upper : ℕ → ℕ → ℕ → ℕ
-upper k n q = pick (ltb (q + k) n) (q + k) q
+rowYZ g xs y z = ordersOfRow (g .my) (g .cy) (λ v. rowZ g xs v z) y
 
 -- the numbers of one node of a row
 abbrev pub nodeSize : Grid → ℕ
 nodeSize g = g .my * g .mz
 
--- the records of a row: a pass along x
+-- the records of a row: its numbers, worked off along x
 unfoldable pub rowOf : Grid → (ℕ → ℤ) → ℕ → ℤ
-rowOf g row = passOf (g .mx) (λ q. row (lower (nodeSize g) q)) row (λ q. row (upper (nodeSize g) (nodeSize g * g .cx) q))
+rowOf g row = grouped (g .mx) (λ q. ordersAt (g .cx) (λ v. row (nodeSize g * v + q % nodeSize g)) (q / nodeSize g))
 
 -- the entries of one record, of the records of one row, and of one plane
 abbrev pub recordSize : Grid → ℕ
@@ -100,13 +121,15 @@ pub record Read (xs : List ℤ) (low count : ℕ) : Type 0 where
   pub inside : low + count ≤ length xs
   pub small : (t : ℕ) → t < count → natAbs (since xs low t) ≤ passLimit
 
--- the ranges of a grid
+-- the ranges of a grid; an axis with more orders than the value has two nodes
 pub record Grids (g : Grid) : Type 0 where
   pub x-low : 2 ≤ g .cx
   pub y-low : 1 ≤ g .cy
   pub x-high : g .cx ≤ 64
   pub y-high : g .cy ≤ 64
   pub z-high : g .cz ≤ 64
+  pub y-used : (g .my ≡ 1 → ⊥) → 2 ≤ g .cy
+  pub z-used : (g .mz ≡ 1 → ⊥) → 2 ≤ g .cz
   pub mx : OrderCount (g .mx)
   pub my : OrderCount (g .my)
   pub mz : OrderCount (g .mz)

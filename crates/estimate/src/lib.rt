@@ -1,12 +1,14 @@
 // Estimation: all records of a table from its samples.
 ghost use mathlib.Core.Path.{_≡_};
+ghost use mathlib.Core.Bool.{true, false};
 ghost use Prim.Native.Nat.{ℕ, _+_, _*_, _<_, _≤_};
-ghost use lib.IntN.{natAbs};
+ghost use lib.IntN.{natAbs, _+ℤ_, _-ℤ_};
 ghost use lib.ListN.{length};
 ghost use Rattle.lattice.specs.Answers.{outcomeOf};
 ghost use Rattle.lattice.specs.Buffer.{at, overwrite};
-ghost use Rattle.estimate.specs.Estimate.{left, right, byOrder, recordsOf, estimateOutcome, estimateWrites, Estimable};
-ghost use Rattle.estimate.specs.Passes.{passLimit, placed, since, passOf, ordersOn, gridOf, rowStart, rowZ, rowYZ, rowSize, rowOf, planeSize, planeOf, planesOf, OrderCount, Read, Grids, Samples, Ring};
+ghost use Rattle.lattice.specs.Records.{limitOutcome};
+ghost use Rattle.estimate.specs.Estimate.{byOrder, recordsOf, estimateLimit, estimateOutcome, estimateWrites, Estimable};
+ghost use Rattle.estimate.specs.Passes.{passLimit, placed, since, before, behind, atBorder, passOf, ordersOn, gridOf, rowStart, rowZ, rowYZ, rowSize, rowOf, planeSize, planeOf, planesOf, OrderCount, Read, Grids, Samples, Ring};
 use lattice::Check;
 use lattice::Shape;
 
@@ -20,19 +22,27 @@ struct Grid {
     mz: usize,
 }
 
-// The lower neighbour of node i along an axis: the node itself where there is none.
-fn left_of(i: usize) -> usize
-    ensures { λ r. ⌜ (r ≡ left i) × (r ≤ i) ⌝ }
+// The node before node i of an axis: the node itself where there is none.
+fn node_before(i: usize) -> usize
+    ensures { λ r. ⌜ (r ≡ before i) × (r ≤ i) ⌝ }
 {
     if i == 0 { i } else { i - 1 }
 }
 
-// The upper neighbour.
-fn right_of(count: usize, i: usize) -> usize
+// The node behind it.
+fn node_behind(count: usize, i: usize) -> usize
     requires { ⌜ i < count ⌝ }
-    ensures { λ r. ⌜ (r ≡ right count i) × (r < count) ⌝ }
+    ensures { λ r. ⌜ (r ≡ behind count i) × (r < count) ⌝ }
 {
     if i + 1 < count { i + 1 } else { i }
+}
+
+// Whether node i is the first or the last.
+fn at_border(count: usize, i: usize) -> bool
+    requires { ⌜ i < count ⌝ }
+    ensures { λ r. ⌜ r ≡ atBorder count i ⌝ }
+{
+    i == 0 || count <= i + 1
 }
 
 // The numbers that a record holds along one axis.
@@ -74,8 +84,23 @@ fn put_orders(m: usize, l: i32, f: i32, r: i32, out: &mut [i32], k: usize)
     }
 }
 
+// The same on a straight line, which rises by d from l to f and from f to r: D = 2d, S = 0.
+fn put_straight(m: usize, f: i32, d: i32, out: &mut [i32], k: usize)
+    requires { ⌜ OrderCount m × (k + m ≤ length (now out)) ⌝ }
+    requires { ⌜ (natAbs f ≤ passLimit) × (natAbs d ≤ 2 * passLimit) ⌝ }
+    ensures { λ _. ⌜ now (out .exit) ≡ placed k m (λ o. byOrder o (f -ℤ d) f (f +ℤ d)) (now (out .entry)) ⌝ }
+{
+    out[k] = f;
+    if 1 < m {
+        out[k + 1] = 2 * d;
+        if 2 < m {
+            out[k + 2] = 0;
+        }
+    }
+}
+
 // The orders along an axis of `count` numbers, which stand from `mid` on, their neighbours from `low` and from `high` on.
-fn pass(
+fn inner_pass(
     m: usize,
     xs: &[i32],
     low: usize,
@@ -87,7 +112,7 @@ fn pass(
 )
     requires { ⌜ OrderCount m × (k + m * count ≤ length (now out)) ⌝ }
     requires { ⌜ Read (now xs) low count × Read (now xs) mid count × Read (now xs) high count ⌝ }
-    ensures { λ _. ⌜ now (out .exit) ≡ placed k (m * count) (passOf m (since (now (xs .entry)) low) (since (now (xs .entry)) mid) (since (now (xs .entry)) high)) (now (out .entry)) ⌝ }
+    ensures { λ _. ⌜ now (out .exit) ≡ placed k (m * count) (passOf false m (since (now (xs .entry)) low) (since (now (xs .entry)) mid) (since (now (xs .entry)) high)) (now (out .entry)) ⌝ }
 {
     let mut t: usize = 0;
     let mut p = k;
@@ -95,6 +120,59 @@ fn pass(
         put_orders(m, xs[low + t], xs[mid + t], xs[high + t], out, p);
         p += m;
         t += 1;
+    }
+}
+
+// The same at a border, where the numbers themselves stand for the missing neighbours: the line goes on beyond them.
+fn border_pass(
+    m: usize,
+    xs: &[i32],
+    low: usize,
+    mid: usize,
+    high: usize,
+    count: usize,
+    out: &mut [i32],
+    k: usize,
+)
+    requires { ⌜ OrderCount m × (k + m * count ≤ length (now out)) ⌝ }
+    requires { ⌜ Read (now xs) low count × Read (now xs) mid count × Read (now xs) high count ⌝ }
+    ensures { λ _. ⌜ now (out .exit) ≡ placed k (m * count) (passOf true m (since (now (xs .entry)) low) (since (now (xs .entry)) mid) (since (now (xs .entry)) high)) (now (out .entry)) ⌝ }
+{
+    let mut t: usize = 0;
+    let mut p = k;
+    while t < count {
+        let f = xs[mid + t];
+        let d = xs[high + t] - xs[low + t];
+        put_straight(m, f, d, out, p);
+        p += m;
+        t += 1;
+    }
+}
+
+// One of the two; between borders, where most nodes are, with the number of orders as a literal.
+fn pass(
+    border: bool,
+    m: usize,
+    xs: &[i32],
+    low: usize,
+    mid: usize,
+    high: usize,
+    count: usize,
+    out: &mut [i32],
+    k: usize,
+)
+    requires { ⌜ OrderCount m × (k + m * count ≤ length (now out)) ⌝ }
+    requires { ⌜ Read (now xs) low count × Read (now xs) mid count × Read (now xs) high count ⌝ }
+    ensures { λ _. ⌜ now (out .exit) ≡ placed k (m * count) (passOf border m (since (now (xs .entry)) low) (since (now (xs .entry)) mid) (since (now (xs .entry)) high)) (now (out .entry)) ⌝ }
+{
+    if border {
+        border_pass(m, xs, low, mid, high, count, out, k)
+    } else if m == 2 {
+        inner_pass(2, xs, low, mid, high, count, out, k)
+    } else if m == 3 {
+        inner_pass(3, xs, low, mid, high, count, out, k)
+    } else {
+        inner_pass(1, xs, low, mid, high, count, out, k)
     }
 }
 
@@ -112,10 +190,10 @@ fn row_z(g: Grid, xs: &[i32], y: usize, z: usize, out: &mut [i32], k: usize)
     requires { ⌜ (y < g .cy) × (z < g .cz) × (k + g .mz * g .cx ≤ length (now out)) ⌝ }
     ensures { λ _. ⌜ now (out .exit) ≡ placed k (g .mz * g .cx) (rowZ g (now (xs .entry)) y z) (now (out .entry)) ⌝ }
 {
-    let low = row_start(g, y, left_of(z));
+    let low = row_start(g, y, node_before(z));
     let mid = row_start(g, y, z);
-    let high = row_start(g, y, right_of(g.cz, z));
-    pass(g.mz, xs, low, mid, high, g.cx, out, k)
+    let high = row_start(g, y, node_behind(g.cz, z));
+    pass(at_border(g.cz, z), g.mz, xs, low, mid, high, g.cx, out, k)
 }
 
 // One row, worked off along z and y. On three axes it is made of rows of the ring, to which the row above it is added; on two, of the samples.
@@ -125,18 +203,29 @@ fn row_yz(g: Grid, xs: &[i32], y: usize, z: usize, ring: &mut [i32], row: &mut [
     ensures { λ _. ⌜ Ring g (now (xs .entry)) (y + 1) z (now (ring .exit)) ⌝ }
     ensures { λ _. ⌜ ((t : ℕ) → t < g .my * (g .mz * g .cx) → at (now (row .exit)) t ≡ rowYZ g (now (xs .entry)) y z t) ⌝ }
 {
-    let below = left_of(y);
-    let above = right_of(g.cy, y);
+    let below = node_before(y);
+    let above = node_behind(g.cy, y);
+    let border = at_border(g.cy, y);
     let w = g.mz * g.cx;
     if g.mz == 1 {
         let low = row_start(g, below, z);
         let mid = row_start(g, y, z);
         let high = row_start(g, above, z);
-        pass(g.my, xs, low, mid, high, w, row, 0)
+        pass(border, g.my, xs, low, mid, high, w, row, 0)
     } else {
         let high = w * (above % 3);
         row_z(g, xs, above, z, ring, high);
-        pass(g.my, ring, w * (below % 3), w * (y % 3), high, w, row, 0)
+        pass(
+            border,
+            g.my,
+            ring,
+            w * (below % 3),
+            w * (y % 3),
+            high,
+            w,
+            row,
+            0,
+        )
     }
 }
 
@@ -151,10 +240,9 @@ fn fill_row(g: Grid, row: &[i32], out: &mut [i32], k: usize)
     let last = inner + size;
     let p = k + g.mx * size;
     let q = p + g.mx * inner;
-    // The first node's lower neighbour and the last one's upper neighbour are the nodes themselves.
-    pass(g.mx, row, 0, 0, size, size, out, k);
-    pass(g.mx, row, 0, size, 2 * size, inner, out, p);
-    pass(g.mx, row, inner, last, last, size, out, q)
+    pass(true, g.mx, row, 0, 0, size, size, out, k);
+    pass(false, g.mx, row, 0, size, 2 * size, inner, out, p);
+    pass(true, g.mx, row, inner, last, last, size, out, q)
 }
 
 // The records of one plane, row after row. Row v, worked off along z, stands in the ring's slot v % 3.
@@ -204,8 +292,42 @@ fn fill_records(s: Shape, samples: &[i32], records: &mut [i32])
     }
 }
 
-// Every refusal of estimation: 1, 2, 3, then 4, 9, 5. No sample is read before the lengths are right.
-fn check_estimate(s: Shape, samples: &[i32], room: usize) -> Check
+// Samples given for estimation lie within this limit.
+fn estimate_limit(n: u32) -> u64
+    requires { ⌜ n ≤ 3 ⌝ }
+    ensures { λ r. ⌜ r ≡ estimateLimit n ⌝ }
+{
+    lattice::SAMPLE_LIMIT >> n
+}
+
+// Whether no number is beyond the limit.
+fn all_within(xs: &[i32], limit: u64) -> bool
+    ensures { λ r. ⌜ (r ≡ true → (i : ℕ) → i < length (now (xs .entry)) → natAbs (at (now (xs .entry)) i) ≤ limit) ⌝ }
+{
+    let mut within = true;
+    let mut i = 0;
+    while i < xs.len() {
+        let x = xs[i] as i64;
+        if limit < arith::magnitude(x) {
+            within = false;
+        }
+        i += 1;
+    }
+    within
+}
+
+// Refusal 19, at the first sample beyond the limit.
+fn check_samples(xs: &[i32], limit: u64) -> Check
+    ensures { λ r. ⌜ outcomeOf r ≡ limitOutcome 19 limit (now (xs .entry)) ⌝ }
+{
+    if all_within(xs, limit) {
+        return Check::Done;
+    }
+    lattice::check_limit(xs, limit, 19)
+}
+
+// Every refusal of estimation: 1, 2, 3, then 4, 9, 19. No sample is read before the lengths are right.
+pub fn check_estimate(s: Shape, samples: &[i32], room: usize) -> Check
     ensures { λ r. ⌜ outcomeOf r ≡ estimateOutcome s (now (samples .entry)) room ⌝ }
 {
     let shape = lattice::check_shape(s);
@@ -223,7 +345,7 @@ fn check_estimate(s: Shape, samples: &[i32], room: usize) -> Check
     if let Check::Refused(_) = roomy {
         return roomy;
     }
-    lattice::check_limit(samples, lattice::SAMPLE_LIMIT, 5)
+    check_samples(samples, estimate_limit(s.axes))
 }
 
 // Estimation: all records of a table from its samples.

@@ -16,7 +16,7 @@ use Rattle.table_file.specs.File.{Header, samplesIn, readOutcome}
 use Rattle.table_file.proofs.ReadLaws.{samples-length}
 use Rattle.table_file.proofs.TakenLaws.{taken}
 use Rattle.text.specs.Lines.{refusedLine}
-use Rattle.report.specs.Report.{heldNodes, heldBytes, withDegree, cellLines, inputOutcome, textOf, reportText}
+use Rattle.report.specs.Report.{heldNodes, heldBytes, withDegree, inputOutcome, textOf, reportText}
 use Rattle.report.specs.Parts.{HeldTable}
 use Rattle.report.proofs.TableLaws.{nodes-are, cubic-shaped}
 
@@ -37,8 +37,8 @@ module _ (input : List ℕ) where
   read-refused n p h e = ap (λ (o : Outcome Header). textOf o (samplesIn input)) (outcome h ∙ e)
 
   module _ (h : Header) (e : readOutcome input heldNodes ≡ done h) where
-    pub read-done : length input ≤ heldBytes → reportText input ≡ cellLines h (samplesIn input)
-    unfolding reportText textOf
+    pub read-done : length input ≤ heldBytes → reportText input ≡ textOf (done h) (samplesIn input)
+    unfolding reportText
     read-done l = ap (λ (o : Outcome Header). textOf o (samplesIn input)) (outcome l ∙ e)
 
     pub held : HeldTable h (samplesIn input)

@@ -1,8 +1,8 @@
--- A table that the program holds: estimation takes it in both degrees, and its lines are those from the records of the rules.
-use mathlib.Core.Path.{_≡_, refl, sym, ap₂, _∙_}
+-- A table that the program holds: estimation refuses 19 in both degrees or in none, and its lines are those from the records of the rules.
+use mathlib.Core.Path.{_≡_, refl, sym, ap, ap₂, _∙_}
 use mathlib.Core.List.{List}
 use Prim.Native.Nat.{ℕ, _*_, _^_, _≤_, _<_}
-use native.Mathlib.Nat.{mul-le-mul, le-trans, le-of-eq}
+use native.Mathlib.Nat.{mul-le-mul, le-refl, le-trans, le-of-eq}
 use native.Mathlib.Omega.{arith}
 use borrow.Author.Tests.{le-leb, eq-eqb}
 use lib.Dec.{leb, eqb, lit<}
@@ -10,20 +10,19 @@ use lib.IntN.{ℤ}
 use lib.ListN.{length}
 use Rattle.arith.specs.Choice.{pick}
 use Rattle.lattice.specs.declared.Shape.{Shape}
-use Rattle.lattice.specs.Outcome.{done, refuseUnless}
+use Rattle.lattice.specs.Outcome.{Check, done, refused, refuseUnless}
 use Rattle.lattice.specs.Shape.{count, ordersOf, nodes, entries, size, axesOutcome, degreeOutcome, shapeOutcome, Shaped}
-use Rattle.lattice.specs.Records.{sampleLimit, limitOutcome}
+use Rattle.lattice.specs.Records.{limitOutcome}
 use Rattle.lattice.proofs.OutcomeLaws.{first-passed, passes}
 use Rattle.lattice.proofs.ShapeLaws.{shaped, pow-range}
 use Rattle.cell.specs.Cell.{placeAt, Accepted}
 use Rattle.cell.specs.Cells.{cellCount, cellAt}
 use Rattle.cell.proofs.CellsLaws.{cells-few, cell-accepted}
-use Rattle.estimate.specs.Estimate.{recordsOf, estimateOutcome}
-use Rattle.estimate.proofs.CallLaws.{estimated}
+use Rattle.estimate.specs.Estimate.{recordsOf, estimateLimit, estimateOutcome}
 use Rattle.table_file.specs.File.{Header, countOf, nodesOf}
-use Rattle.text.specs.Lines.{cellLine}
-use Rattle.report.specs.Report.{heldNodes, withDegree, lineIn, cellLines}
-use Rattle.report.specs.Parts.{HeldTable, lineFrom, linesFrom}
+use Rattle.text.specs.Lines.{cellLine, refusedLine}
+use Rattle.report.specs.Report.{heldNodes, withDegree, lineIn, cellLines, tableText, textOf}
+use Rattle.report.specs.Parts.{HeldTable, TakenTable, lineFrom, linesFrom}
 use Rattle.report.proofs.DoseLaws.{dose-same}
 use Rattle.report.proofs.LineLaws.{joined-same}
 
@@ -43,41 +42,70 @@ module _ (h : Header) (xs : List ℤ) (held : HeldTable h xs) where
   shape-passes d e =
       first-passed (axesOutcome (h .axes)) _ (held .permitted .axes-ok) ∙ first-passed (degreeOutcome d) _ e ∙ held .permitted .counts-ok
 
-  -- into records of at most 512 · m^3 entries
-  taken : (d m room : ℕ) → degreeOutcome d ≡ done tt → ordersOf d ≤ m → 0 < m → room ≡ heldNodes * m ^ 3
-      → estimateOutcome (withDegree h d) xs room ≡ done tt
-  unfolding estimateOutcome size entries
-  taken d m room e k l r =
+  pub cubic-shaped : Shaped (withDegree h 3)
+  unfolding degreeOutcome
+  cubic-shaped = shaped (withDegree h 3) (shape-passes 3 refl)
+
+  -- a shape of at most 512 nodes has at most 512 · m^3 entries
+  size-low : (d m : ℕ) → degreeOutcome d ≡ done tt → ordersOf d ≤ m → 0 < m → size (withDegree h d) ≤ heldNodes * m ^ 3
+  unfolding size entries
+  size-low d m e k l =
+      mul-le-mul (le-trans (le-of-eq (nodes-are d)) (held .few))
+      (pow-range m (ordersOf d) (h .axes) k (shaped (withDegree h d) (shape-passes d e) .axes-high) l)
+
+  -- in a slice that is long enough, estimation refuses nothing but 19
+  tested : (d room : ℕ) → degreeOutcome d ≡ done tt → size (withDegree h d) ≤ room
+      → estimateOutcome (withDegree h d) xs room ≡ limitOutcome 19 (estimateLimit (h .axes)) xs
+  unfolding estimateOutcome
+  tested d room e k =
       let s : Shape = withDegree h d in
-      let n : nodes s * ordersOf d ^ h .axes ≤ heldNodes * m ^ 3
-      = mul-le-mul (le-trans (le-of-eq (nodes-are d)) (held .few))
-      (pow-range m (ordersOf d) (h .axes) k (shaped s (shape-passes d e) .axes-high) l) in
       first-passed (shapeOutcome s) _ (shape-passes d e)
       ∙ first-passed (refuseUnless (eqb (length xs) (nodes s)) 4 0) _
       (passes (eqb (length xs) (nodes s)) 4 0 (eq-eqb (length xs) (nodes s) (sym (nodes-are d))))
-      ∙ first-passed (refuseUnless (leb (size s) room) 9 0) (limitOutcome 5 sampleLimit xs)
-      (passes (leb (size s) room) 9 0 (le-leb (size s) room (le-trans n (le-of-eq (sym r)))))
-      ∙ held .permitted .limited
+      ∙ first-passed (refuseUnless (leb (size s) room) 9 0) (limitOutcome 19 (estimateLimit (h .axes)) xs)
+      (passes (leb (size s) room) 9 0 (le-leb (size s) room k))
 
-  pub cubic-taken : estimateOutcome (withDegree h 3) xs 4096 ≡ done tt
+  cubic-tested : estimateOutcome (withDegree h 3) xs 4096 ≡ limitOutcome 19 (estimateLimit (h .axes)) xs
   unfolding degreeOutcome ordersOf pick
-  cubic-taken = taken 3 2 4096 refl (omega arith) (lit< tt) refl
+  cubic-tested = tested 3 4096 refl (size-low 3 2 refl (omega arith) (lit< tt))
 
-  pub quintic-taken : estimateOutcome (withDegree h 5) xs 13824 ≡ done tt
+  quintic-tested : estimateOutcome (withDegree h 5) xs 13824 ≡ limitOutcome 19 (estimateLimit (h .axes)) xs
   unfolding degreeOutcome ordersOf pick
-  quintic-taken = taken 5 3 13824 refl (omega arith) (lit< tt) refl
+  quintic-tested = tested 5 13824 refl (size-low 5 3 refl (omega arith) (lit< tt))
 
-  pub cubic-shaped : Shaped (withDegree h 3)
-  cubic-shaped = estimated (withDegree h 3) xs 4096 cubic-taken .shape
+  -- the program's slice, and one that is just long enough
+  same-room : estimateOutcome (withDegree h 3) xs 4096 ≡ estimateOutcome (withDegree h 3) xs (size (withDegree h 3))
+  unfolding degreeOutcome
+  same-room = cubic-tested ∙ sym (tested 3 (size (withDegree h 3)) refl (le-refl (size (withDegree h 3))))
+
+  pub taken : estimateOutcome (withDegree h 3) xs 4096 ≡ done tt → TakenTable h xs
+  taken e = record { held = held; small = sym cubic-tested ∙ e }
+
+  -- the text of a table by what estimation says
+  pub refused-text : {number place : ℕ} → estimateOutcome (withDegree h 3) xs 4096 ≡ refused number place
+      → refusedLine number ≡ textOf (done h) xs
+  unfolding textOf tableText
+  refused-text e = ap (λ (o : Check). tableText o h xs) (sym e ∙ same-room)
+
+  pub taken-text : estimateOutcome (withDegree h 3) xs 4096 ≡ done tt → cellLines h xs ≡ textOf (done h) xs
+  unfolding textOf tableText
+  taken-text e = ap (λ (o : Check). tableText o h xs) (sym e ∙ same-room)
 
   pub few-cells : cellCount (withDegree h 3) ≤ heldNodes
   few-cells = le-trans (cells-few (withDegree h 3) cubic-shaped) (le-trans (le-of-eq (nodes-are 3)) (held .few))
+
+module _ (h : Header) (xs : List ℤ) (ok : TakenTable h xs) where
+  pub cubic-taken : estimateOutcome (withDegree h 3) xs 4096 ≡ done tt
+  cubic-taken = cubic-tested h xs (ok .held) ∙ ok .small
+
+  pub quintic-taken : estimateOutcome (withDegree h 5) xs 13824 ≡ done tt
+  quintic-taken = quintic-tested h xs (ok .held) ∙ ok .small
 
   -- the lines
   pub lines-are : linesFrom h (recordsOf (withDegree h 3) xs) (recordsOf (withDegree h 5) xs) ≡ cellLines h xs
   unfolding cellLines lineFrom lineIn
   lines-are = joined-same (cellCount (withDegree h 3)) _ _ (λ i.
       let cell = cellAt (withDegree h 3) i in
-      let here = cell-accepted (withDegree h 3) cubic-shaped i in
+      let here = cell-accepted (withDegree h 3) (cubic-shaped h xs (ok .held)) i in
       ap₂ (cellLine cell) (dose-same (withDegree h 3) xs 4096 cubic-taken cell here)
       (dose-same (withDegree h 5) xs 13824 quintic-taken cell (any-degree h 3 5 cell here)))

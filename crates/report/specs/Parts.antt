@@ -8,9 +8,10 @@ use Rattle.lattice.specs.declared.Shape.{Shape}
 use Rattle.lattice.specs.Outcome.{done}
 use Rattle.lattice.specs.Shape.{size, shapeOutcome}
 use Rattle.lattice.specs.Axes.{Place}
-use Rattle.lattice.specs.Records.{recordsField}
+use Rattle.lattice.specs.Records.{recordsField, limitOutcome}
 use Rattle.cell.specs.Cell.{placeAt, Accepted, cornersOutcome}
 use Rattle.cell.specs.Cells.{cellCount, cellAt}
+use Rattle.estimate.specs.Estimate.{estimateLimit}
 use Rattle.evaluate.specs.Evaluate.{dose, askAt, answer}
 use Rattle.table_file.specs.File.{Header, PermittedTable}
 use Rattle.text.specs.Lines.{cellLine}
@@ -40,3 +41,8 @@ lineLimit = 33
 pub record HeldTable (h : Header) (samples : List ℤ) : Type 0 where
   pub permitted : PermittedTable h samples
   pub few : length samples ≤ heldNodes
+
+-- and that estimation takes, in both degrees
+pub record TakenTable (h : Header) (samples : List ℤ) : Type 0 where
+  pub held : HeldTable h samples
+  pub small : limitOutcome 19 (estimateLimit (h .axes)) samples ≡ done tt

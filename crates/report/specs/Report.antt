@@ -6,12 +6,12 @@ use lib.IntN.{ℤ}
 use lib.ListN.{length}
 use Rattle.arith.specs.Choice.{pick}
 use Rattle.lattice.specs.declared.Shape.{Shape}
-use Rattle.lattice.specs.Shape.{shapeOf}
-use Rattle.lattice.specs.Outcome.{Outcome, done, refused, refuseUnless, first}
+use Rattle.lattice.specs.Shape.{shapeOf, size}
+use Rattle.lattice.specs.Outcome.{Outcome, Check, done, refused, refuseUnless, first}
 use Rattle.lattice.specs.Axes.{Place}
 use Rattle.cell.specs.Cell.{placeAt}
 use Rattle.cell.specs.Cells.{cellCount, cellAt}
-use Rattle.estimate.specs.Estimate.{tableRecords}
+use Rattle.estimate.specs.Estimate.{tableRecords, estimateOutcome}
 use Rattle.evaluate.specs.Evaluate.{dose, askAt, answer}
 use Rattle.table_file.specs.File.{Header, samplesIn, readOutcome}
 use Rattle.text.specs.Lines.{cellLine, refusedLine}
@@ -55,8 +55,13 @@ cellLines h samples = joined (cellCount (withDegree h 3)) (λ i. lineIn h sample
 unfoldable pub inputOutcome : List ℕ → Outcome Header
 inputOutcome input = first (refuseUnless (leb (length input) heldBytes) 9 0) (readOutcome input heldNodes)
 
+-- a table that estimation takes, or its refusal: both degrees have the same limit
+unfoldable pub tableText : Check → Header → List ℤ → List ℕ
+tableText (done u) h samples = cellLines h samples
+tableText (refused number place) h samples = refusedLine number
+
 unfoldable pub textOf : Outcome Header → List ℤ → List ℕ
-textOf (done h) samples = cellLines h samples
+textOf (done h) samples = tableText (estimateOutcome (withDegree h 3) samples (size (withDegree h 3))) h samples
 textOf (refused number place) samples = refusedLine number
 
 unfoldable pub reportText : List ℕ → List ℕ

@@ -12,9 +12,10 @@ ghost use Rattle.cell.specs.Cell.{placeAt, Accepted};
 ghost use Rattle.cell.specs.Cells.{Between, cellCount};
 ghost use Rattle.table_file.specs.File.{header};
 ghost use Rattle.text.specs.Lines.{Put};
-ghost use Rattle.report.specs.Report.{heldNodes, middle, withDegree, cellLines, reportText};
-ghost use Rattle.report.specs.Parts.{Answers, HeldTable, doseFrom, lineFrom, linesFrom, lineLimit};
+ghost use Rattle.report.specs.Report.{heldNodes, middle, withDegree, cellLines, textOf, reportText};
+ghost use Rattle.report.specs.Parts.{Answers, HeldTable, TakenTable, doseFrom, lineFrom, linesFrom, lineLimit};
 use evaluate::Derivative;
+use lattice::Check;
 use query::CellQuery;
 use query::Reading;
 use table_file::TableAnswer;
@@ -113,9 +114,9 @@ fn estimate_degree(
     lattice::table_entries(s)
 }
 
-// Puts the lines of a table: estimates of both degrees, then its cells.
+// Puts the lines of a table that estimation takes: estimates of both degrees, then its cells.
 fn put_table(axes: u32, counts: [u32; 3], samples: &[i32], out: &mut [u8]) -> usize
-    requires { ⌜ HeldTable (header axes counts) (now samples) × (heldNodes * lineLimit ≤ length (now out)) ⌝ }
+    requires { ⌜ TakenTable (header axes counts) (now samples) × (heldNodes * lineLimit ≤ length (now out)) ⌝ }
     ensures { λ r. ⌜ Put (now (out .entry)) 0 (cellLines (header axes counts) (now (samples .entry))) (now (out .exit)) r × (r ≤ heldNodes * lineLimit) ⌝ }
 {
     let mut cubic = [0i32; 4096];
@@ -123,6 +124,19 @@ fn put_table(axes: u32, counts: [u32; 3], samples: &[i32], out: &mut [u8]) -> us
     let low = estimate_degree(axes, counts, 3, samples, &mut cubic);
     let high = estimate_degree(axes, counts, 5, samples, &mut quintic);
     put_lines(axes, counts, &cubic[..low], &quintic[..high], out)
+}
+
+// Puts the text of a table: its lines, or the line of what estimation refuses, in both degrees alike.
+fn put_text(axes: u32, counts: [u32; 3], samples: &[i32], out: &mut [u8]) -> usize
+    requires { ⌜ HeldTable (header axes counts) (now samples) × (heldNodes * lineLimit ≤ length (now out)) ⌝ }
+    ensures { λ r. ⌜ Put (now (out .entry)) 0 (textOf (done (header axes counts)) (now (samples .entry))) (now (out .exit)) r × (r ≤ heldNodes * lineLimit) ⌝ }
+{
+    let s = lattice::shape_of(axes, 3, counts);
+    let checked = estimate::check_estimate(s, samples, 4096);
+    match checked {
+        Check::Refused(r) => text::put_refused_line(out, r.number),
+        Check::Done => put_table(axes, counts, samples, out),
+    }
 }
 
 // Puts the whole text for an input at the front of `out`, and gives its length.
@@ -141,7 +155,7 @@ pub fn report(input: &[u8], out: &mut [u8; 16896]) -> usize
             let counts = [x, y, z];
             // The number of nodes is the same for both degrees.
             let nodes = lattice::node_count(lattice::shape_of(axes, 3, counts));
-            put_table(axes, counts, &samples[..nodes], out)
+            put_text(axes, counts, &samples[..nodes], out)
         }
     }
 }

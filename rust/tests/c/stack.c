@@ -154,7 +154,7 @@ static void prepare(uint32_t axes, uint32_t degree) {
     cell_numbers = LUKHTARI_COEFFICIENTS(axes, degree);
     bytes = LUKHTARI_FILE_BYTES(axes, nodes);
     for (size_t i = 0; i < nodes; i++) {
-        samples[i] = (int32_t)(i * 7919 % 60000) - 30000;
+        samples[i] = (int32_t)(i * 7919 % 8000) - 4000;
     }
     type("-1.50");
     for (uint32_t axis = 0; axis < axes; axis++) {
@@ -192,7 +192,7 @@ static int measure_table(uint32_t axes, uint32_t degree) {
     type("327.69");
     right &= measure(IMPORT, LUKHTARI_REFUSED_BEYOND_LIMIT);
     samples[nodes - 1] = LUKHTARI_SAMPLE_LIMIT + 1;
-    right &= measure(ESTIMATE, LUKHTARI_REFUSED_BEYOND_LIMIT);
+    right &= measure(ESTIMATE, LUKHTARI_REFUSED_BEYOND_ESTIMATE_LIMIT);
     right &= measure(WRITE, LUKHTARI_REFUSED_BEYOND_LIMIT);
     return right;
 }

@@ -55,10 +55,17 @@ impl Random {
         value as i32
     }
 
+    // Samples of a file or text.
     pub fn samples(&mut self, nodes: usize) -> Vec<i32> {
         (0..nodes)
             .map(|_| self.within(model::shape::LIMIT))
             .collect()
+    }
+
+    // Samples that estimation takes.
+    pub fn estimable(&mut self, shape: Shape) -> Vec<i32> {
+        let limit = model::estimate::estimate_limit(shape.axes);
+        (0..shape.nodes()).map(|_| self.within(limit)).collect()
     }
 
     // Records of a shape with every entry within its limit.

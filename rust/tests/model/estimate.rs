@@ -2,15 +2,29 @@
 
 use super::shape::*;
 
-// The estimation call: 1, 2, 3, 4, 9, 5, else all records.
+// The estimation call: 1, 2, 3, 4, 9, 19, else all records.
 pub fn estimate(shape: &Shape, samples: &[i32], room: usize) -> Answer<Vec<i32>> {
     check_shape(shape)?;
     check_length(samples.len(), shape.nodes())?;
     check_room(room, shape.entries())?;
-    check_samples(samples)?;
+    check_estimable(shape.axes, samples)?;
     let order: Vec<usize> = (0..shape.used()).collect();
     let records = records_by_axes(shape, samples, &order);
     Ok(records.iter().map(|&entry| entry as i32).collect())
+}
+
+// Limit of the samples given for estimation, 32768/2^n.
+pub fn estimate_limit(axes: u32) -> i64 {
+    LIMIT / 2i64.pow(axes)
+}
+
+// 19
+fn check_estimable(axes: u32, samples: &[i32]) -> Answer<()> {
+    let beyond = |&sample: &i32| (sample as i64).abs() > estimate_limit(axes);
+    match samples.iter().position(beyond) {
+        Some(index) => refuse_unless(false, 19, index),
+        None => Ok(()),
+    }
 }
 
 // All records, the axes worked off in the order given.
@@ -41,12 +55,16 @@ fn estimate_at(
     axis: usize,
 ) {
     let f = records[shape.entry_index(node, orders)];
-    let neighbour = |there: Option<[usize; 3]>| match there {
-        Some(there) => records[shape.entry_index(there, orders)],
-        None => f,
+    let entry = |there: [usize; 3]| records[shape.entry_index(there, orders)];
+    let low = low_neighbour(node, axis).map(entry);
+    let high = high_neighbour(shape, node, axis).map(entry);
+    // A neighbour missing at a border continues the line.
+    let (l, r) = match (low, high) {
+        (Some(l), Some(r)) => (l, r),
+        (None, Some(r)) => (2 * f - r, r),
+        (Some(l), None) => (l, 2 * f - l),
+        (None, None) => panic!("one node on a used axis"),
     };
-    let l = neighbour(low_neighbour(node, axis));
-    let r = neighbour(high_neighbour(shape, node, axis));
     for (order, value) in [(1, r - l), (2, l - 2 * f + r)] {
         if order < shape.orders() {
             let mut to = orders;

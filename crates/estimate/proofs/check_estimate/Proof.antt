@@ -1,26 +1,33 @@
--- `estimate::check_estimate` meets its contract: 1, 2 and 3 from the shape, then 4, 9 and 5; each stops at a refusal.
+-- `estimate::check_estimate` meets its contract: 1, 2 and 3 from the shape, then 4, 9 and 19; each stops at a refusal.
 use mathlib.Core.Path.{_≡_, sym, ap, _∙_}
+use Prim.Native.Nat.{ℕ}
 use lib.Dec.{leb, eqb}
 use lib.ListN.{length}
 use borrow.Author.Needs.{needs}
 use Rattle.lattice.specs.Outcome.{done, refuseUnless, first}
 use Rattle.lattice.specs.Answers.{outcomeOf}
 use Rattle.lattice.specs.Shape.{shapeOutcome}
-use Rattle.lattice.specs.Records.{sampleLimit, limitOutcome}
+use Rattle.lattice.specs.Records.{limitOutcome}
 use Rattle.lattice.proofs.OutcomeLaws.{refused-first, first-passed}
 use Rattle.lattice.proofs.ShapeLaws.{shaped}
-use Rattle.estimate.specs.Estimate.{estimateOutcome}
+use Rattle.estimate.specs.Estimate.{estimateLimit, estimateOutcome}
 use Rattle.estimate.proofs.check_estimate.Statement.{statement}
 use Rattle.estimate.proofs.check_estimate.Tie as tie
+
+abbrev enum-told2-before : tie.After-enum-told6 → tie.After-enum-told2
+enum-told2-before c = c .before .before .before .before .before .before .before .before
+
+abbrev begun : tie.After-refuse-unless → tie.Start
+begun c = c .before .before .before .before .before .before
 
 shape-passes : (c : tie.After-enum-told2) → shapeOutcome (c .before .before .before .args .s) ≡ done tt
 shape-passes c = sym (c .before .before .check-shape .ensures) ∙ ap outcomeOf (c .enum-told2 .given .1)
 
--- 4, 9 and 5, with the numbers of nodes and entries as the code finds them
+-- 4, 9 and 19, with the numbers of nodes and entries as the code finds them
 rest : (c : tie.After-table-entries)
     → let a = c .before .before .before .before .before .args in
     first (refuseUnless (eqb (length (a .samples .now)) (c .before .node-count .result)) 4 0)
-    (first (refuseUnless (leb (c .table-entries .result) (a .room)) 9 0) (limitOutcome 5 sampleLimit (a .samples .now)))
+    (first (refuseUnless (leb (c .table-entries .result) (a .room)) 9 0) (limitOutcome 19 (estimateLimit (a .s .axes)) (a .samples .now)))
     ≡ estimateOutcome (a .s) (a .samples .now) (a .room)
 unfolding estimateOutcome
 rest c = rw (c .table-entries .ensures, c .before .node-count .ensures) (sym (first-passed _ _ (shape-passes (c .before .before))))
@@ -45,11 +52,14 @@ returns-3 c =
 
 returns-4 : tie.Need-returns-4
 returns-4 c =
-    let nine = c .before .before .before in
+    let told = c .before .before in
+    let nine = told .before .before in
     let four = nine .before .before .before in
+    let xs = begun four .args .samples .now in
     let counted = sym (four .refuse-unless .ensures) ∙ ap outcomeOf (nine .before .enum-told4 .given .1) in
-    let roomy = sym (nine .refuse-unless2 .ensures) ∙ ap outcomeOf (c .before .enum-told6 .given .1) in
-    c .check-limit .ensures ∙ sym (first-passed _ _ counted ∙ first-passed _ _ roomy) ∙ rest (four .before)
+    let roomy = sym (nine .refuse-unless2 .ensures) ∙ ap outcomeOf (told .enum-told6 .given .1) in
+    c .check-samples .ensures ∙ ap (λ (k : ℕ). limitOutcome 19 k xs) (c .before .estimate-limit .ensures)
+    ∙ sym (first-passed _ _ counted ∙ first-passed _ _ roomy) ∙ rest (four .before)
 
 pub check-estimate-spec : {M : Type 1} → statement M
 check-estimate-spec =
@@ -69,5 +79,6 @@ check-estimate-spec =
     (λ c. search needs)
     returns-3
     (λ c. search needs)
+    (λ c κs. shaped _ (shape-passes (enum-told2-before c)) .axes-high)
     (λ c κs. search needs)
     returns-4)

@@ -41,7 +41,7 @@ put-lines-requires c κs =
         rw (p .estimate-degree .ensures .1) (answers (withDegree (table s) 3) (samples s) 4096 (cubic-taken (table s) (samples s) h)),
         rw (q .estimate-degree2 .ensures .1) (answers (withDegree (table s) 5) (samples s) 13824 (quintic-taken (table s) (samples s) h)),
       ),
-      (few-cells (table s) (samples s) h, s .pre .1),
+      (few-cells (table s) (samples s) (h .held), s .pre .1),
     )
 
 returns : tie.Need-returns

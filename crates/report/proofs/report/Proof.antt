@@ -14,7 +14,7 @@ use Rattle.table_file.specs.File.{Header, header, samplesIn, readOutcome}
 use Rattle.table_file.specs.Answers.{outcomeOfTable}
 use Rattle.lattice.proofs.BufferLaws.{sets-front}
 use Rattle.text.specs.Lines.{refusedLine}
-use Rattle.report.specs.Report.{heldBytes, heldNodes, withDegree, cellLines, reportText}
+use Rattle.report.specs.Report.{heldBytes, heldNodes, withDegree, textOf, reportText}
 use Rattle.report.proofs.LineLaws.{refused-low}
 use Rattle.report.proofs.InputLaws.{too-long, read-refused, read-done, held, shape, front, few-nodes}
 use borrow.Author.Needs.{needs}
@@ -76,14 +76,14 @@ array-share-prefix-samples c =
     let k = known c in
     omega (arith, few-nodes (input k) (table k) (was-read k) (c .node-count .result) (nodes-are c), read k .read .kept .1 .0)
 
-slice-aggregate-put-table : tie.Need-slice-aggregate-put-table
-slice-aggregate-put-table c = sym (length-take-le (c .before .node-count .result) _ (array-share-prefix-samples (c .before)))
+slice-aggregate-put-text : tie.Need-slice-aggregate-put-text
+slice-aggregate-put-text c = sym (length-take-le (c .before .node-count .result) _ (array-share-prefix-samples (c .before)))
 
-put-table-requires : tie.Need-put-table-requires
-put-table-requires c κs =
+put-text-requires : tie.Need-put-text-requires
+put-text-requires c κs =
     let n = c .before .before in
     let k = known n in
-    (rw (samples-are n) (held (input k) (table k) (was-read k)), omega (arith, c .put-table-arg .given .0 .1))
+    (rw (samples-are n) (held (input k) (table k) (was-read k)), omega (arith, c .put-text-arg .given .0 .1))
 
 returns-2 : tie.Need-returns-2
 returns-2 c =
@@ -99,14 +99,14 @@ returns-2 c =
 
 returns-3 : tie.Need-returns-3
 returns-3 c =
-    let p = c .put-table in
+    let p = c .put-text in
     let n = c .before .before .before in
     let b = known n in
     text-put (now (start b .args .out)) (reportText (input b))
-    (cellLines (table b) (take (n .node-count .result) (read b .read .last .1 .0)))
+    (textOf (done (table b)) (take (n .node-count .result) (read b .read .last .1 .0)))
     _ (p .result) (p .ensures .0 .written) (omega (arith, p .ensures .0 .ended))
-    (ap (cellLines (table b)) (samples-are n) ∙ sym (read-done (input b) (table b) (was-read b) (read b .before .before .if1 .left)))
-    (omega (arith, p .ensures .0 .ended, p .ensures .1)) (c .before .put-table-arg .given .0 .1)
+    (ap (textOf (done (table b))) (samples-are n) ∙ sym (read-done (input b) (table b) (was-read b) (read b .before .before .if1 .left)))
+    (omega (arith, p .ensures .0 .ended, p .ensures .1)) (c .before .put-text-arg .given .0 .1)
 
 pub report-spec : {M : Type 1} → statement M
 report-spec =
@@ -122,7 +122,7 @@ report-spec =
     (λ c κs. search needs)
     (λ c κs. let k = c .before in rw (c .shape-of .ensures) (shape (input k) (table k) (was-read k)))
     array-share-prefix-samples
-    slice-aggregate-put-table
-    put-table-requires
+    slice-aggregate-put-text
+    put-text-requires
     returns-2
     returns-3)
