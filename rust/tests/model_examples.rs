@@ -15,11 +15,7 @@ use model::text::import;
 use model::{Answer, Rational, Refusal, Shape};
 
 fn line(degree: u32) -> Shape {
-    Shape {
-        axes: 1,
-        degree,
-        counts: [2, 1, 1],
-    }
+    Shape::new(1, degree, [2, 1, 1])
 }
 
 fn records(shape: &Shape, samples: &[i32]) -> Vec<i32> {
@@ -111,11 +107,7 @@ fn back() {
 
 #[test]
 fn two_axes() {
-    let shape = Shape {
-        axes: 2,
-        degree: 3,
-        counts: [2, 2, 1],
-    };
+    let shape = Shape::new(2, 3, [2, 2, 1]);
     let records = records(&shape, &[0, 100, 0, 100]);
     let after = stages(&shape, &records, &point(64));
     assert_eq!(after[0].at([0, 0, 0]), Rational::ratio(200, 8));
@@ -219,11 +211,7 @@ fn trap_division_towards_zero() {
 #[test]
 fn trap_cell_beyond_the_last_node() {
     for count in [2, 3, 64] {
-        let shape = Shape {
-            axes: 1,
-            degree: 3,
-            counts: [count, 1, 1],
-        };
+        let shape = Shape::new(1, 3, [count, 1, 1]);
         let at = |p| locate(&shape, Where::Position([p, 0, 0]));
         let last = 256 * (count as i32 - 1);
         assert_eq!(at(last), Ok(([count - 2, 0, 0], [256, 0, 0])));
@@ -275,11 +263,7 @@ fn largest_sum(
 
 #[test]
 fn trap_slope_axis_first() {
-    let shape = Shape {
-        axes: 3,
-        degree: 5,
-        counts: [2; 3],
-    };
+    let shape = Shape::new(3, 5, [2; 3]);
     let point = Point {
         cell: [0; 3],
         u: [128; 3],
@@ -303,11 +287,7 @@ fn trap_slope_axis_first() {
 
 #[test]
 fn axes_in_any_order_give_the_same_estimates() {
-    let shape = Shape {
-        axes: 3,
-        degree: 5,
-        counts: [3, 2, 4],
-    };
+    let shape = Shape::new(3, 5, [3, 2, 4]);
     let samples: Vec<i32> = (0..24).map(|i| (i * i * 37 + 11 * i) % 101 - 50).collect();
     let first = records_by_axes(&shape, &samples, &[0, 1, 2]);
     for order in [[0, 2, 1], [1, 0, 2], [1, 2, 0], [2, 0, 1], [2, 1, 0]] {

@@ -146,11 +146,7 @@ impl Query {
 
 // The model's shape.
 pub fn plain_shape(shape: Shape) -> model::Shape {
-    model::Shape {
-        axes: shape.axes,
-        degree: shape.degree,
-        counts: shape.counts,
-    }
+    model::Shape::new(shape.axes, shape.degree, shape.counts)
 }
 
 // The library's answer with the model's refusal.

@@ -45,12 +45,7 @@ struct Estimated {
 
 impl Estimated {
     fn new(table: &Table, degree: u32) -> Answer<Estimated> {
-        let (axes, counts) = (table.axes, table.counts);
-        let shape = Shape {
-            axes,
-            degree,
-            counts,
-        };
+        let shape = Shape::new(table.axes, degree, table.counts);
         let records = estimate(&shape, &table.samples, shape.entries())?;
         Ok(Estimated { shape, records })
     }

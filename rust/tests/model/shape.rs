@@ -25,6 +25,14 @@ pub fn refuse_unless(test: bool, number: u32, place: usize) -> Answer<()> {
 }
 
 impl Shape {
+    pub fn new(axes: u32, degree: u32, counts: [u32; 3]) -> Shape {
+        Shape {
+            axes,
+            degree,
+            counts,
+        }
+    }
+
     pub fn used(&self) -> usize {
         self.axes as usize
     }
