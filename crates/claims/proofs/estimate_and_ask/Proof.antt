@@ -50,9 +50,10 @@ slice-reshare-prefix-ask c =
 
 returns : tie.Need-returns
 returns c =
-    let b = c .before .before .before .before .before .before in
+    let d = c .before .before .before .before in
+    let b = d .before .before in
     let a = b .args in
-    let e = c .before .before .before .before .estimate .ensures in
+    let e = d .estimate .ensures in
     let g = ap (inFloat (want b))
     (both-refused (a .s) (a .samples .now) (a .records .now) (want b) (question b)
     (sym (e .0) ∙ ap outcomeOf (c .before .answer .given .1))) in

@@ -33,8 +33,8 @@ abbrev μ-loop : tie.MeasureT-loop
 abbrev turn : tie.After-out Inv-loop μ-loop → tie.At-loop Inv-loop μ-loop
 turn c = c .before .before .before .before .before .before .before
 
-abbrev In-loop-before : tie.After-out Inv-loop μ-loop → tie.In-loop Inv-loop μ-loop
-In-loop-before c = c .before .before .before .before .before .before
+abbrev in-turn : tie.After-out Inv-loop μ-loop → tie.In-loop Inv-loop μ-loop
+in-turn c = c .before .before .before .before .before .before
 
 abbrev begun : tie.After-out Inv-loop μ-loop → tie.Start Inv-loop μ-loop
 begun c = c .before .before .before .before .before .before .before .before
@@ -87,7 +87,7 @@ loop-again : tie.Need-loop-again Inv-loop μ-loop
 unfolding lower upper pick
 loop-again c =
     let v = turn c in
-    let h = In-loop-before c .loop-test .taken in
+    let h = in-turn c .loop-test .taken in
     let r = v .before .pre .1 in
     stored-more (v .loop .inv) h (c .before .put-straight .ensures) (λ o i. rw (value r h, rise r h))
 
@@ -107,11 +107,11 @@ border-pass-spec =
     omega (
       arith,
       stored-fits (turn c .loop .inv)
-          (In-loop-before c .loop-test .taken) (s .pre .0 .1),
+          (in-turn c .loop-test .taken) (s .pre .0 .1),
       s .good,
     ))
     (λ c. omega arith)
-    (λ c. less-left (In-loop-before c .loop-test .taken))
+    (λ c. less-left (in-turn c .loop-test .taken))
     loop-again
     (λ c. stored-length (c .before .loop .inv))
     (λ c. stored-all (c .before .loop .inv) (c .loop-test .left)))

@@ -21,8 +21,8 @@ abbrev μ-loop : tie.MeasureT-loop
 abbrev turn : tie.After-out Inv-loop μ-loop → tie.At-loop Inv-loop μ-loop
 turn c = c .before .before .before .before .before .before .before
 
-abbrev In-loop-before : tie.After-out Inv-loop μ-loop → tie.In-loop Inv-loop μ-loop
-In-loop-before c = c .before .before .before .before .before .before
+abbrev in-turn : tie.After-out Inv-loop μ-loop → tie.In-loop Inv-loop μ-loop
+in-turn c = c .before .before .before .before .before .before
 
 abbrev begun : tie.After-put-orders-arg4 Inv-loop μ-loop → tie.Start Inv-loop μ-loop
 begun c = c .before .before .before .before .before .before
@@ -39,7 +39,7 @@ loop-again : tie.Need-loop-again Inv-loop μ-loop
 unfolding lower upper pick
 loop-again c =
     let s = begun (c .before .before) in
-    let h = In-loop-before c .loop-test .taken in
+    let h = in-turn c .loop-test .taken in
     stored-more (turn c .loop .inv) h (c .before .put-orders .ensures)
     (λ o i. rw (read-value (s .pre .1 .0) h, read-value (s .pre .1 .1) h, read-value (s .pre .1 .2) h))
 
@@ -58,11 +58,11 @@ inner-pass-spec =
     omega (
       arith,
       stored-fits (turn c .loop .inv)
-          (In-loop-before c .loop-test .taken) (s .pre .0 .1),
+          (in-turn c .loop-test .taken) (s .pre .0 .1),
       s .good,
     ))
     (λ c. omega arith)
-    (λ c. less-left (In-loop-before c .loop-test .taken))
+    (λ c. less-left (in-turn c .loop-test .taken))
     loop-again
     (λ c. stored-length (c .before .loop .inv))
     (λ c. stored-all (c .before .loop .inv) (c .loop-test .left)))

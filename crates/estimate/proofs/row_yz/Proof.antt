@@ -7,20 +7,24 @@ use Rattle.estimate.proofs.row_yz.Statement.{statement}
 use Rattle.estimate.proofs.row_yz.Tie as tie
 
 -- the rows in the samples
-in-samples : (c : tie.After-row-start3) → let n = c .before .before .before .before .before .before .before in
+in-samples : (c : tie.After-row-start3) → let d = c .before .before .before in
+    let n = d .before .before .before .before in
     let a = n .before .before .args in
     Three (a .g) (a .xs .now) (n .before .node-before .result) (a .y) (n .node-behind .result) (a .z) (a .xs .now)
     (c .before .before .row-start .result) (c .before .row-start2 .result) (c .row-start3 .result)
 in-samples c =
-    let n = c .before .before .before .before .before .before .before in
+    let d = c .before .before .before in
+    let n = d .before .before .before .before in
     let s = n .before .before in
     rw (c .before .before .row-start .ensures, c .before .row-start2 .ensures, c .row-start3 .ensures)
     (plain-three (s .pre .0 .0) _ _ _ _ (omega arith) (s .pre .0 .1) (n .node-behind .ensures .1) (s .pre .0 .2)
-    (c .before .before .before .if1 .taken))
+    (d .if1 .taken))
 
 pass-requires : tie.Need-pass-requires
 pass-requires c κs =
-    let s = c .before .before .before .before .before .before .before .before .before .before in
+    let d = c .before .before .before .before in
+    let n = d .before .before .before .before in
+    let s = n .before .before in
     let g = s .pre .0 .0 .grid in
     ((g .my, omega (arith, row-yz-high (s .args .g) g, s .pre .1 .1)), reads (s .pre .0 .0) (in-samples (c .before)))
 
@@ -38,10 +42,12 @@ pass-requires-2 c κs =
 
 returns : tie.Need-returns
 returns c =
-    let b = c .before .before .before .before .before .before .before .before .before in
+    let d = c .before .before .before in
+    let e = d .before .before .before in
+    let b = e .before .before .before in
     let n = b .before in
     let s = n .before .before in (
-      λ some. absurd (some (c .before .before .before .before .before .before .if1 .taken)),
+      λ some. absurd (some (e .if1 .taken)),
       made (s .pre .0 .0) _ _ _ (n .before .node-before .ensures .0) (n .node-behind .ensures .0) (in-samples (c .before .before .before))
           (s .args .row .now) (s .pre .1 .1) (rw (b .at-border .ensures) at (c .before .pass .ensures)),
     )
@@ -75,15 +81,15 @@ row-yz-spec =
       ok,
       (n .node-behind .ensures .1, s .pre .0 .2, omega (arith, slot-in ok (n .node-behind .result), s .pre .1 .0)),
     ))
-    (λ c. omega (
+    (λ c. let b = c .before .before .before .before in let n = b .before .before .before .before in omega (
       arith,
-      slot-in (c .before .before .before .before .before .before .before .before .before .before .pre .0 .0)
-          (c .before .before .before .before .before .before .before .before .before .node-before .result),
+      slot-in (n .before .before .pre .0 .0)
+          (n .before .node-before .result),
     ))
-    (λ c. omega (
+    (λ c. let b = c .before .before .before .before in let n = b .before .before .before .before in omega (
       arith,
-      slot-in (c .before .before .before .before .before .before .before .before .before .before .pre .0 .0)
-          (c .before .before .before .before .before .before .before .before .before .before .args .y),
+      slot-in (n .before .before .pre .0 .0)
+          (n .before .before .args .y),
     ))
     pass-requires-2
     (λ c. search needs)

@@ -86,7 +86,7 @@ put-line-requires c κs =
     )
 
 add-i : tie.Need-add-i Inv-loop μ-loop
-add-i c = let t = few (c .before .before .before .before .before .before .before) in omega arith
+add-i c = let t = few (first (c .before .before .before .before)) in omega arith
 
 loop-again : tie.Need-loop-again Inv-loop μ-loop
 loop-again c =

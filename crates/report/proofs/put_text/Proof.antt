@@ -63,7 +63,7 @@ put-text-spec =
     (λ c κs. search needs)
     (λ c κs. search needs)
     (λ c. search needs)
-    (λ c κs. omega (arith, low-number (c .before), c .before .before .before .before .before .before .before .pre .1))
+    (λ c κs. let e = c .before .before .before in omega (arith, low-number (c .before), e .before .before .before .before .pre .1))
     (λ c. search needs)
     (λ c κs. let e = c .before .before .before in
     (taken (table e) (samples e) (s e .pre .0) (sym (told e) ∙ ap outcomeOf (c .before .enum-told .given .1)), s e .pre .1))

@@ -33,8 +33,8 @@ pub +put-number-spec : {M : Type 1} → statement M
     (λ c κs. let h = more-length (c .before .before .before .args .n) (omega arith) in (omega arith, omega arith))
     (λ c. omega arith)
     (λ c. omega arith)
-    (λ c. let h = more-length (c .before .before .before .before .before .before .args .n) (omega arith) in omega arith)
-    (λ c. let h = more-length (c .before .before .before .before .before .before .args .n) (omega arith) in omega arith)
+    (λ c. let d = c .before .before .before in let h = more-length (d .before .before .before .args .n) (omega arith) in omega arith)
+    (λ c. let d = c .before .before .before in let h = more-length (d .before .before .before .args .n) (omega arith) in omega arith)
     (λ c. simp length-set (c .before .before .put-number .kept .0))
-    (λ c. let a = c .before .before .before .before .before .before .args in
+    (λ c. let d = c .before .before .before in let a = d .before .before .before .args in
     put-as (sym (more-digits (a .n) (omega arith))) (put-then (c .before .before .put-number .ensures) (put-byte _ _ (48 + a .n % 10))))
