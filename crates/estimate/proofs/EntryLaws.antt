@@ -24,7 +24,7 @@ use Rattle.lattice.proofs.ShapeLaws.{orders-range, pow-one, pow-two, pow-three,
 use Rattle.lattice.proofs.RecordsLaws.{node-is}
 use Rattle.estimate.specs.declared.Grid.{Grid}
 use Rattle.estimate.specs.Estimate.{byOrder, estimate, records, tableRecords}
-use Rattle.estimate.specs.Passes.{grouped, ordersAt, ordersOn, gridOf, OrderCount, rowStart, rowZ, rowYZ, rowOf, recordSize}
+use Rattle.estimate.specs.Passes.{grouped, ordersAt, ordersOn, gridOf, OrderCount, rowStart, rowZ, rowYZ, rowOf, rowOn, recordSize}
 use Rattle.estimate.proofs.EstimateLaws.{estimate-linear}
 use Rattle.estimate.proofs.PassesLaws.{group-of, member-of}
 
@@ -125,7 +125,7 @@ module _ (s : Shape) (xs : List ℤ) where
         (ap (λ (f : ℕ → ℤ). ordersAt (count s 1) f y (h % ordersOn s 1)) (fun-ext (λ v. passed-z x v z (h / ordersOn s 1) k)))
 
     passed : (x y z e : ℕ) → e < recordSize g
-        → rowOf g (rowYZ g xs y z) (recordSize g * x + e) ≡ along-x (e % g .mx) (e / g .mx % g .my) (e / g .mx / g .my) x y z
+        → rowOn g (rowYZ g xs y z) (recordSize g * x + e) ≡ along-x (e % g .mx) (e / g .mx % g .my) (e / g .mx / g .my) x y z
     unfolding rowOf grouped gridOf along-x
     passed x y z e l =
         let k : e / ordersOn s 0 < ordersOn s 1 * ordersOn s 2 = high-below (some 0) l in
@@ -202,7 +202,7 @@ module _ (s : Shape) (ok : Shaped s) where
 
     -- the entry at its index is what the passes give
     pub entry-is : (xs : List ℤ) → let g : Grid = gridOf s in
-        tableRecords s xs (entryPlace s i) ≡ rowOf g (rowYZ g xs (v / g .cx % g .cy) (v / g .cx / g .cy % g .cz))
+        tableRecords s xs (entryPlace s i) ≡ rowOn g (rowYZ g xs (v / g .cx % g .cy) (v / g .cx / g .cy % g .cz))
         (recordSize g * (v % g .cx) + e)
     unfolding digit gridOf
     entry-is xs =

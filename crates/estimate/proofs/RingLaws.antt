@@ -18,7 +18,7 @@ use Rattle.estimate.specs.Estimate.{NextTo}
 use Rattle.estimate.specs.Passes.{placed, since, grouped, before, behind, atBorder, passOf, rowStart, rowZ, rowYZ, Read, Samples, RowStands, Ring}
 use Rattle.estimate.proofs.EstimateLaws.{near-before, near-behind}
 use Rattle.estimate.proofs.PlacedLaws.{placed-length, placed-off, placed-at, placed-front}
-use Rattle.estimate.proofs.PassesLaws.{row-read, row-z-high, row-yz-high, row-z-size, one-order, pass-is}
+use Rattle.estimate.proofs.PassesLaws.{row-read, row-z-high, row-z-size, one-order, pass-is}
 
 behind-top : {count i v : ℕ} → NextTo count i v → v ≤ behind count i
 unfolding behind
@@ -73,7 +73,7 @@ module _ {g : Grid} {xs : List ℤ} (ok : Samples g xs) where
 
   -- the first row of a plane
   pub ring-first : (z : ℕ) (b next : List ℤ) → length b ≡ 576 → next ≡ placed 0 w (rowZ g xs 0 z) b → Ring g xs 0 z next
-  ring-first z b next long e some v l h i =
+  ring-first z b next long e v l h i =
       let d : v ≡ 0 = omega arith in
       rw d (added 0 z b next long (subst (λ (k : ℕ). next ≡ placed k w (rowZ g xs 0 z) b) (sym (mul-zero w)) e))
 
@@ -93,27 +93,26 @@ module _ {g : Grid} {xs : List ℤ} (ok : Samples g xs) where
 
   module _ (u y v : ℕ) {z : ℕ} (low-is : u ≡ before y) (high-is : v ≡ behind (g .cy) y) where
     -- a pass along y over the three
-    pub made : {low mid high : ℕ} {b next : List ℤ} → Three g xs u y v z b low mid high → (r : List ℤ) → length r ≡ 576
+    pub made : {low mid high : ℕ} {b next : List ℤ} → Three g xs u y v z b low mid high → (r : List ℤ) → g .my * w ≤ length r
         → next ≡ placed 0 (g .my * w) (passOf (atBorder (g .cy) y) (g .my) (since b low) (since b mid) (since b high)) r
         → (t : ℕ) → t < g .my * w → at next t ≡ rowYZ g xs y z t
     unfolding rowYZ grouped
-    made {low} {mid} {high} {b} s r long e t i =
+    made {low} {mid} {high} {b} s r room e t i =
         let q : t / g .my < w = high-below (ok .grid .my .0) i in
         ap (λ (b : List ℤ). at b t) e
-        ∙ placed-front (g .my * w) (passOf (atBorder (g .cy) y) (g .my) (since b low) (since b mid) (since b high)) r t i
-        (omega (arith, row-yz-high g (ok .grid)))
+        ∙ placed-front (g .my * w) (passOf (atBorder (g .cy) y) (g .my) (since b low) (since b mid) (since b high)) r t i room
         ∙ rw (s .below .same (t / g .my) q, s .here .same (t / g .my) q, s .above .same (t / g .my) q, low-is, high-is)
         (pass-is (g .my) (g .cy) y (ok .grid .y-used) (λ v. rowZ g xs v z) t)
 
     -- in the ring they stand once the upper one is added
-    module _ (in-y : y < g .cy) (some : g .mz ≡ 1 → ⊥) {b next : List ℤ} (long : length b ≡ 576) (ring : Ring g xs y z b)
+    module _ (in-y : y < g .cy) {b next : List ℤ} (long : length b ≡ 576) (ring : Ring g xs y z b)
         (e : next ≡ placed (slot v) w (rowZ g xs v z) b) where
       stand : (i : ℕ) → NextTo (g .cy) y i → RowStands g xs i z next (slot i)
       stand i near =
           let h = rw (← high-is) at (near-behind (g .cy) y in-y) in
           ⊎-elim (λ (d : i ≡ v). rw d (added v z b next long e))
           (λ (d : i < v). kept v z b next long e i d (omega (arith, h .high, near .low))
-          (ring some i (near .low) (omega (arith, h .high)) (near .there)))
+          (ring i (near .low) (omega (arith, h .high)) (near .there)))
           (eq-or-lt-of-le (rw high-is (behind-top near)))
 
       pub ring-three : Three g xs u y v z next (slot u) (slot y) (slot v)
@@ -125,4 +124,4 @@ module _ {g : Grid} {xs : List ℤ} (ok : Samples g xs) where
           }
 
       pub ring-next : Ring g xs (y + 1) z next
-      ring-next some j l h i = stand j (record { low = omega arith; high = h; there = i })
+      ring-next j l h i = stand j (record { low = omega arith; high = h; there = i })

@@ -1,12 +1,13 @@
 -- The records of a row depend on the numbers of that row only; plane after plane, row after row, they are the records of the definition.
-use mathlib.Core.Path.{_≡_, sym, ap, _∙_}
+use mathlib.Core.Path.{_≡_, refl, sym, ap, _∙_}
 use mathlib.Core.List.{List}
 use Prim.Native.Nat.{ℕ, _+_, _*_, _/_, _%_, _≤_, _<_}
-use native.Mathlib.Nat.{mul-le-mul, mul-le-mul-left, mod-lt, div-add-mod, mod-eq-of-lt, div-eq-of-lt, div-div-eq-div-mul}
+use native.Mathlib.Nat.{zero-add, mul-le-mul, mul-le-mul-left, mod-lt, div-add-mod, mod-eq-of-lt, div-eq-of-lt, div-div-eq-div-mul}
 use native.Mathlib.Decide.{decLt}
 use native.Mathlib.Omega.{arith}
 use lib.Dec.{lit<}
 use lib.IntN.{ℤ}
+use lib.ListN.{length}
 use Rattle.lattice.specs.declared.Shape.{Shape}
 use Rattle.lattice.specs.Shape.{count, size, Shaped}
 use Rattle.lattice.specs.Buffer.{at}
@@ -15,15 +16,15 @@ use Rattle.lattice.proofs.ShapeLaws.{nodes-is}
 use Rattle.lattice.proofs.DigitsLaws.{group-room, high-below, high-digit, low-digit}
 use Rattle.estimate.specs.declared.Grid.{Grid}
 use Rattle.estimate.specs.Estimate.{tableRecords}
-use Rattle.estimate.specs.Passes.{since, grouped, ordersOn, gridOf, rowStart, rowZ, rowYZ, nodeSize, recordSize, rowSize, rowOf, planeSize, planeOf, planesOf, Grids}
+use Rattle.estimate.specs.Passes.{since, grouped, ordersOn, gridOf, rowStart, rowZ, rowYZ, nodeSize, recordSize, rowSize, rowOf, rowOn, planeSize, planeOf, planesOf, Read, Rows, Grids, Samples}
 use Rattle.estimate.proofs.EstimateLaws.{orders-same}
-use Rattle.estimate.proofs.PassesLaws.{one-order}
+use Rattle.estimate.proofs.PassesLaws.{node-high, row-yz-size, one-order}
 use Rattle.estimate.proofs.EntryLaws.{orders-unused, order-count, record-size, entry-is}
 
 -- ---- one row
 
 pub row-same : (g : Grid) → Grids g → (row other : ℕ → ℤ) → ((t : ℕ) → t < g .my * (g .mz * g .cx) → row t ≡ other t) → (t : ℕ)
-    → t < rowSize g → rowOf g row t ≡ rowOf g other t
+    → t < rowSize g → rowOn g row t ≡ rowOn g other t
 unfolding rowOf grouped
 row-same g ok row other same t l =
     let q : ℕ = t / g .mx in
@@ -33,6 +34,23 @@ row-same g ok row other same t l =
     (t % g .mx) (ok .x-low) (high-below some in-q)
     (λ v l. same _ (omega (arith, group-room (nodeSize g) v (g .cx) l, mod-lt q some)))
 
+pub rows-in : (g : Grid) → Grids g → Rows (g .mx) (nodeSize g) (g .cx)
+rows-in g ok =
+    record {
+      orders = ok .mx;
+      size-low = mul-le-mul (ok .my .0) (ok .mz .0);
+      size-high = node-high g ok;
+      count-low = ok .x-low;
+      count-high = ok .x-high;
+    }
+
+-- row (y, z), worked off along z and y, is read
+pub row-seen : {g : Grid} {xs : List ℤ} (ok : Samples g xs) (y z : ℕ) {row : List ℤ}
+    → ((t : ℕ) → t < g .my * (g .mz * g .cx) → at row t ≡ rowYZ g xs y z t) → g .my * (g .mz * g .cx) ≤ length row
+    → Read row 0 (nodeSize g * g .cx)
+row-seen {g} {xs} ok y z {row} is l =
+    record { inside = omega arith; small = λ t i. rw (zero-add t) (rw (is t (omega arith)) (row-yz-size g xs y z t ok)) }
+
 -- one axis: the only row is the samples
 module _ (g : Grid) (xs : List ℤ) (my : g .my ≡ 1) (mz : g .mz ≡ 1) where
   line-row : (t : ℕ) → rowYZ g xs 0 0 t ≡ at xs t
@@ -41,12 +59,17 @@ module _ (g : Grid) (xs : List ℤ) (my : g .my ≡ 1) (mz : g .mz ≡ 1) where
       one-order (g .my) my (g .cy) (λ v. rowZ g xs v 0) 0 t ∙ one-order (g .mz) mz (g .cz) (λ v. since xs (rowStart g 0 v)) 0 t
       ∙ ap (at xs) (omega arith)
 
-  pub line-rows : Grids g → (t : ℕ) → t < rowSize g → rowOf g (at xs) t ≡ planesOf g xs t
+  pub line-rows : Grids g → (t : ℕ) → t < rowSize g → rowOn g (at xs) t ≡ planesOf g xs t
   unfolding planesOf planeOf grouped
   line-rows ok t l =
       let p : t < planeSize g = omega (arith, mul-le-mul-left (rowSize g) (ok .y-low)) in
       rw (div-eq-of-lt p, mod-eq-of-lt p, div-eq-of-lt l, mod-eq-of-lt l)
       (row-same g ok (at xs) (rowYZ g xs 0 0) (λ i k. sym (line-row i)) t l)
+
+-- two axes: the only plane
+pub sheet-planes : (g : Grid) (xs : List ℤ) (t : ℕ) → t < planeSize g → planeOf g xs 0 t ≡ planesOf g xs t
+unfolding planesOf grouped
+sheet-planes g xs t l = rw (div-eq-of-lt l, mod-eq-of-lt l) refl
 
 -- ---- the records of the definition
 

@@ -84,9 +84,12 @@ rowYZ g xs y z = ordersOfRow (g .my) (g .cy) (λ v. rowZ g xs v z) y
 abbrev pub nodeSize : Grid → ℕ
 nodeSize g = g .my * g .mz
 
--- the records of a row: its numbers, worked off along x
-unfoldable pub rowOf : Grid → (ℕ → ℤ) → ℕ → ℤ
-rowOf g row = grouped (g .mx) (λ q. ordersAt (g .cx) (λ v. row (nodeSize g * v + q % nodeSize g)) (q / nodeSize g))
+-- the records of a row, `size` numbers at each of `count` nodes: worked off along x
+unfoldable pub rowOf : ℕ → ℕ → ℕ → (ℕ → ℤ) → ℕ → ℤ
+rowOf m size count row = grouped m (λ q. ordersAt count (λ v. row (size * v + q % size)) (q / size))
+
+abbrev pub rowOn : Grid → (ℕ → ℤ) → ℕ → ℤ
+rowOn g = rowOf (g .mx) (nodeSize g) (g .cx)
 
 -- the entries of one record, of the records of one row, and of one plane
 abbrev pub recordSize : Grid → ℕ
@@ -100,7 +103,7 @@ planeSize g = rowSize g * g .cy
 
 -- the records of plane z, row after row
 unfoldable pub planeOf : Grid → List ℤ → ℕ → ℕ → ℤ
-planeOf g xs z = grouped (rowSize g) (λ y. rowOf g (rowYZ g xs y z))
+planeOf g xs z = grouped (rowSize g) (λ y. rowOn g (rowYZ g xs y z))
 
 -- the records of all planes
 unfoldable pub planesOf : Grid → List ℤ → ℕ → ℤ
@@ -120,6 +123,14 @@ OrderCount m = (1 ≤ m) × (m ≤ 3)
 pub record Read (xs : List ℤ) (low count : ℕ) : Type 0 where
   pub inside : low + count ≤ length xs
   pub small : (t : ℕ) → t < count → natAbs (since xs low t) ≤ passLimit
+
+-- the ranges of a row
+pub record Rows (m size count : ℕ) : Type 0 where
+  pub orders : OrderCount m
+  pub size-low : 1 ≤ size
+  pub size-high : size ≤ 9
+  pub count-low : 2 ≤ count
+  pub count-high : count ≤ 64
 
 -- the ranges of a grid; an axis with more orders than the value has two nodes
 pub record Grids (g : Grid) : Type 0 where
@@ -145,6 +156,6 @@ pub record RowStands (g : Grid) (xs : List ℤ) (v z : ℕ) (b : List ℤ) (k : 
   pub inside : k + g .mz * g .cx ≤ length b
   pub same : (t : ℕ) → t < g .mz * g .cx → since b k t ≡ rowZ g xs v z t
 
--- on three axes row y and the row below it stand in the ring, each at its number's slot
+-- row y and the row below it stand in the ring, each at its number's slot
 abbrev pub Ring : Grid → List ℤ → ℕ → ℕ → List ℤ → Type 0
-Ring g xs y z b = (g .mz ≡ 1 → ⊥) → (v : ℕ) → y ≤ v + 1 → v ≤ y → v < g .cy → RowStands g xs v z b (g .mz * g .cx * (v % 3))
+Ring g xs y z b = (v : ℕ) → y ≤ v + 1 → v ≤ y → v < g .cy → RowStands g xs v z b (g .mz * g .cx * (v % 3))

@@ -8,7 +8,7 @@ ghost use Rattle.lattice.specs.Answers.{outcomeOf};
 ghost use Rattle.lattice.specs.Buffer.{at, overwrite};
 ghost use Rattle.lattice.specs.Records.{limitOutcome};
 ghost use Rattle.estimate.specs.Estimate.{byOrder, recordsOf, estimateLimit, estimateOutcome, estimateWrites, Estimable};
-ghost use Rattle.estimate.specs.Passes.{passLimit, placed, since, before, behind, atBorder, passOf, ordersOn, gridOf, rowStart, rowZ, rowYZ, rowSize, rowOf, planeSize, planeOf, planesOf, OrderCount, Read, Grids, Samples, Ring};
+ghost use Rattle.estimate.specs.Passes.{passLimit, placed, since, before, behind, atBorder, passOf, ordersOn, gridOf, rowStart, rowZ, rowYZ, rowOf, planeSize, planeOf, planesOf, OrderCount, Read, Rows, Grids, Samples, Ring};
 use lattice::Check;
 use lattice::Shape;
 
@@ -196,7 +196,18 @@ fn row_z(g: Grid, xs: &[i32], y: usize, z: usize, out: &mut [i32], k: usize)
     pass(at_border(g.cz, z), g.mz, xs, low, mid, high, g.cx, out, k)
 }
 
-// One row, worked off along z and y. On three axes it is made of rows of the ring, to which the row above it is added; on two, of the samples.
+// One row of a table of two axes, worked off along y.
+fn row_y(g: Grid, xs: &[i32], y: usize, row: &mut [i32])
+    requires { ⌜ Samples g (now xs) × (y < g .cy) × (g .mz ≡ 1) × (g .cz ≡ 1) × (g .my * g .cx ≤ length (now row)) ⌝ }
+    ensures { λ _. ⌜ ((t : ℕ) → t < g .my * (g .mz * g .cx) → at (now (row .exit)) t ≡ rowYZ g (now (xs .entry)) y 0 t) ⌝ }
+{
+    let low = row_start(g, node_before(y), 0);
+    let mid = row_start(g, y, 0);
+    let high = row_start(g, node_behind(g.cy, y), 0);
+    pass(at_border(g.cy, y), g.my, xs, low, mid, high, g.cx, row, 0)
+}
+
+// One row of a table of three axes, worked off along z and y: made of rows of the ring, to which the row above it is added.
 fn row_yz(g: Grid, xs: &[i32], y: usize, z: usize, ring: &mut [i32], row: &mut [i32])
     requires { ⌜ Samples g (now xs) × (y < g .cy) × (z < g .cz) ⌝ }
     requires { ⌜ (length (now ring) ≡ 576) × (length (now row) ≡ 576) × Ring g (now xs) y z (now ring) ⌝ }
@@ -207,58 +218,59 @@ fn row_yz(g: Grid, xs: &[i32], y: usize, z: usize, ring: &mut [i32], row: &mut [
     let above = node_behind(g.cy, y);
     let border = at_border(g.cy, y);
     let w = g.mz * g.cx;
-    if g.mz == 1 {
-        let low = row_start(g, below, z);
-        let mid = row_start(g, y, z);
-        let high = row_start(g, above, z);
-        pass(border, g.my, xs, low, mid, high, w, row, 0)
-    } else {
-        let high = w * (above % 3);
-        row_z(g, xs, above, z, ring, high);
-        pass(
-            border,
-            g.my,
-            ring,
-            w * (below % 3),
-            w * (y % 3),
-            high,
-            w,
-            row,
-            0,
-        )
-    }
+    let high = w * (above % 3);
+    row_z(g, xs, above, z, ring, high);
+    pass(
+        border,
+        g.my,
+        ring,
+        w * (below % 3),
+        w * (y % 3),
+        high,
+        w,
+        row,
+        0,
+    )
 }
 
-// The records of one row, which is worked off along z and y.
-fn fill_row(g: Grid, row: &[i32], out: &mut [i32], k: usize)
-    requires { ⌜ Grids g × (k + rowSize g ≤ length (now out)) ⌝ }
-    requires { ⌜ Read (now row) 0 (g .my * g .mz * g .cx) ⌝ }
-    ensures { λ _. ⌜ now (out .exit) ≡ placed k (rowSize g) (rowOf g (at (now (row .entry)))) (now (out .entry)) ⌝ }
+// The records of one row, which is worked off along z and y: `size` numbers at each of `count` nodes.
+fn fill_row(m: usize, size: usize, count: usize, row: &[i32], out: &mut [i32], k: usize)
+    requires { ⌜ Rows m size count × (k + m * size * count ≤ length (now out)) ⌝ }
+    requires { ⌜ Read (now row) 0 (size * count) ⌝ }
+    ensures { λ _. ⌜ now (out .exit) ≡ placed k (m * size * count) (rowOf m size count (at (now (row .entry)))) (now (out .entry)) ⌝ }
 {
-    let size = g.my * g.mz;
-    let inner = size * (g.cx - 2);
+    let inner = size * (count - 2);
     let last = inner + size;
-    let p = k + g.mx * size;
-    let q = p + g.mx * inner;
-    pass(true, g.mx, row, 0, 0, size, size, out, k);
-    pass(false, g.mx, row, 0, size, 2 * size, inner, out, p);
-    pass(true, g.mx, row, inner, last, last, size, out, q)
+    let p = k + m * size;
+    let q = p + m * inner;
+    pass(true, m, row, 0, 0, size, size, out, k);
+    pass(false, m, row, 0, size, 2 * size, inner, out, p);
+    pass(true, m, row, inner, last, last, size, out, q)
 }
 
 // The records of one plane, row after row. Row v, worked off along z, stands in the ring's slot v % 3.
-fn fill_plane(g: Grid, xs: &[i32], z: usize, out: &mut [i32], k: usize)
+fn fill_plane(
+    g: Grid,
+    xs: &[i32],
+    z: usize,
+    ring: &mut [i32; 576],
+    row: &mut [i32; 576],
+    out: &mut [i32],
+    k: usize,
+)
     requires { ⌜ Samples g (now xs) × (z < g .cz) × (k + planeSize g ≤ length (now out)) ⌝ }
+    requires { ⌜ (length (now ring) ≡ 576) × (length (now row) ≡ 576) ⌝ }
     ensures { λ _. ⌜ now (out .exit) ≡ placed k (planeSize g) (planeOf g (now (xs .entry)) z) (now (out .entry)) ⌝ }
+    ensures { λ _. ⌜ (length (now (ring .exit)) ≡ 576) × (length (now (row .exit)) ≡ 576) ⌝ }
 {
-    let step = g.mx * (g.my * g.mz) * g.cx;
-    let mut ring = [0i32; 576];
-    let mut row = [0i32; 576];
-    row_z(g, xs, 0, z, &mut ring, 0);
+    let size = g.my * g.mz;
+    let step = g.mx * size * g.cx;
+    row_z(g, xs, 0, z, ring, 0);
     let mut p = k;
     let mut y: usize = 0;
     while y < g.cy {
-        row_yz(g, xs, y, z, &mut ring, &mut row);
-        fill_row(g, &row, out, p);
+        row_yz(g, xs, y, z, ring, row);
+        fill_row(g.mx, size, g.cx, row, out, p);
         p += step;
         y += 1;
     }
@@ -270,12 +282,31 @@ fn fill_planes(g: Grid, xs: &[i32], out: &mut [i32])
     ensures { λ _. ⌜ now (out .exit) ≡ placed 0 (planeSize g * g .cz) (planesOf g (now (xs .entry))) (now (out .entry)) ⌝ }
 {
     let step = g.mx * (g.my * g.mz) * g.cx * g.cy;
+    let mut ring = [0i32; 576];
+    let mut row = [0i32; 576];
     let mut p: usize = 0;
     let mut z: usize = 0;
     while z < g.cz {
-        fill_plane(g, xs, z, out, p);
+        fill_plane(g, xs, z, &mut ring, &mut row, out, p);
         p += step;
         z += 1;
+    }
+}
+
+// The records of a table of two axes, row after row. What lies behind them stays.
+fn fill_sheet(g: Grid, xs: &[i32], out: &mut [i32])
+    requires { ⌜ Samples g (now xs) × (g .mz ≡ 1) × (g .cz ≡ 1) × (planeSize g ≤ length (now out)) ⌝ }
+    ensures { λ _. ⌜ now (out .exit) ≡ placed 0 (planeSize g) (planeOf g (now (xs .entry)) 0) (now (out .entry)) ⌝ }
+{
+    let step = g.mx * g.my * g.cx;
+    let mut row = [0i32; 192];
+    let mut p: usize = 0;
+    let mut y: usize = 0;
+    while y < g.cy {
+        row_y(g, xs, y, &mut row);
+        fill_row(g.mx, g.my, g.cx, &row, out, p);
+        p += step;
+        y += 1;
     }
 }
 
@@ -284,11 +315,13 @@ fn fill_records(s: Shape, samples: &[i32], records: &mut [i32])
     requires { ⌜ Estimable s (now samples) (length (now records)) ⌝ }
     ensures { λ _. ⌜ now (records .exit) ≡ overwrite (recordsOf s (now (samples .entry))) (now (records .entry)) ⌝ }
 {
-    let g = grid_of(s);
     if s.axes == 1 {
-        fill_row(g, samples, records, 0)
+        let m = lattice::orders(s.degree);
+        fill_row(m, 1, s.counts[0] as usize, samples, records, 0)
+    } else if s.axes == 2 {
+        fill_sheet(grid_of(s), samples, records)
     } else {
-        fill_planes(g, samples, records)
+        fill_planes(grid_of(s), samples, records)
     }
 }
 
