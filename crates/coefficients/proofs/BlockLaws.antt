@@ -7,19 +7,21 @@ use native.Mathlib.Nat.{le-trans, le-of-eq, lt-of-lt-of-le, mul-le-mul-right, po
 use native.Mathlib.Decide.{ℕ-discrete}
 use native.Mathlib.Omega.{arith}
 use lib.Pow.{pow-mono}
-use lib.Dec.{eqb, lit<, lit≤}
+use lib.Dec.{lit<, lit≤}
 use lib.IntN.{ℤ}
 use lib.ListN.{length}
+use Rattle.arith.proofs.Choices.{by-m}
 use Rattle.lattice.specs.Buffer.{at}
-use Rattle.lattice.specs.Digits.{digit}
 use Rattle.lattice.specs.Flat.{pass}
 use Rattle.lattice.proofs.Local.{Depends}
 use Rattle.lattice.proofs.PassesLaws.{passes, passes-sweep, pass-same, passes-size, some-groups, place-in}
 use Rattle.lattice.proofs.ShapeLaws.{pow-range}
 use Rattle.lattice.proofs.DigitsLaws.{high-digit, low-digit, pair-in, group-room}
+use Rattle.hermite.specs.Hermite.{endRule}
 use Rattle.hermite.proofs.EndLaws.{end-depends, end-size}
 use Rattle.cell.specs.Coefficients.{coefficientCount}
-use Rattle.coefficients.specs.Blocks.{Sizes, ruleAt, converted, AllWithin, StartsWith, scatter}
+use Rattle.coefficients.specs.declared.Row.{Row}
+use Rattle.coefficients.specs.Blocks.{Sizes, RowOf, solvedBlock, AllWithin, StartsWith, scatter}
 use Rattle.coefficients.proofs.SpotLaws.{scatter-off, scatter-at}
 
 -- ---- sizes
@@ -61,6 +63,23 @@ module _ {m n r : ℕ} (ok : Sizes m n r) where
   pub in-groups : (k : ℕ) → k < m ^ n → k < m * r
   in-groups k l = rw (ok .groups-are) l
 
+-- rows: the first, and their orders along y and z are below m
+pub first-row : (m : ℕ) → 0 < m → RowOf m 0 (record { y = 0; z = 0 })
+first-row m some = record { number-is = (let e : 0 ≡ m * 0 + 0 = omega arith in e); low = some }
+
+module _ {m n r : ℕ} (ok : Sizes m n r) where
+  rows-few : r ≤ m * m
+  rows-few =
+      by-m (λ m. m * r ≡ m ^ n → r ≤ m * m)
+      (λ e. let h = pow-le-pow-right {n = 2} (lit< tt) {i = n} {j = 3} (ok .axes-high) in omega arith)
+      (λ e. let h = pow-le-pow-right {n = 3} (lit< tt) {i = n} {j = 3} (ok .axes-high) in omega arith)
+      m (ok .orders-low) (ok .orders-high) (ok .groups-are)
+
+  pub row-orders : (g : ℕ) (o : Row) → g < r → RowOf m g o → o .z < m
+  row-orders g o l row =
+      by-m (λ m. r ≤ m * m → g ≡ m * o .z + o .y → o .z < m) (λ a b. omega arith) (λ a b. omega arith)
+      m (ok .orders-low) (ok .orders-high) rows-few (row .number-is)
+
 -- ---- one pass
 
 -- row k of the results holds what becomes of number k of each group
@@ -77,7 +96,7 @@ module _ (m r : ℕ) (R : ℕ → ℕ → ℤ) where
       go (yes e) =
           rw e
           (scatter-at (λ k. r * k + g) z old k m l (let p = pair-in r k g hg m l in omega arith)
-          (λ i p. sym (high-digit r k g hg) ∙ ap (λ (x : ℕ). x / r) p ∙ high-digit r i g hg) ∙ is k l)
+          (λ i q p. sym (high-digit r k g hg) ∙ ap (λ (x : ℕ). x / r) p ∙ high-digit r i g hg) ∙ is k l)
       go (no n) =
           let p : j < g = omega arith in
           scatter-off (λ k. r * k + g) z old (r * k + j) m
@@ -88,24 +107,24 @@ module _ (m r : ℕ) (R : ℕ → ℕ → ℤ) where
 
 -- ---- all axes
 
-module _ (back : Bool) {m n r : ℕ} (ok : Sizes m n r) (c : ℕ) (xs : ℕ → ℤ) where
+module _ (back : Bool) {m n r : ℕ} (ok : Sizes m n r) (xs : ℕ → ℤ) where
   -- an array after i passes
   abbrev pub After : ℕ → List ℤ → Type 0
-  After i zs = StartsWith (m * r) (passes m r (ruleAt back m c) i xs) zs
+  After i zs = StartsWith (m * r) (passes m r (λ a. endRule back m) i xs) zs
 
-  depends : (i : ℕ) → Depends (ruleAt back m c i) (λ j. j < m) (λ t. t < m)
-  depends i = end-depends back m (ok .orders-low) (ok .orders-high) (eqb (digit (λ b. 2) c i) 1)
+  depends : Depends (endRule back m) (λ j. j < m) (λ t. t < m)
+  depends = end-depends back m (ok .orders-low) (ok .orders-high)
 
-  pub after-first : (zs : List ℤ) → StartsWith (m * r) (pass m r (ruleAt back m c 0) xs) zs → After 1 zs
+  pub after-first : (zs : List ℤ) → StartsWith (m * r) (pass m r (endRule back m) xs) zs → After 1 zs
   unfolding passes
   after-first zs z = z
 
-  pub after-next : (i : ℕ) (ys zs : List ℤ) → After i ys → StartsWith (m * r) (pass m r (ruleAt back m c i) (at ys)) zs → After (suc i) zs
+  pub after-next : (i : ℕ) (ys zs : List ℤ) → After i ys → StartsWith (m * r) (pass m r (endRule back m) (at ys)) zs → After (suc i) zs
   unfolding passes
   after-next i ys zs h z = record {
     long = z .long;
     is = λ k l. z .is k l
-        ∙ pass-same m r (ruleAt back m c i) (depends i) (at ys) (passes m r (ruleAt back m c) i xs) (h .is) k l;
+        ∙ pass-same m r (endRule back m) depends (at ys) (passes m r (λ a. endRule back m) i xs) (h .is) k l;
   }
 
   -- no pass is beyond 64 bits
@@ -113,20 +132,20 @@ module _ (back : Bool) {m n r : ℕ} (ok : Sizes m n r) (c : ℕ) (xs : ℕ → 
   after-low h i l zs z k q =
       rw (z .is k q)
       (le-trans
-      (passes-size m r (ruleAt back m c) 32
-      (λ a x B j p e. end-size back m (ok .orders-low) (ok .orders-high) (eqb (digit (λ b. 2) c a) 1) x B j p e) xs (2 ^ 31)
+      (passes-size m r (λ a. endRule back m) 32
+      (λ a x B j p e. end-size back m (ok .orders-low) (ok .orders-high) x B j p e) xs (2 ^ 31)
       (λ k q. h k (subst (λ (e : ℕ). k < e) (ok .groups-are) q)) i k q)
       (le-trans (mul-le-mul-right (2 ^ 31) (pow-le-pow-right {n = 32} (lit< tt) {i = i} {j = 3} l)) (lit≤ tt)))
 
   -- as many passes as there are axes
   pub after-all : AllWithin (2 ^ 31) (m ^ n) xs → (i : ℕ) → i ≡ n → (zs : List ℤ) → After i zs
-      → StartsWith (m ^ n) (converted back m n c xs) zs × AllWithin (2 ^ 50) (m ^ n) (at zs)
-  unfolding converted
+      → StartsWith (m ^ n) (solvedBlock back m n xs) zs × AllWithin (2 ^ 50) (m ^ n) (at zs)
+  unfolding solvedBlock
   after-all h i e zs z = (
     record {
       long = z .long;
-      is = λ k l. z .is k (in-groups ok k l) ∙ ap (λ (j : ℕ). passes m r (ruleAt back m c) j xs k) e
-          ∙ passes-sweep m n r (orders-some ok) (groups-is ok) (ruleAt back m c) depends xs k l;
+      is = λ k l. z .is k (in-groups ok k l) ∙ ap (λ (j : ℕ). passes m r (λ a. endRule back m) j xs k) e
+          ∙ passes-sweep m n r (orders-some ok) (groups-is ok) (λ a. endRule back m) (λ i. depends) xs k l;
     },
     λ k l. after-low h i (subst (λ (j : ℕ). j ≤ 3) (sym e) (ok .axes-high)) zs z k (in-groups ok k l),
   )

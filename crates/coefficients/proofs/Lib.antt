@@ -1,5 +1,6 @@
 pub mod Below
 pub mod Sizes
+pub mod SignLaws
 pub mod SpotLaws
 pub mod BlockLaws
 pub mod ConvertLaws

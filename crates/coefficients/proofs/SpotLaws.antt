@@ -1,29 +1,28 @@
--- Where the coefficients of the corners stand: every coefficient belongs to one number of one corner; after any number of them these stand
--- and all others are 0.
+-- Where the coefficients of the corners stand: every coefficient belongs to one number of one corner; after any number of corners in the
+-- order of the listings theirs stand and all other numbers are 0.
 use mathlib.Core.Path.{_≡_, refl, sym, ap, subst, _∙_, fun-ext}
-use mathlib.Core.Bool.{Bool}
 use mathlib.Core.List.{List}
-use Prim.Native.Nat.{ℕ, zero, suc, _+_, _*_, _-_, _%_, _^_, _≤_, _<_, zero-le}
-use native.Mathlib.Nat.{add-zero, add-suc, le-refl, mul-comm, not-suc-le-zero}
+use Prim.Native.Nat.{ℕ, zero, suc, _+_, _*_, _-_, _/_, _%_, _^_, _≤_, _<_}
+use native.Mathlib.Nat.{add-zero, add-suc, not-suc-le-zero, div-eq-of-lt, div-add-mod, mod-lt}
 use native.Mathlib.Numerals.{add-one}
 use native.Mathlib.Decide.{ℕ-discrete, decLt}
 use native.Mathlib.Omega.{arith}
-use lib.Dec.{ltb, lit≤}
+use lib.Dec.{ltb, lit<, lit≤}
 use lib.IntN.{ℤ, pos}
 use lib.ListN.{length, set, length-set}
 use lib.Seq.{getD-set-same, getD-set-other}
 use borrow.Author.Tests.{lt-ltb, le-ltb}
 use Rattle.arith.specs.Choice.{pick}
-use Rattle.arith.proofs.Choices.{pick-true, pick-false}
+use Rattle.arith.proofs.Choices.{pick-true, pick-false, by-2}
 use Rattle.lattice.specs.Buffer.{at}
 use Rattle.lattice.specs.Digits.{number, digit}
 use Rattle.lattice.specs.Axes.{Place}
-use Rattle.lattice.proofs.DigitsLaws.{Digits, digits-in, number-in, of-digits, of-number, high-digit, low-digit, pair-in, next-group}
+use Rattle.lattice.proofs.DigitsLaws.{digit-below, Digits, digits-in, number-in, of-digits, of-number, high-digit, low-digit, pair-in}
 use Rattle.cell.specs.Coefficients.{coefficientCount}
 use Rattle.cell.specs.Corners.{cornerNumbers, cornerEntry}
 use Rattle.cell.proofs.CellLaws.{number-is}
-use Rattle.cell.proofs.NumberLaws.{count-split, numbers-in, numbers-entry, entry-numbers, entry-in}
-use Rattle.coefficients.specs.Blocks.{coefficientNumber, blockNumbers, coefficientIndex, scatter, fillingOrder, Filled}
+use Rattle.cell.proofs.NumberLaws.{record-some, corner-low, count-split, numbers-in, numbers-entry, entry-numbers, entry-in}
+use Rattle.coefficients.specs.Blocks.{coefficientNumber, blockNumbers, coefficientIndex, scatter, reversed, cornerAt, turnOf, Filled}
 
 -- ---- counting from an end
 
@@ -54,6 +53,16 @@ module _ (m : ℕ) where
           ap (coefficientNumber m) (mirror-high t e) ∙ mirror-high (3 * m - 1 - t) (omega arith)
           ∙ (let z : 3 * m - 1 - (3 * m - 1 - t) ≡ t = omega arith in z)
 
+  -- the end of a coefficient
+  end-of : (e t : ℕ) → e < 2 → t < m → coefficientNumber m (m * e + t) / m ≡ e
+  end-of zero t l h =
+      let z : m * 0 + t ≡ t = omega arith in
+      ap (λ (i : ℕ). coefficientNumber m i / m) z ∙ ap (λ (i : ℕ). i / m) (mirror-low t h) ∙ div-eq-of-lt h
+  end-of (suc zero) t l h =
+      let w : 3 * m - 1 - (m * 1 + t) ≡ m * 1 + (m - 1 - t) = omega arith in
+      ap (λ (i : ℕ). i / m) (mirror-high (m * 1 + t) (omega arith) ∙ w) ∙ high-digit m 1 (m - 1 - t) (omega arith)
+  end-of (suc (suc e)) t l h = absurd (omega arith)
+
   pub mirror-digits : (n : ℕ) → 0 < m → (p : Place) → Digits n (2 * m) p → Digits n (2 * m) (λ a. coefficientNumber m (p a))
   mirror-digits n some p d =
       record { used = λ a l. mirror-in (p a) (d .used a l); unused = λ a l. ap (coefficientNumber m) (d .unused a l) ∙ mirror-low 0 some }
@@ -80,15 +89,17 @@ module _ (m n : ℕ) (some : 0 < m) where
           let e = d .unused a (omega (arith, l)) in
           mirror-twice m (p a) (let z = d .unused a (omega (arith, l)) in omega arith)
 
-  turn-spot : (i : ℕ) → i < coefficientCount m n → fillingOrder m n (spotOf i) ≡ i
-  unfolding fillingOrder
-  turn-spot i l =
+  -- the entry of a coefficient
+  abbrev entryAt : ℕ → ℕ
+  entryAt K = cornerEntry m n (λ a. coefficientNumber m (digit (λ b. 2 * m) K a))
+
+  entry-spot : (i : ℕ) → i < coefficientCount m n → entryAt (spotOf i) ≡ i
+  entry-spot i l =
       ap (λ (p : Place). cornerEntry m n (λ a. coefficientNumber m (p a))) (of-number n (2 * m) _ (mirrored-in i l))
       ∙ ap (cornerEntry m n) (same-mirrored (cornerNumbers m n i) (numbers-in m n some i l)) ∙ entry-numbers m n some i l
 
-  spot-turn : (K : ℕ) → K < coefficientCount m n → spotOf (fillingOrder m n K) ≡ K
-  unfolding fillingOrder
-  spot-turn K l =
+  spot-entry : (K : ℕ) → K < coefficientCount m n → spotOf (entryAt K) ≡ K
+  spot-entry K l =
       let two : 0 < 2 * m = omega arith in
       let d = digits-in n (2 * m) K two l in
       ap (λ (p : Place). number n (λ b. 2 * m) (λ a. coefficientNumber m (p a)))
@@ -120,6 +131,16 @@ module _ (m n : ℕ) (some : 0 < m) where
       spot-is : coefficientIndex m c k ≡ spotOf (m ^ n * c + k)
       spot-is = spot-number ∙ ap (λ (p : Place). number n (λ b. 2 * m) (λ a. coefficientNumber m (p a))) (sym numbers-are)
 
+      -- the turn of its corner
+      turn-is : turnOf m n (coefficientIndex m c k) ≡ cornerAt n c
+      unfolding turnOf cornerAt blockNumbers
+      turn-is =
+          ap (reversed n)
+          (fun-ext (λ a.
+          ap (λ (p : Place). p a / m) (ap (digit (λ b. 2 * m)) spot-number
+          ∙ of-number n (2 * m) (λ a. coefficientNumber m (blockNumbers m c k a)) (mirror-digits m n some (blockNumbers m c k) block-in))
+          ∙ end-of m (digit (λ b. 2) c a) (digit (λ b. m) k a) (digit-below (λ b. 2) c a (lit< tt)) (digit-below (λ b. m) k a some)))
+
       pub spot-in : coefficientIndex m c k < coefficientCount m n
       spot-in = rw spot-is (spot-low (m ^ n * c + k) entry-of)
 
@@ -139,22 +160,32 @@ scatter-off place f old i (suc n) h = getD-set-other (scatter n place f old) (pl
     ∙ scatter-off place f old i n (λ k l. h k (omega arith))
 
 pub scatter-at : (place : ℕ → ℕ) (f : ℕ → ℤ) (old : List ℤ) (k n : ℕ) → k < n → place k < length old
-    → ((j : ℕ) → place k ≡ place j → k ≡ j) → at (scatter n place f old) (place k) ≡ f k
+    → ((j : ℕ) → j < n → place k ≡ place j → k ≡ j) → at (scatter n place f old) (place k) ≡ f k
 unfolding scatter
 scatter-at place f old k zero l room one = absurd (not-suc-le-zero l)
-scatter-at place f old k (suc n) l room one = go (λ h. scatter-at place f old k n h room one) (ℕ-discrete k n)
+scatter-at place f old k (suc n) l room one = go (λ h. scatter-at place f old k n h room (λ j q. one j (omega arith))) (ℕ-discrete k n)
   where
     go : (k < n → at (scatter n place f old) (place k) ≡ f k) → Dec (k ≡ n)
         → at (set (scatter n place f old) (place n) (f n)) (place k) ≡ f k
     go before (yes e) = rw e (getD-set-same (scatter n place f old) (place n) (f n) (pos 0)
         (rw (scatter-length place f old n) (subst (λ (i : ℕ). place i < length old) e room)))
-    go before (no e) = getD-set-other (scatter n place f old) (place n) (place k) (f n) (pos 0) (λ p. e (one n p)) ∙ before (omega arith)
+    go before (no e) = getD-set-other (scatter n place f old) (place n) (place k) (f n) (pos 0) (λ p. e (one n (omega arith) p))
+        ∙ before (omega arith)
 
 -- one number more, as code writes it
 pub scatter-more : (place : ℕ → ℕ) (f : ℕ → ℤ) (old now : List ℤ) (k p : ℕ) (v : ℤ) → now ≡ scatter k place f old → p ≡ place k → v ≡ f k
     → set now p v ≡ scatter (k + 1) place f old
 unfolding scatter
 scatter-more place f old now k p v e q h = rw (e, q, h) (ap (λ (i : ℕ). scatter i place f old) (sym (add-one k)))
+
+-- the same numbers
+pub scatter-same : (place : ℕ → ℕ) (f g : ℕ → ℤ) (old : List ℤ) (n : ℕ) → ((k : ℕ) → k < n → f k ≡ g k)
+    → scatter n place f old ≡ scatter n place g old
+unfolding scatter
+scatter-same place f g old zero h = refl
+scatter-same place f g old (suc n) h =
+    ap (λ (xs : List ℤ). set xs (place n) (f n)) (scatter-same place f g old n (λ k l. h k (omega arith)))
+    ∙ ap (λ z. set (scatter n place g old) (place n) z) (h n (omega arith))
 
 -- some numbers, then more
 pub scatter-add : (place : ℕ → ℕ) (f : ℕ → ℤ) (old : List ℤ) (i n : ℕ)
@@ -164,63 +195,146 @@ scatter-add place f old i zero = ap (λ (k : ℕ). scatter k place f old) (sym (
 scatter-add place f old i (suc n) = ap (λ (xs : List ℤ). set xs (place (i + n)) (f (i + n))) (scatter-add place f old i n)
     ∙ ap (λ (k : ℕ). scatter k place f old) (sym (add-suc i n))
 
--- a test that only one more number passes
-next-test : (i k : ℕ) → (i ≡ k → ⊥) → ltb i (suc k) ≡ ltb i k
-next-test i k n = go (decLt i k)
-  where
-    go : Dec (i < k) → ltb i (suc k) ≡ ltb i k
-    go (yes h) = lt-ltb i (suc k) (omega arith) ∙ sym (lt-ltb i k h)
-    go (no h) = le-ltb i (suc k) (omega (arith, h)) ∙ sym (le-ltb i k (omega (arith, h)))
+-- ---- the corners in turn
 
-module _ (m n : ℕ) (some : 0 < m) (f : ℕ → ℤ) where
-  -- one coefficient more
-  stands-more : (i : ℕ) (xs : List ℤ) (v : ℤ) → i < coefficientCount m n → coefficientCount m n ≤ length xs → v ≡ f (spotOf m n some i)
-      → Filled m n f i xs → Filled m n f (suc i) (set xs (spotOf m n some i) v)
-  stands-more i xs v l long e h K hk = go (ℕ-discrete K (spotOf m n some i))
-    where
-      s : ℕ
-      s = spotOf m n some i
+-- what is asked of a turn
+record Turn (n i : ℕ) : Type 0 where
+  back : cornerAt n (cornerAt n i) ≡ i
+  below : cornerAt n i < 2 ^ n
 
-      go : Dec (K ≡ s) → at (set xs s v) K ≡ pick (ltb (fillingOrder m n K) (suc i)) (f K) (pos 0)
-      go (yes p) =
-          let turn : fillingOrder m n K ≡ i = ap (fillingOrder m n) p ∙ turn-spot m n some i l in
-          ap (at (set xs s v)) p ∙ getD-set-same xs s v (pos 0) (let z = spot-low m n some i l in omega arith) ∙ e ∙ ap f (sym p)
-          ∙ sym (pick-true (ltb (fillingOrder m n K) (suc i)) (f K) (pos 0) (lt-ltb (fillingOrder m n K) (suc i) (omega arith)))
-      go (no p) =
-          getD-set-other xs s K v (pos 0) p ∙ h K hk
-          ∙ ap (λ (t : Bool). pick t (f K) (pos 0))
-          (sym (next-test (fillingOrder m n K) i (λ q. p (sym (spot-turn m n some K hk) ∙ ap (spotOf m n some) q))))
+turn-1 : (i : ℕ) → i < 2 → Turn 1 i
+unfolding cornerAt reversed number digit
+turn-1 = by-2 (Turn 1) (record { back = refl; below = lit< tt }) (record { back = refl; below = lit< tt })
 
-  -- a corner's block more
-  module _ (low : 1 ≤ n) (high : n ≤ 3) (c : ℕ) (hc : c < 2 ^ n) (F : ℕ → ℤ) (old : List ℤ) (long : coefficientCount m n ≤ length old)
-      (is : (k : ℕ) → k < m ^ n → F k ≡ f (coefficientIndex m c k)) (h : Filled m n f (m ^ n * c) old) where
-    stands-part : (k : ℕ) → k ≤ m ^ n → Filled m n f (m ^ n * c + k) (scatter k (coefficientIndex m c) F old)
-    unfolding scatter
-    stands-part zero l = subst (λ (i : ℕ). Filled m n f i old) (sym (add-zero (m ^ n * c))) h
-    stands-part (suc k) l =
-        let hk : k < m ^ n = omega arith in
-        let e = spot-is m n some c k hc hk low high in
-        subst (λ (i : ℕ). Filled m n f i (set (scatter k (coefficientIndex m c) F old) (coefficientIndex m c k) (F k)))
-        (sym (add-suc (m ^ n * c) k))
-        (subst (λ (j : ℕ). Filled m n f (suc (m ^ n * c + k)) (set (scatter k (coefficientIndex m c) F old) j (F k))) (sym e)
-        (stands-more (m ^ n * c + k) (scatter k (coefficientIndex m c) F old) (F k) (entry-of m n some c k hc hk)
-        (rw (scatter-length (coefficientIndex m c) F old k) long) (is k hk ∙ ap f e) (stands-part k (omega arith))))
+turn-2 : (i : ℕ) → i < 4 → Turn 2 i
+unfolding cornerAt reversed number digit
+turn-2 zero l = record { back = refl; below = lit< tt }
+turn-2 (suc zero) l = record { back = refl; below = lit< tt }
+turn-2 (suc (suc zero)) l = record { back = refl; below = lit< tt }
+turn-2 (suc (suc (suc zero))) l = record { back = refl; below = lit< tt }
+turn-2 (suc (suc (suc (suc i)))) l = absurd (omega arith)
 
-    pub stands-corner : Filled m n f (m ^ n * (c + 1)) (scatter (m ^ n) (coefficientIndex m c) F old)
-    stands-corner =
-        subst (λ (i : ℕ). Filled m n f i (scatter (m ^ n) (coefficientIndex m c) F old)) (next-group (m ^ n) c)
-        (stands-part (m ^ n) (le-refl (m ^ n)))
+turn-3 : (i : ℕ) → i < 8 → Turn 3 i
+unfolding cornerAt reversed number digit
+turn-3 zero l = record { back = refl; below = lit< tt }
+turn-3 (suc zero) l = record { back = refl; below = lit< tt }
+turn-3 (suc (suc zero)) l = record { back = refl; below = lit< tt }
+turn-3 (suc (suc (suc zero))) l = record { back = refl; below = lit< tt }
+turn-3 (suc (suc (suc (suc zero)))) l = record { back = refl; below = lit< tt }
+turn-3 (suc (suc (suc (suc (suc zero))))) l = record { back = refl; below = lit< tt }
+turn-3 (suc (suc (suc (suc (suc (suc zero)))))) l = record { back = refl; below = lit< tt }
+turn-3 (suc (suc (suc (suc (suc (suc (suc zero))))))) l = record { back = refl; below = lit< tt }
+turn-3 (suc (suc (suc (suc (suc (suc (suc (suc i)))))))) l = absurd (omega arith)
+
+turn : (n : ℕ) → 1 ≤ n → n ≤ 3 → (i : ℕ) → i < 2 ^ n → Turn n i
+turn zero low high i l = absurd (not-suc-le-zero low)
+turn (suc zero) low high i l = turn-1 i l
+turn (suc (suc zero)) low high i l = turn-2 i l
+turn (suc (suc (suc zero))) low high i l = turn-3 i l
+turn (suc (suc (suc (suc n)))) low high i l = absurd (omega arith)
+
+pub corner-below : (n : ℕ) → 1 ≤ n → n ≤ 3 → (i : ℕ) → i < 2 ^ n → cornerAt n i < 2 ^ n
+corner-below n low high i l = turn n low high i l .below
+
+module _ (m n : ℕ) (some : 0 < m) (low : 1 ≤ n) (high : n ≤ 3) (f : ℕ → ℤ) where
+  -- the corner and the number of a coefficient
+  record Spot (K : ℕ) : Type 0 where
+    corner : ℕ
+    inside : ℕ
+    corner-low : corner < 2 ^ n
+    inside-low : inside < m ^ n
+    is : coefficientIndex m corner inside ≡ K
+
+  spot : (K : ℕ) → K < coefficientCount m n → Spot K
+  spot K l =
+      let i = entryAt m n some K in
+      let hi = entry-in m n some _ (mirror-digits m n some (digit (λ b. 2 * m) K) (digits-in n (2 * m) K (omega arith) l)) in
+      let hc = corner-low m n some i hi in
+      let hk = mod-lt i (record-some m n some) in
+      record {
+        corner = i / m ^ n;
+        inside = i % m ^ n;
+        corner-low = hc;
+        inside-low = hk;
+        is = spot-is m n some (i / m ^ n) (i % m ^ n) hc hk low high ∙ ap (spotOf m n some) (div-add-mod i (m ^ n))
+            ∙ spot-entry m n some K l;
+      }
+
+  -- the turn of a coefficient is that of its corner
+  spot-turn : (K : ℕ) (s : Spot K) → turnOf m n K ≡ cornerAt n (s .corner)
+  spot-turn K s =
+      ap (turnOf m n) (sym (s .is)) ∙ turn-is m n some (s .corner) (s .inside) (s .corner-low) (s .inside-low) low high
+
+  -- two numbers of a corner have different places
+  apart : (c : ℕ) → c < 2 ^ n → (k j : ℕ) → k < m ^ n → j < m ^ n → coefficientIndex m c k ≡ coefficientIndex m c j → k ≡ j
+  apart c hc k j hk hj e =
+      let at-k = entry-spot m n some (m ^ n * c + k) (entry-of m n some c k hc hk) in
+      let at-j = entry-spot m n some (m ^ n * c + j) (entry-of m n some c j hc hj) in
+      let same = ap (entryAt m n some) (sym (spot-is m n some c k hc hk low high) ∙ e ∙ spot-is m n some c j hc hj low high) in
+      let z : m ^ n * c + k ≡ m ^ n * c + j = sym at-k ∙ same ∙ at-j in
+      omega arith
+
+  -- one corner more
+  module _ (i : ℕ) (hi : i < 2 ^ n) (F : ℕ → ℤ) (old : List ℤ)
+      (is : (k : ℕ) → k < m ^ n → F k ≡ f (coefficientIndex m (cornerAt n i) k)) (h : Filled m n f i old)
+      (room : coefficientCount m n ≤ 216) where
+    abbrev after : List ℤ
+    after = scatter (m ^ n) (coefficientIndex m (cornerAt n i)) F old
+
+    hc : cornerAt n i < 2 ^ n
+    hc = turn n low high i hi .below
+
+    -- the turn of its numbers
+    turn-here : (k : ℕ) → k < m ^ n → turnOf m n (coefficientIndex m (cornerAt n i) k) ≡ i
+    turn-here k hk = turn-is m n some (cornerAt n i) k hc hk low high ∙ turn n low high i hi .back
+
+    -- a coefficient of another turn stays
+    stays : (K : ℕ) → (turnOf m n K ≡ i → ⊥) → at after K ≡ at old K
+    stays K off = scatter-off (coefficientIndex m (cornerAt n i)) F old K (m ^ n) (λ k l e. off (ap (turnOf m n) e ∙ turn-here k l))
+
+    -- one of this turn is written
+    written : (K : ℕ) → K < coefficientCount m n → turnOf m n K ≡ i → at after K ≡ f K
+    written K l e =
+        let s = spot K l in
+        let same : s .corner ≡ cornerAt n i =
+        sym (turn n low high (s .corner) (s .corner-low) .back) ∙ ap (cornerAt n) (sym (spot-turn K s) ∙ e) in
+        let here : coefficientIndex m (cornerAt n i) (s .inside) ≡ K =
+        ap (λ (d : ℕ). coefficientIndex m d (s .inside)) (sym same) ∙ s .is in
+        ap (at after) (sym here)
+        ∙ scatter-at (coefficientIndex m (cornerAt n i)) F old (s .inside) (m ^ n) (s .inside-low)
+        (rw here (let z = h .long in omega arith))
+        (λ j q p. apart (cornerAt n i) hc (s .inside) j (s .inside-low) q p)
+        ∙ is (s .inside) (s .inside-low) ∙ ap f here
+
+    pub filled-corner : Filled m n f (i + 1) after
+    filled-corner = record {
+      long = scatter-length (coefficientIndex m (cornerAt n i)) F old (m ^ n) ∙ h .long;
+      stand = λ K l t. stand K l t (ℕ-discrete (turnOf m n K) i);
+      empty = λ K l t. stays K (λ e. late K t e) ∙ h .empty K l (omega arith);
+      beyond = λ K l. scatter-off (coefficientIndex m (cornerAt n i)) F old K (m ^ n) (λ k q e. outside K l k q e) ∙ h .beyond K l;
+    }
+      where
+        stand : (K : ℕ) → K < coefficientCount m n → turnOf m n K < i + 1 → Dec (turnOf m n K ≡ i) → at after K ≡ f K
+        stand K l t (yes e) = written K l e
+        stand K l t (no e) = stays K e ∙ h .stand K l (omega arith)
+
+        late : (K : ℕ) → i + 1 ≤ turnOf m n K → turnOf m n K ≡ i → ⊥
+        late K t e = omega arith
+
+        outside : (K : ℕ) → coefficientCount m n ≤ K → (k : ℕ) → k < m ^ n → K ≡ coefficientIndex m (cornerAt n i) k → ⊥
+        outside K l k q e = let z = spot-in m n some (cornerAt n i) k hc q low high in omega arith
 
   -- nothing stands where nothing was written
-  pub stands-none : (xs : List ℤ) → ((K : ℕ) → at xs K ≡ pos 0) → Filled m n f 0 xs
-  stands-none xs h K l = h K ∙ sym (pick-false (ltb (fillingOrder m n K) 0) (f K) (pos 0) (le-ltb (fillingOrder m n K) 0 (zero-le)))
+  pub filled-none : (xs : List ℤ) → length xs ≡ 216 → ((K : ℕ) → at xs K ≡ pos 0) → Filled m n f 0 xs
+  filled-none xs long h = record {
+    long = long;
+    stand = λ K l t. absurd (not-suc-le-zero t);
+    empty = λ K l t. h K;
+    beyond = λ K l. h K;
+  }
 
   -- and after all corners every coefficient
-  pub stands-all : (xs : List ℤ) → Filled m n f (m ^ n * 2 ^ n) xs → (K : ℕ) → K < coefficientCount m n → at xs K ≡ f K
-  unfolding fillingOrder
-  stands-all xs h K l = h K l
-      ∙ pick-true (ltb (fillingOrder m n K) (m ^ n * 2 ^ n)) (f K) (pos 0)
-      (lt-ltb (fillingOrder m n K) (m ^ n * 2 ^ n) (rw (mul-comm (m ^ n) (2 ^ n) ∙ sym (count-split m n)) (turn-low K l)))
-    where
-      turn-low : (K : ℕ) → K < coefficientCount m n → fillingOrder m n K < coefficientCount m n
-      turn-low K l = entry-in m n some _ (mirror-digits m n some (digit (λ b. 2 * m) K) (digits-in n (2 * m) K (omega arith) l))
+  pub filled-all : (xs : List ℤ) → Filled m n f (2 ^ n) xs → (K : ℕ) → K < coefficientCount m n → at xs K ≡ f K
+  filled-all xs h K l =
+      let s = spot K l in
+      h .stand K l (rw (spot-turn K s) (turn n low high (s .corner) (s .corner-low) .below))

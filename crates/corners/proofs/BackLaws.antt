@@ -7,7 +7,7 @@ use Prim.Native.Nat.{ℕ, zero, suc, _+_, _*_, _%_, _^_, _≤_, _<_}
 use native.Mathlib.Nat.{mul-comm, le-refl, lt-of-lt-of-le, pow-le-pow-right}
 use native.Mathlib.Omega.{arith}
 use borrow.Author.Count.{below-more}
-use lib.IntN.{ℤ, pos, natAbs}
+use lib.IntN.{ℤ, pos, _*ℤ_, natAbs}
 use lib.ListN.{length, set, length-set}
 use lib.Signed.{nonNeg}
 use Rattle.arith.specs.Int.{floorDiv}
@@ -26,10 +26,10 @@ use Rattle.cell.specs.Coefficients.{coefficientCount}
 use Rattle.cell.specs.Corners.{cornerNumbers}
 use Rattle.cell.proofs.CornerLaws.{digits-total}
 use Rattle.cell.proofs.NumberLaws.{count-split}
-use Rattle.coefficients.specs.Blocks.{Sizes, blockNumbers, coefficientIndex, converted, scatter}
+use Rattle.coefficients.specs.Blocks.{Sizes, blockSign, blockNumbers, coefficientIndex, solvedBlock, scatter}
 use Rattle.coefficients.proofs.BlockLaws.{orders-some}
 use Rattle.coefficients.proofs.SpotLaws.{numbers-are, entry-of, scatter-length}
-use Rattle.coefficients.proofs.ConvertLaws.{converted-same}
+use Rattle.coefficients.proofs.ConvertLaws.{solved-same}
 use Rattle.corners.specs.Corners.{wholeWithin, doubledEntry, entryAllowed, possibleOutcome}
 use Rattle.corners.specs.Back.{Gathers, blockTest, entryOf, entryTest}
 use Rattle.corners.proofs.ConvertBack.{backward-block}
@@ -72,11 +72,13 @@ module _ {m n r : ℕ} (ok : Sizes m n r) where
           ∙ digits-total m n k (ok .orders-low) (ok .orders-high) (ok .axes-low) (ok .axes-high) hk))
 
       module _ (xs zs : ℕ → ℤ) (hx : (j : ℕ) → j < m ^ n → xs j ≡ at cs (coefficientIndex m c j))
-          (hz : (k : ℕ) → k < m ^ n → zs k ≡ converted true m n c xs k) where
+          (hz : (k : ℕ) → k < m ^ n → zs k ≡ blockSign m c k *ℤ solvedBlock true m n xs k) where
         -- number k of the block
         doubled-is : (k : ℕ) → k < m ^ n → zs k ≡ doubledEntry m n cs (m ^ n * c + k)
         doubled-is k l =
-            hz k l ∙ converted-same true m n c (ok .orders-low) (ok .orders-high) xs (λ j. at cs (coefficientIndex m c j)) hx k l
+            hz k l
+            ∙ ap (λ z. blockSign m c k *ℤ z)
+            (solved-same true m n (ok .orders-low) (ok .orders-high) xs (λ j. at cs (coefficientIndex m c j)) hx k l)
             ∙ backward-block m n (ok .orders-low) (ok .orders-high) (ok .axes-low) (ok .axes-high) c hc cs k l
 
         pub tests-are : firstOf (m ^ n) (blockTest n limits zs) ≡ firstOf (m ^ n) (λ k. entryTest m n cs (m ^ n * c + k))

@@ -13,30 +13,33 @@ ghost use Rattle.cell.specs.Coefficients.{coefficientCount};
 ghost use Rattle.corners.specs.Corners.{wholeWithin, possibleOutcome, numbersOutcome, backOutcome, backWrites};
 ghost use Rattle.coefficients.specs.Blocks.{Sizes, coefficientIndex, AllWithin, scatter};
 ghost use Rattle.corners.specs.Back.{Gathers, blockTest, entryOf};
+use coefficients::Row;
 use lattice::Check;
 
-// The coefficients of row g of corner c, coefficient_number from it.
-fn gather_row(m: usize, c: usize, g: usize, cs: &[i32], xs: &mut [i64; 27])
-    requires { ⌜ (2 ≤ m) × (m ≤ 3) × (m * g + m ≤ 27) ⌝ }
-    requires { ⌜ ((t : ℕ) → t < m → coefficientIndex m c (m * g + t) < length (now cs)) × Gathers m c (m * g) (now cs) (now xs) ⌝ }
-    ensures { λ _. ⌜ Gathers m c (m * g + m) (now (cs .entry)) (now (xs .exit)) ⌝ }
+// The coefficients of a row of corner c, counted from its ends, to the numbers from i on.
+fn gather_row(m: usize, c: usize, o: Row, i: usize, cs: &[i32], xs: &mut [i64; 27])
+    requires { ⌜ (2 ≤ m) × (m ≤ 3) × (c < 8) × (o .y < m) × (o .z < m) × (i ≡ m * (m * o .z + o .y)) ⌝ }
+    requires { ⌜ (i + m ≤ 27) × ((t : ℕ) → t < m → coefficientIndex m c (i + t) < length (now cs)) × Gathers m c i (now cs) (now xs) ⌝ }
+    ensures { λ _. ⌜ Gathers m c (i + m) (now (cs .entry)) (now (xs .exit)) ⌝ }
 {
-    let p = coefficients::row_place(m, c, g);
+    let p = coefficients::row_place(m, c, o);
     let mut t: usize = 0;
     while t < m {
-        xs[m * g + t] = cs[p + coefficients::coefficient_number(m, c % 2, t)] as i64;
+        xs[i + t] = cs[p + coefficients::place(m, c % 2, t)] as i64;
         t += 1;
     }
 }
 
-// The coefficients of corner c, coefficient_number from it, row by row.
+// The coefficients of corner c, counted from its ends, row by row.
 fn gather(m: usize, n: usize, r: usize, c: usize, cs: &[i32], xs: &mut [i64; 27])
     requires { ⌜ Sizes m n r × (c < 2 ^ n) × (length (now cs) ≡ coefficientCount m n) × (length (now xs) ≡ 27) ⌝ }
     ensures { λ _. ⌜ Gathers m c (m ^ n) (now (cs .entry)) (now (xs .exit)) ⌝ }
 {
+    let mut o = Row { y: 0, z: 0 };
     let mut g: usize = 0;
     while g < r {
-        gather_row(m, c, g, cs, xs);
+        gather_row(m, c, o, m * g, cs, xs);
+        o = coefficients::next_row(m, o);
         g += 1;
     }
 }
@@ -91,8 +94,9 @@ fn corner_records(m: usize, n: usize, r: usize, cs: &[i32], out: &mut [i32; 216]
     let mut c: usize = 0;
     while c < corners {
         gather(m, n, r, c, cs, &mut xs);
-        coefficients::convert(true, m, n, r, c, &mut xs, &mut zs);
-        let one = store(n, m * r, c, &limits, &zs, out);
+        coefficients::solve_back(m, n, r, &mut xs, &mut zs);
+        coefficients::signed(m, n, r, c, &zs, &mut xs);
+        let one = store(n, m * r, c, &limits, &xs, out);
         if let Check::Refused(_) = one {
             return one;
         }

@@ -1,7 +1,7 @@
--- One end: the rule of its conversion, each way, reads the numbers of its orders only and gives at most 32 times them; three rows by three
--- numbers.
-use mathlib.Core.Path.{_≡_, refl, ap, ap₂, _∙_}
-use mathlib.Core.Bool.{Bool}
+-- One end: the rule of its conversion, each way, is linear, reads the numbers of its orders only and gives at most 32 times them;
+-- three rows by three numbers.
+use mathlib.Core.Path.{_≡_, refl, ap, ap₂}
+use mathlib.Core.Bool.{Bool, true, false}
 use Prim.Native.Nat.{ℕ, _*_, _^_, _≤_, _<_}
 use native.Mathlib.Nat.{le-trans, le-of-eq, lt-of-le-of-lt, mul-le-mul, mul-le-mul-right}
 use native.Mathlib.Omega.{arith}
@@ -11,13 +11,13 @@ use Rattle.arith.proofs.Choices.{on-pick, by-m, by-3, by-order}
 use Rattle.arith.proofs.Sums.{sum-ext, total-mono, total-part, abs-weighted}
 use Rattle.arith.specs.Choice.{pick}
 use Rattle.arith.specs.Sum.{sum, total}
+use Rattle.lattice.proofs.Along.{Linear}
 use Rattle.lattice.proofs.Local.{Depends}
 use mir.Syntax.{w64}
 use mir.Val.{SFits}
 use Rattle.arith.proofs.Machine.{sized, sizes, fits?, value?}
-use Rattle.hermite.specs.Hermite.{multiplier, mirrored, solved, fromEnd, endRule}
+use Rattle.hermite.specs.Hermite.{multiplier, solved, endRule}
 use Rattle.hermite.proofs.DotLaws.{held}
-use Rattle.hermite.proofs.HermiteLaws.{mirrored-size}
 use Rattle.hermite.proofs.BackLaws.{unit, solved-linear, solved-sum, solved-ext}
 
 -- ---- three rows
@@ -63,10 +63,6 @@ module _ (p q r x y z : ℤ) (hp : natAbs p ≤ 20) (hq : natAbs q ≤ 20) (hr :
 
 -- ---- the rule of an end
 
-pub from-end-size : (high : Bool) (o : ℕ) (z : ℤ) → natAbs (fromEnd high o z) ≡ natAbs z
-unfolding fromEnd
-from-end-size high o z = on-pick (λ y. natAbs y ≡ natAbs z) high (mirrored o z) z (λ e. mirrored-size o z) (λ e. refl)
-
 -- the sums of the sizes of the factors
 solved-total : (m : ℕ) → 2 ≤ m → m ≤ 3 → (o : ℕ) → o < 3 → total 3 (λ k. natAbs (solved m (unit k) o)) ≤ 32
 unfolding solved multiplier total pick
@@ -79,27 +75,23 @@ multiplier-total : (m : ℕ) → 2 ≤ m → m ≤ 3 → (k : ℕ) → k < m →
 unfolding total multiplier
 multiplier-total = by-order (λ m k. total m (λ o. natAbs (multiplier m k o)) ≤ 32) (lit≤ tt) (lit≤ tt) (lit≤ tt) (lit≤ tt) (lit≤ tt)
 
-pub solved-size : (m : ℕ) → 2 ≤ m → m ≤ 3 → (y : ℕ → ℤ) → ((k : ℕ) → k < 3 → natAbs (y k) ≤ 2 ^ 50) → (o : ℕ) → o < 3
-    → natAbs (solved m y o) ≤ 2 ^ 62
-solved-size m m2 m3 y h o l =
-    le-trans (le-of-eq (ap natAbs (solved-linear m y o)))
-    (le-trans (abs-weighted 3 (λ k. solved m (unit k) o) y (2 ^ 50) h)
-    (le-trans (mul-le-mul-right (2 ^ 50) (solved-total m m2 m3 o l)) (lit≤ tt)))
+pub end-linear : (back : Bool) (m : ℕ) → Linear (endRule back m)
+unfolding endRule pick
+end-linear true m = record { width = 3; factor = λ k t. solved m (unit t) k; place = λ k t. t; is = λ x k. solved-linear m x k }
+end-linear false m = record { width = m; factor = multiplier m; place = λ k t. t; is = λ x k. refl }
 
-module _ (back : Bool) (m : ℕ) (m2 : 2 ≤ m) (m3 : m ≤ 3) (high : Bool) where
-  pub end-depends : Depends (endRule back m high) (λ k. k < m) (λ t. t < m)
+module _ (back : Bool) (m : ℕ) (m2 : 2 ≤ m) (m3 : m ≤ 3) where
+  pub end-depends : Depends (endRule back m) (λ k. k < m) (λ t. t < m)
   unfolding endRule
   end-depends x y k l h =
-      ap₂ (pick back) (ap (fromEnd high k) (solved-ext m m2 m3 x y k l h))
-      (sum-ext m (λ o. multiplier m k o *ℤ fromEnd high o (x o)) (λ o. multiplier m k o *ℤ fromEnd high o (y o))
-      (λ o p. ap (λ z. multiplier m k o *ℤ fromEnd high o z) (h o p)))
+      ap₂ (pick back) (solved-ext m m2 m3 x y k l h)
+      (sum-ext m (λ o. multiplier m k o *ℤ x o) (λ o. multiplier m k o *ℤ y o) (λ o p. ap (λ z. multiplier m k o *ℤ z) (h o p)))
 
-  pub end-size : (x : ℕ → ℤ) (B k : ℕ) → k < m → ((t : ℕ) → t < m → natAbs (x t) ≤ B) → natAbs (endRule back m high x k) ≤ 32 * B
+  pub end-size : (x : ℕ → ℤ) (B k : ℕ) → k < m → ((t : ℕ) → t < m → natAbs (x t) ≤ B) → natAbs (endRule back m x k) ≤ 32 * B
   unfolding endRule
   end-size x B k l h =
-      on-pick (λ z. natAbs z ≤ 32 * B) back (fromEnd high k (solved m x k)) (sum m (λ o. multiplier m k o *ℤ fromEnd high o (x o)))
-      (λ e. le-trans (le-of-eq (from-end-size high k (solved m x k) ∙ ap natAbs (solved-sum m m2 m3 x k l)))
+      on-pick (λ z. natAbs z ≤ 32 * B) back (solved m x k) (sum m (λ o. multiplier m k o *ℤ x o))
+      (λ e. le-trans (le-of-eq (ap natAbs (solved-sum m m2 m3 x k l)))
       (le-trans (abs-weighted m (λ t. solved m (unit t) k) x B h)
       (mul-le-mul-right B (le-trans (total-part m 3 (λ t. natAbs (solved m (unit t) k)) m3) (solved-total m m2 m3 k (omega arith))))))
-      (λ e. le-trans (abs-weighted m (multiplier m k) (λ o. fromEnd high o (x o)) B (λ o p. rw (from-end-size high o (x o)) (h o p)))
-      (mul-le-mul-right B (multiplier-total m m2 m3 k l)))
+      (λ e. le-trans (abs-weighted m (multiplier m k) x B h) (mul-le-mul-right B (multiplier-total m m2 m3 k l)))

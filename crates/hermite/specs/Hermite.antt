@@ -57,13 +57,9 @@ solved m y (suc (suc o)) = pos 2 *ℤ y 2 -ℤ multiplier m 2 0 *ℤ y 0 -ℤ mu
 unfoldable pub backward : ℕ → Rule
 backward m c t = pick (ltb t m) (solved m c t) (mirrored (t - m) (solved m (λ k. c (2 * m - 1 - k)) (t - m)))
 
--- a number of order o, counted from its end
-unfoldable pub fromEnd : Bool → ℕ → ℤ → ℤ
-fromEnd high o z = pick high (mirrored o z) z
-
--- one end: its coefficients, counted from it, from its numbers; back, twice its numbers from these
-unfoldable pub endRule : Bool → ℕ → Bool → Rule
-endRule back m high x k = pick back (fromEnd high k (solved m x k)) (sum m (λ o. multiplier m k o *ℤ fromEnd high o (x o)))
+-- by the rows of the low end: its coefficients from its numbers; back, twice its numbers from these
+unfoldable pub endRule : Bool → ℕ → Rule
+endRule back m x k = pick back (solved m x k) (sum m (λ o. multiplier m k o *ℤ x o))
 
 -- ---- weights and stages
 

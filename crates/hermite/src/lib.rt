@@ -6,7 +6,7 @@ ghost use Rattle.arith.specs.Choice.{pick};
 ghost use Rattle.arith.specs.Int.{roundHalfUp, _^ℤ_};
 ghost use Rattle.arith.specs.Sum.{sum, total};
 ghost use Rattle.lattice.specs.Buffer.{at};
-ghost use Rattle.hermite.specs.Hermite.{steps, multiplier, mirrored, solved, fromEnd, endRule, weight};
+ghost use Rattle.hermite.specs.Hermite.{steps, multiplier, mirrored, solved, endRule, weight};
 ghost use Rattle.hermite.specs.Stage.{Smooth, RowsOn, Folds, weighted, load, shiftOf};
 
 // A cell has 256 steps an axis.
@@ -149,17 +149,6 @@ pub fn basis_at(order: u32, m: usize, u: u32) -> Basis
     }
 }
 
-// The numbers of an end, counted from it: order 1 of the high end is subtracted.
-fn from_end(high: bool, x: [i64; 3]) -> [i64; 3]
-    requires { ⌜ ((o : ℕ) → o < 3 → natAbs (at x o) ≤ 2 ^ 62) ⌝ }
-    ensures { λ r. ⌜ ((o : ℕ) → o < 3 → at r o ≡ fromEnd high o (at x o)) ⌝ }
-{
-    if high {
-        return mirror(0, x);
-    }
-    x
-}
-
 // The coefficients of the low end, counted from it, from its numbers.
 fn end_coefficients(m: usize, x: [i64; 3]) -> [i64; 3]
     requires { ⌜ (2 ≤ m) × (m ≤ 3) × ((o : ℕ) → o < 3 → natAbs (at x o) ≤ 2 ^ 50) ⌝ }
@@ -180,26 +169,15 @@ fn end_numbers(m: usize, y: [i64; 3]) -> [i64; 3]
     [f, d, 2 * y[2] - c[0] * f - c[1] * d]
 }
 
-// The coefficients of an end, counted from it, from its numbers; or back, its numbers, doubled, from these.
-fn converted(back: bool, m: usize, high: bool, x: [i64; 3]) -> [i64; 3]
+// By the rows of the low end: its coefficients from its numbers; or back, its numbers, doubled, from these.
+pub fn convert_end(back: bool, m: usize, x: [i64; 3]) -> [i64; 3]
     requires { ⌜ (2 ≤ m) × (m ≤ 3) × ((o : ℕ) → o < 3 → natAbs (at x o) ≤ 2 ^ 50) ⌝ }
-    ensures { λ r. ⌜ ((k : ℕ) → k < 3 → at r k ≡ endRule back m high (at x) k) ⌝ }
+    ensures { λ r. ⌜ ((k : ℕ) → k < 3 → at r k ≡ endRule back m (at x) k) ⌝ }
 {
     if back {
-        return from_end(high, end_numbers(m, x));
+        return end_numbers(m, x);
     }
-    end_coefficients(m, from_end(high, x))
-}
-
-// The same with the degree as a constant.
-pub fn convert_end(back: bool, m: usize, high: bool, x: [i64; 3]) -> [i64; 3]
-    requires { ⌜ (2 ≤ m) × (m ≤ 3) × ((o : ℕ) → o < 3 → natAbs (at x o) ≤ 2 ^ 50) ⌝ }
-    ensures { λ r. ⌜ ((k : ℕ) → k < 3 → at r k ≡ endRule back m high (at x) k) ⌝ }
-{
-    if m == 2 {
-        return converted(back, 2, high, x);
-    }
-    converted(back, 3, high, x)
+    end_coefficients(m, x)
 }
 
 // The numbers of the two ends of a cell along an axis.

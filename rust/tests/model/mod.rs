@@ -11,6 +11,7 @@ pub mod estimate;
 pub mod file;
 pub mod float;
 pub mod int;
+pub mod listing;
 pub mod program;
 pub mod query;
 pub mod rational;

@@ -2,6 +2,9 @@
 use mathlib.Core.Path.{_≡_, sym, ap, subst, _∙_}
 use mathlib.Core.List.{List}
 use Prim.Native.Nat.{ℕ, _≤_}
+use native.Mathlib.Nat.{le-of-eq}
+use native.Mathlib.Omega.{arith}
+use lib.Dec.{lit≤}
 use lib.IntN.{ℤ}
 use lib.ListN.{length}
 use denote.Ref.{now}
@@ -14,7 +17,8 @@ use Rattle.lattice.proofs.OutcomeLaws.{refused-first, first-passed, when-done, 
 use Rattle.lattice.proofs.ShapeLaws.{orders-range}
 use Rattle.cell.specs.Cell.{placeAt, cornersOutcome}
 use Rattle.coefficients.specs.Coefficients.{coefficientList, requestOutcome, coefficientsOutcome, coefficientsWrites}
-use Rattle.coefficients.specs.Blocks.{Gathered}
+use Rattle.coefficients.specs.Blocks.{cellCoefficient, Filled, Gathered}
+use Rattle.coefficients.proofs.SpotLaws.{filled-all}
 use Rattle.coefficients.proofs.TableCell.{corners-gathered}
 use Rattle.coefficients.proofs.CallLaws.{Asked, asked, list-is}
 use borrow.Author.Needs.{needs}
@@ -87,18 +91,25 @@ returns-2 c =
     let h = outcome t ∙ sym (d .check-corners .ensures) ∙ e in
     (e ∙ sym h, when-refused (written (start t)) (now (start t .args .out)) h)
 
-cell-coefficients-requires : tie.Need-cell-coefficients-requires
-cell-coefficients-requires c κs =
-    let t = c .before in
+-- the layout's orders are two or three
+orders-are : (c : tie.After-enum-told4)
+    → (2 ≤ c .before .before .before .layout-of .result .orders) × (c .before .before .before .layout-of .result .orders ≤ 3)
+orders-are c =
+    let m = orders-range (start (two c) .args .s .degree) in
+    let e = c .before .before .before .layout-of .ensures .orders-are in
+    (subst (λ (k : ℕ). 2 ≤ k) (sym e) (m .0), subst (λ (k : ℕ). k ≤ 3) (sym e) (m .1))
+
+filled-requires : tie.Need-filled-requires
+filled-requires c κs =
+    let t = c .before .before in
     let f = facts (two t) .shape in
-    let m = orders-range (start (two t) .args .s .degree) in
-    let e = t .before .before .before .layout-of .ensures .orders-are in
-    (subst (λ (k : ℕ). 2 ≤ k) (sym e) (m .0), subst (λ (k : ℕ). k ≤ 3) (sym e) (m .1), f .axes-low, f .axes-high, gathered t)
+    let m = orders-are t in
+    (m .0, m .1, f .axes-low, f .axes-high, le-of-eq (c .power .ensures), gathered t)
 
 copy-out-requires : tie.Need-copy-out-requires
 copy-out-requires c κs =
     let n = c .before .before in
-    let f = facts (two (n .before .before .before)) in
+    let f = facts (two (n .before .before .before .before)) in
     let e = n .coefficient-count .ensures in
     (e .1, rw (e .0) (f .roomy))
 
@@ -107,7 +118,7 @@ unfolding coefficientsWrites
 returns-3 c =
     let n = c .before .before .before .before in
     let x = n .before in
-    let t = x .before .before in
+    let t = x .before .before .before in
     let d = two t in
     let s = start d in
     let a = s .args in
@@ -116,10 +127,15 @@ returns-3 c =
     let h = outcome d ∙ tested t in (
       ap outcomeOf (t .enum-told4 .given .1) ∙ sym h,
       c .before .copy-out .ensures
-          ∙ ap (λ (k : ℕ). overwrite (tabulate k (at (x .cell-coefficients .result))) (now (a .out))) (n .coefficient-count .ensures .0)
+          ∙ ap (λ (k : ℕ). overwrite (tabulate k (at (x .filled .result))) (now (a .out))) (n .coefficient-count .ensures .0)
           ∙ ap (λ (ys : List ℤ). overwrite ys (now (a .out)))
           (list-is (a .s) (f .shape) (placeAt (a .cell)) (f .here) (now (a .records)) (f .many) (l .result) (l .ensures)
-          (x .cell-coefficients .result) (x .cell-coefficients .ensures))
+          (x .filled .result)
+          (filled-all (l .result .orders) (a .s .axes) (let m = orders-are t .0 in omega arith) (f .shape .axes-low) (f .shape .axes-high) _
+          (x .filled .result)
+          (subst (λ (k : ℕ). Filled (l .result .orders) (a .s .axes)
+          (cellCoefficient (l .result .orders) (a .s .axes) (l .result) (now (a .records)))
+          k (x .filled .result)) (x .before .power .ensures) (x .filled .ensures))))
           ∙ when-done (written s) (now (a .out)) h,
     )
 
@@ -137,8 +153,9 @@ coefficients-spec =
     returns-2
     (λ c. search needs)
     (λ c. search needs)
-    cell-coefficients-requires
-    (λ c κs. facts (two (c .before .before)) .shape .axes-high)
+    (λ c κs. (lit≤ tt, facts (two (c .before)) .shape .axes-high))
+    filled-requires
+    (λ c κs. facts (two (c .before .before .before)) .shape .axes-high)
     copy-out-requires
     (λ c. search needs)
     returns-3)

@@ -16,10 +16,10 @@ use Rattle.coefficients.proofs.convert_axis.Statement.{statement}
 use Rattle.coefficients.proofs.convert_axis.Tie as tie
 
 abbrev Inv-loop : tie.InvT-loop
-Inv-loop back m r high xs zs₀ g₀ zs g = (g ≤ r) × (length zs ≡ 27) × Rows m r (λ k j. endRule back m high (λ t. at xs (m * j + t)) k) g zs
+Inv-loop back m r xs zs₀ g₀ zs g = (g ≤ r) × (length zs ≡ 27) × Rows m r (λ k j. endRule back m (λ t. at xs (m * j + t)) k) g zs
 
 abbrev μ-loop : tie.MeasureT-loop
-μ-loop back m r high xs zs₀ g₀ zs g = r - g
+μ-loop back m r xs zs₀ g₀ zs g = r - g
 
 module _ (c : tie.In-loop Inv-loop μ-loop) where
   abbrev s : tie.Start Inv-loop μ-loop
@@ -32,14 +32,13 @@ module _ (c : tie.In-loop Inv-loop μ-loop) where
 -- what becomes of it
 converted : (c : tie.After-convert-end Inv-loop μ-loop) → (k : ℕ) → k < s (c .before .before) .args .m
     → at (c .convert-end .result) k ≡ endRule (s (c .before .before) .args .back) (s (c .before .before) .args .m)
-    (s (c .before .before) .args .high)
     (λ t. at (s (c .before .before) .args .xs .now) (s (c .before .before) .args .m * c .before .before .before .loop .g + t)) k
 converted c k l =
     let i = c .before .before in
     let a = s i .args in
     let p = s i .pre .0 in
     c .convert-end .ensures k (omega arith)
-    ∙ end-depends (a .back) (a .m) (p .0) (p .1) (a .high) (at (c .before .group-at .result))
+    ∙ end-depends (a .back) (a .m) (p .0) (p .1) (at (c .before .group-at .result))
     (λ t. at (a .xs .now) (a .m * i .before .loop .g + t)) k l (c .before .group-at .ensures .0)
 
 group-at-requires : tie.Need-group-at-requires Inv-loop μ-loop
@@ -57,7 +56,7 @@ loop-again c =
       omega arith,
       ap length (c .put-group .ensures) ∙ scatter-length _ _ _ _ ∙ w .inv .1,
       rw (c .put-group .ensures)
-          (rows-more (a .m) (a .r) (λ k j. endRule (a .back) (a .m) (a .high) (λ t. at (a .xs .now) (a .m * j + t)) k) (w .g)
+          (rows-more (a .m) (a .r) (λ k j. endRule (a .back) (a .m) (λ t. at (a .xs .now) (a .m * j + t)) k) (w .g)
           (i .loop-test .taken) (at (e .convert-end .result)) (converted e) (w .zs) (omega arith) (w .inv .2)),
     )
 
@@ -70,7 +69,7 @@ returns c =
     record {
       long = w .inv .1;
       is =
-          rows-all (a .m) (a .r) (λ k j. endRule (a .back) (a .m) (a .high) (λ t. at (now (a .xs)) (a .m * j + t)) k) (w .zs)
+          rows-all (a .m) (a .r) (λ k j. endRule (a .back) (a .m) (λ t. at (now (a .xs)) (a .m * j + t)) k) (w .zs)
           (λ k j l q. w .inv .2 k j l (omega arith));
     }
 

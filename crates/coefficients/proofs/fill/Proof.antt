@@ -1,122 +1,125 @@
--- `coefficients::fill` meets its contract: after any number of corners their coefficients stand and all others are 0.
+-- `coefficients::fill` meets its contract: after any number of corners in turn their coefficients stand and all other numbers are 0.
 use mathlib.Core.Path.{_≡_, refl, sym, ap, subst, _∙_}
 use mathlib.Core.List.{List}
-use Prim.Native.Nat.{ℕ, _≤_, _<_, _+_, _^_, _-_, _*_, zero-le}
-use native.Mathlib.Nat.{mul-zero}
+use Prim.Native.Nat.{ℕ, _≤_, _<_, _+_, _^_, _-_, zero-le}
 use native.Mathlib.Omega.{arith}
-use lib.Dec.{lit≤}
 use lib.IntN.{ℤ, natAbs}
 use lib.ListN.{length}
 use denote.Ref.{now}
 use Rattle.lattice.specs.Buffer.{at}
 use Rattle.cell.specs.Cell.{startOf}
-use Rattle.coefficients.specs.Blocks.{coefficientIndex, cellCoefficient, scatter, Filled}
-use Rattle.coefficients.proofs.BlockLaws.{orders-some, size-low, corner-low, count-low, in-groups}
-use Rattle.coefficients.proofs.SpotLaws.{scatter-length, stands-none, stands-corner, stands-all}
+use Rattle.coefficients.specs.Blocks.{signedRecord, coefficientIndex, cellCoefficient, scatter, Filled}
+use Rattle.coefficients.proofs.BlockLaws.{orders-some, corner-low, count-low}
+use Rattle.coefficients.proofs.SpotLaws.{filled-none, filled-corner}
 use Rattle.coefficients.proofs.FillLaws.{block-is, block-low}
 use Rattle.coefficients.proofs.fill.Statement.{statement}
 use Rattle.coefficients.proofs.fill.Tie as tie
 
 abbrev Inv-loop : tie.InvT-loop
-Inv-loop m n r l records out₀ corners xs₀ zs₀ c₀ out xs zs c =
-    (length xs ≡ 27) × (length zs ≡ 27) × (length out ≡ 216) × Filled m n (cellCoefficient m n l records) (m ^ n * c) out × (c ≤ corners)
+Inv-loop m n r k l records out₀ xs₀ zs₀ turn₀ out xs zs turn =
+    (length xs ≡ 27) × (length zs ≡ 27) × Filled m n (cellCoefficient m n l records) turn out × (turn ≤ k)
 
 abbrev μ-loop : tie.MeasureT-loop
-μ-loop m n r l records out₀ corners xs₀ zs₀ c₀ out xs zs c = corners - c
+μ-loop m n r k l records out₀ xs₀ zs₀ turn₀ out xs zs turn = k - turn
 
-module _ (c : tie.In-loop Inv-loop μ-loop) where
+-- the corner whose turn it is
+module _ (c : tie.After-corner-at Inv-loop μ-loop) where
   abbrev s : tie.Start Inv-loop μ-loop
   s = c .before .before .before
 
-  corner : c .before .loop .c < 2 ^ s .args .n
-  corner = subst (λ (k : ℕ). c .before .loop .c < k) (c .before .before .power .ensures) (c .loop-test .taken)
+  abbrev step : ℕ
+  step = c .before .before .loop .turn
 
--- a corner's block, loaded and converted
-module _ (c : tie.After-convert Inv-loop μ-loop) where
-  abbrev loaded : tie.After-load Inv-loop μ-loop
-  loaded = c .before .before .before
+  turn-low : step < 2 ^ s .args .n
+  turn-low = let h = c .before .loop-test .taken in let k = s .pre .0 .2 in omega arith
 
-  abbrev i : tie.In-loop Inv-loop μ-loop
-  i = loaded .before .before .before
+  abbrev corner : ℕ
+  corner = c .corner-at .result
 
-  abbrev k : ℕ
-  k = i .before .loop .c
+-- its block, signed and solved
+module _ (c : tie.After-block-solve Inv-loop μ-loop) where
+  abbrev started : tie.After-corner-start Inv-loop μ-loop
+  started = c .before .before .before
 
-  abbrev xs : List ℤ
-  xs = loaded .load .last .1 .1 .1 .0
+  abbrev at-corner : tie.After-corner-at Inv-loop μ-loop
+  at-corner = started .before
+
+  abbrev start : tie.Start Inv-loop μ-loop
+  start = s at-corner
 
   abbrev zs : List ℤ
-  zs = c .convert .last .1 .1 .1 .1 .1 .1 .0
+  zs = c .block-solve .last .1 .1 .1 .1 .1 .1 .1 .0
 
-  entry-is : (j : ℕ) → j < s i .args .m ^ s i .args .n → at xs j ≡ at (now (s i .args .records)) (startOf (s i .args .l) k + j)
-  entry-is j h = loaded .load .ensures .0 .is j (in-groups (s i .pre .0 .0) j h)
-      ∙ ap (λ (b : ℕ). at (now (s i .args .records)) (b + j)) (loaded .before .before .corner-start .ensures)
+  abbrev coefficient : ℕ → ℤ
+  coefficient = cellCoefficient (start .args .m) (start .args .n) (start .args .l) (now (start .args .records))
 
-  low : (j : ℕ) → j < s i .args .m ^ s i .args .n → natAbs (at zs j) ≤ 2 ^ 30
-  low j h = rw (c .convert .ensures .0 .is j h)
-      (block-low (s i .pre .0 .0) (s i .args .l) (now (s i .args .records)) (s i .pre .0 .1) k (corner i) (at xs) entry-is j h)
+  abbrev entries : ℕ → ℤ
+  entries = signedRecord (start .args .m) (corner at-corner) (started .corner-start .result) (now (start .args .records))
 
-  more : Filled (s i .args .m) (s i .args .n) (cellCoefficient (s i .args .m) (s i .args .n) (s i .args .l) (now (s i .args .records)))
-      (s i .args .m ^ s i .args .n * (k + 1))
-      (scatter (s i .args .m ^ s i .args .n) (coefficientIndex (s i .args .m) k) (at zs) (i .before .loop .out))
+  entry-is : (j : ℕ) → j < start .args .m ^ start .args .n
+      → entries j
+      ≡ signedRecord (start .args .m) (corner at-corner) (startOf (start .args .l) (corner at-corner)) (now (start .args .records)) j
+  entry-is j h =
+      ap (λ (b : ℕ). signedRecord (start .args .m) (corner at-corner) b (now (start .args .records)) j) (started .corner-start .ensures)
+
+  low : (j : ℕ) → j < start .args .m ^ start .args .n → natAbs (at zs j) ≤ 2 ^ 30
+  low j h = rw (c .block-solve .ensures .0 .is j h)
+      (block-low (start .pre .0 .0) (start .args .l) (now (start .args .records)) (start .pre .0 .1) (corner at-corner)
+      (at-corner .corner-at .ensures .1) entries entry-is j h)
+
+  more : Filled (start .args .m) (start .args .n) coefficient (step at-corner + 1)
+      (scatter (start .args .m ^ start .args .n) (coefficientIndex (start .args .m) (corner at-corner)) (at zs)
+      (at-corner .before .before .loop .out))
   more =
-      let ok = s i .pre .0 .0 in
-      let inv = i .before .loop .inv in
-      let a = s i .args in
-      let rs = now (a .records) in
-      stands-corner (a .m) (a .n) (orders-some ok) (cellCoefficient (a .m) (a .n) (a .l) rs) (ok .axes-low) (ok .axes-high) k (corner i)
-      (at zs)
-      (i .before .loop .out) (rw (inv .2) (count-low ok))
-      (λ j h. c .convert .ensures .0 .is j h ∙ block-is ok (a .l) rs (s i .pre .0 .1) k (corner i) (at xs) entry-is j h) (inv .3)
+      let ok = start .pre .0 .0 in
+      let a = start .args in
+      let e = at-corner .corner-at .ensures .0 in
+      subst (λ (d : ℕ). Filled (a .m) (a .n) coefficient (step at-corner + 1)
+      (scatter (a .m ^ a .n) (coefficientIndex (a .m) d) (at zs) (at-corner .before .before .loop .out))) (sym e)
+      (filled-corner (a .m) (a .n) (orders-some ok) (ok .axes-low) (ok .axes-high) coefficient (step at-corner) (turn-low at-corner)
+      (at zs) (at-corner .before .before .loop .out)
+      (λ j h. c .block-solve .ensures .0 .is j h
+      ∙ block-is ok (a .l) (now (a .records)) (start .pre .0 .1) (corner at-corner) (at-corner .corner-at .ensures .1) entries entry-is j h
+      ∙ ap (λ (d : ℕ). coefficient (coefficientIndex (a .m) d j)) e)
+      (at-corner .before .before .loop .inv .2) (count-low ok))
 
 loop-holds : tie.Need-loop-holds Inv-loop μ-loop
 loop-holds c =
-    let a = c .before .args in
-    let p = c .before .pre in
-    let f = cellCoefficient (a .m) (a .n) (a .l) (now (a .records)) in (
+    let a = c .args in
+    let ok = c .pre .0 .0 in (
       refl,
       refl,
-      p .1 .1,
-      subst (λ (i : ℕ). Filled (a .m) (a .n) f i (a .out .now)) (sym (mul-zero (a .m ^ a .n)))
-          (stands-none (a .m) (a .n) (orders-some (p .0 .0)) f (a .out .now) (p .1 .0)),
+      filled-none (a .m) (a .n) (orders-some ok) (ok .axes-low) (ok .axes-high)
+          (cellCoefficient (a .m) (a .n) (a .l) (now (a .records))) (a .out .now) (c .pre .1 .1) (c .pre .1 .0),
       zero-le,
     )
 
-load-requires : tie.Need-load-requires Inv-loop μ-loop
-load-requires c κs =
-    let i = c .before .before in
-    let h = s i .pre .0 .1 .inside (i .before .loop .c) (corner i) in
-    let e = c .before .corner-start .ensures in
-    let g = s i .pre .0 .0 .groups-are in
-    (size-low (s i .pre .0 .0), omega arith, i .before .loop .inv .0)
-
-convert-requires : tie.Need-convert-requires Inv-loop μ-loop
-convert-requires c κs =
-    let d = c .before .before in
-    let i = d .before .before .before in
-    let ok = s i .pre .0 .0 in
-    ((ok, λ j h. d .load .ensures .1 j (in-groups ok j h)), (d .load .ensures .0 .long, i .before .loop .inv .1))
+block-solve-requires : tie.Need-block-solve-requires Inv-loop μ-loop
+block-solve-requires c κs =
+    let b = c .before .before in
+    let d = b .before in
+    let st = s d in
+    let h = st .pre .0 .1 .inside (corner d) (d .corner-at .ensures .1) in
+    let e = b .corner-start .ensures in
+    ((st .pre .0 .0, d .corner-at .ensures .1, omega arith), (d .before .before .loop .inv .0, d .before .before .loop .inv .1))
 
 loop-again : tie.Need-loop-again Inv-loop μ-loop
 loop-again c =
     let d = c .before .before .before in
-    let w = i d .before .loop in (
-      d .convert .ensures .1 .0,
-      d .convert .ensures .0 .long,
-      ap length (c .store .ensures) ∙ scatter-length _ _ _ _ ∙ w .inv .2,
+    let h = at-corner d .before .loop-test .taken in (
+      d .block-solve .ensures .1,
+      d .block-solve .ensures .0 .long,
       rw (c .store .ensures) (more d),
       omega arith,
     )
 
 returns : tie.Need-returns Inv-loop μ-loop
-returns c K l =
-    let st = c .before .before .before in
+returns c =
+    let st = c .before .before in
     let a = st .args in
     let w = c .before .loop in
-    let e : w .c ≡ 2 ^ a .n = (let h = c .before .before .power .ensures in omega arith) in
-    let f = cellCoefficient (a .m) (a .n) (a .l) (now (a .records)) in
-    stands-all (a .m) (a .n) (orders-some (st .pre .0 .0)) f (w .out)
-    (subst (λ (k : ℕ). Filled (a .m) (a .n) f (a .m ^ a .n * k) (w .out)) e (w .inv .3)) K l
+    let e : w .turn ≡ a .k = omega arith in
+    subst (λ (k : ℕ). Filled (a .m) (a .n) (cellCoefficient (a .m) (a .n) (a .l) (now (a .records))) k (w .out)) e (w .inv .2)
 
 pub fill-spec : {M : Type 1} → statement M
 fill-spec =
@@ -124,14 +127,12 @@ fill-spec =
     (tie.spec
     Inv-loop
     μ-loop
-    (λ c κs. (lit≤ tt, c .pre .0 .0 .axes-high))
     loop-holds
-    (λ c. let h = size-low (s c .pre .0 .0) in omega arith)
-    (λ c κs. (corner-low (s c .pre .0 .0) _ (corner c), s c .pre .0 .1 .small))
-    load-requires
-    convert-requires
-    (λ c κs. let d = c .before .before in (s (i d) .pre .0 .0, corner (i d), low d))
-    (λ c. let j = i (c .before .before .before) in let h = corner-low (s j .pre .0 .0) (j .before .loop .c) (corner j) in omega arith)
+    (λ c κs. let st = c .before .before in let ok = st .pre .0 .0 in let k = st .pre .0 .2 in (ok .axes-low, ok .axes-high, omega arith))
+    (λ c κs. (corner-low (s c .pre .0 .0) _ (c .corner-at .ensures .1), s c .pre .0 .1 .small))
+    block-solve-requires
+    (λ c κs. let d = c .before .before in (start d .pre .0 .0, at-corner d .corner-at .ensures .1, low d))
+    (λ c. let d = at-corner (c .before .before .before) in let h = corner-low (s d .pre .0 .0) (step d) (turn-low d) in omega arith)
     (λ c. omega arith)
     loop-again
     returns)

@@ -1,10 +1,12 @@
 -- `corners::corner_records` meets its contract: corner after corner the tests are passed and the entries stand in order.
 use mathlib.Core.Path.{_≡_, refl, sym, ap, subst, _∙_}
+use mathlib.Core.Bool.{true}
 use mathlib.Core.List.{List}
 use Prim.Native.Nat.{ℕ, _≤_, _<_, _+_, _^_, _-_, _*_, zero-le}
+use native.Mathlib.Nat.{le-trans, le-of-eq}
 use native.Mathlib.Omega.{arith}
 use lib.Dec.{lit≤}
-use lib.IntN.{ℤ}
+use lib.IntN.{ℤ, _*ℤ_, natAbs}
 use lib.ListN.{length}
 use denote.Ref.{now}
 use Rattle.arith.specs.Int.{floorDiv}
@@ -12,8 +14,9 @@ use Rattle.lattice.specs.Answers.{outcomeOf}
 use Rattle.lattice.specs.Outcome.{Check, done, firstOf}
 use Rattle.lattice.specs.Buffer.{at}
 use Rattle.lattice.proofs.OutcomeLaws.{firstOf-stops, firstOf-more, done-refused}
-use Rattle.coefficients.specs.Blocks.{scatter}
+use Rattle.coefficients.specs.Blocks.{blockSign, solvedBlock, scatter}
 use Rattle.coefficients.proofs.BlockLaws.{size-low, corner-low, count-low}
+use Rattle.coefficients.proofs.SignLaws.{block-sign-size}
 use Rattle.coefficients.proofs.SpotLaws.{scatter-length}
 use Rattle.corners.specs.Back.{blockTest, entryOf, entryTest}
 use Rattle.corners.proofs.BackLaws.{limits-hold, tests-are, filled, count-is, rows}
@@ -46,9 +49,12 @@ module _ (c : tie.In-loop Inv-loop μ-loop) where
   corner = subst (λ (k : ℕ). c .before .loop .c < k) (c .before .before .power .ensures) (c .loop-test .taken)
 
 -- the block of a corner
-module _ (c : tie.After-convert Inv-loop μ-loop) where
+module _ (c : tie.After-signed Inv-loop μ-loop) where
+  abbrev solved : tie.After-solve-back Inv-loop μ-loop
+  solved = c .before .before .before
+
   abbrev gathered : tie.After-gather Inv-loop μ-loop
-  gathered = c .before .before .before
+  gathered = solved .before .before .before
 
   abbrev i : tie.In-loop Inv-loop μ-loop
   i = gathered .before .before
@@ -62,12 +68,23 @@ module _ (c : tie.After-convert Inv-loop μ-loop) where
   abbrev xs : List ℤ
   xs = gathered .gather .last .1 .1 .1 .1 .1 .0
 
+  abbrev plain : List ℤ
+  plain = solved .solve-back .last .1 .1 .1 .1 .0
+
   abbrev zs : List ℤ
-  zs = c .convert .last .1 .1 .1 .1 .1 .1 .0
+  zs = c .signed .last .1 .1 .1 .1 .1 .0
+
+  number-is : (j : ℕ) → j < S i .args .m ^ S i .args .n
+      → at zs j ≡ blockSign (S i .args .m) k j *ℤ solvedBlock true (S i .args .m) (S i .args .n) (at xs) j
+  number-is j h = c .signed .ensures .is j h ∙ ap (λ z. blockSign (S i .args .m) k j *ℤ z) (solved .solve-back .ensures .0 .is j h)
+
+  number-low : (j : ℕ) → j < S i .args .m ^ S i .args .n → natAbs (at zs j) ≤ 2 ^ 50
+  number-low j h = rw (c .signed .ensures .is j h)
+      (le-trans (le-of-eq (block-sign-size (S i .args .m) k j (at plain j))) (solved .solve-back .ensures .1 .1 j h))
 
 -- its tests and its entries
 module _ (c : tie.After-store Inv-loop μ-loop) where
-  abbrev d : tie.After-convert Inv-loop μ-loop
+  abbrev d : tie.After-signed Inv-loop μ-loop
   d = c .before .before .before .before
 
   abbrev s : tie.Start Inv-loop μ-loop
@@ -78,7 +95,7 @@ module _ (c : tie.After-store Inv-loop μ-loop) where
       sym (subst (λ (e : ℕ). outcomeOf (c .store .result) ≡ firstOf e (blockTest (s .args .n) (limits d) (at (zs d))))
       (s .pre .0 .groups-are) (c .store .ensures .0)
       ∙ tests-are (s .pre .0) (limits d) (i d .before .before .before .entry-limits .ensures) (now (s .args .cs)) (k d) (corner (i d))
-      (at (xs d)) (at (zs d)) (gathered d .gather .ensures .is) (d .convert .ensures .0 .is))
+      (at (xs d)) (at (zs d)) (gathered d .gather .ensures .is) (number-is d))
 
   abbrev out : List ℤ
   out = c .store .last .1 .1 .1 .1 .1 .0
@@ -95,18 +112,24 @@ module _ (c : tie.After-store Inv-loop μ-loop) where
       let l = i d .before in
       ap (λ (ys : List ℤ). at ys j) (written e)
       ∙ filled (s .pre .0) (limits d) (l .before .before .entry-limits .ensures) (now (s .args .cs)) (k d) (corner (i d))
-      (at (xs d)) (at (zs d)) (gathered d .gather .ensures .is) (d .convert .ensures .0 .is) (l .loop .out)
+      (at (xs d)) (at (zs d)) (gathered d .gather .ensures .is) (number-is d) (l .loop .out)
       (rw (l .loop .inv .2) (count-low (s .pre .0))) (l .loop .inv .4) j h
 
 loop-holds : tie.Need-loop-holds Inv-loop μ-loop
 unfolding firstOf
 loop-holds c = let s = c .before .before in (refl, refl, s .pre .2, refl, λ i l. absurd (no-group (s .args .m ^ s .args .n) i l), zero-le)
 
-convert-requires : tie.Need-convert-requires Inv-loop μ-loop
-convert-requires c κs =
+solve-back-requires : tie.Need-solve-back-requires Inv-loop μ-loop
+solve-back-requires c κs =
     let g = c .before .before in
     let j = g .before .before in
     ((S j .pre .0, g .gather .ensures .low), (g .gather .ensures .long, j .before .loop .inv .1))
+
+signed-requires : tie.Need-signed-requires Inv-loop μ-loop
+signed-requires c κs =
+    let d = c .before .before in
+    let j = d .before .before .before .before .before in
+    (S j .pre .0, corner j, d .solve-back .ensures .1 .1, d .solve-back .ensures .1 .0)
 
 store-requires : tie.Need-store-requires Inv-loop μ-loop
 store-requires c κs =
@@ -115,7 +138,7 @@ store-requires c κs =
       ok .axes-high,
       size-low ok,
       corner-low ok (k w) (corner (i w)),
-      λ j h. w .convert .ensures .1 .1 j (subst (λ (e : ℕ). j < e) (ok .groups-are) h),
+      λ j h. number-low w j (subst (λ (e : ℕ). j < e) (ok .groups-are) h),
       λ j h. limits-hold ok (limits w) (i w .before .before .before .entry-limits .ensures) j (subst (λ (e : ℕ). j < e) (ok .groups-are) h),
     )
 
@@ -133,9 +156,10 @@ loop-again c =
     let w = c .before .before in
     let a = s w .args in
     let l = i (d w) .before .loop in
+    let taken = i (d w) .loop-test .taken in
     let e = ap outcomeOf (c .enum-told2 .given .1) in (
-      d w .convert .ensures .1 .0,
-      d w .convert .ensures .0 .long,
+      d w .signed .ensures .long,
+      solved (d w) .solve-back .ensures .0 .long,
       ap length (written w e) ∙ scatter-length _ _ _ _ ∙ l .inv .2,
       firstOf-more (l .c) (row (a .m) (a .n) (a .cs .now)) (l .inv .3) (tested w ∙ e),
       entries w e,
@@ -162,7 +186,8 @@ corner-records-spec =
     (λ c κs. (lit≤ tt, c .before .pre .0 .axes-high))
     loop-holds
     (λ c κs. let j = c .before in (S j .pre .0, corner j, S j .pre .1, j .before .loop .inv .0))
-    convert-requires
+    solve-back-requires
+    signed-requires
     (λ c. let h = size-low (S (i c) .pre .0) in omega arith)
     store-requires
     (λ c. search needs)
