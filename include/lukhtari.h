@@ -34,7 +34,11 @@
  *
  * Answers. A dose is in units, a slope in units per cell. Axes are worked off one by one, in the
  * order x, y, z, a slope's axis last; each but the last rounds to an eighth of a unit, the last to
- * a unit, to the nearest and halves up. Doses and slopes lie below 2^24 in size.
+ * a unit, to the nearest and halves up. Doses and slopes lie below 2^24 in size. With estimated
+ * records a dose is within 1/2, 37/64, 173/256 of the exact dose on 1, 2, 3 axes, a slope within
+ * 1/2, 13/16, 77/64 of its derivative. Where the samples are a sum of a constant and multiples of
+ * x, y, z, xy, xz, yz and xyz, these being the node indices, the exact dose is that sum everywhere
+ * in the table.
  *
  * The table file. Numbers of 4 bytes, lowest byte first, unsigned but for the samples, which are in
  * two's complement. n is the number of axes:

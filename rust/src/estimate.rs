@@ -5,7 +5,10 @@ use crate::{ffi, Refusal, Shape};
 
 /// Writes all records of a table, estimated from its samples, to the front of `records`.
 ///
-/// A neighbour missing at a border continues the line: straight samples have straight records.
+/// A neighbour missing at a border continues the line: straight samples have straight records. Where
+/// the samples are a sum of a constant and multiples of x, y, z, xy, xz, yz and xyz, these being the
+/// node indices, the exact dose is that sum everywhere in the table.
+///
 /// Samples lie within [`estimate_limit`](crate::limits::estimate_limit) of the number of axes.
 ///
 /// Refusals in order: 1, 2, 3, 4, 9, 19.

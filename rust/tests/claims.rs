@@ -2,57 +2,13 @@
 //! (Distances: see `random.rs` and `adversarial.rs`.)
 
 mod common;
+mod estimated;
 mod model;
 
 use common::*;
+use estimated::*;
 use lukhtari::*;
 use model::query::Where;
-
-// A table whose records the library estimated.
-#[derive(Clone)]
-struct Estimated {
-    shape: Shape,
-    records: Vec<i32>,
-}
-
-impl Estimated {
-    fn new(shape: Shape, samples: &[i32]) -> Estimated {
-        let mut records = vec![0; shape.entries()];
-        estimate(shape, samples, &mut records).expect("accepted table");
-        Estimated { shape, records }
-    }
-
-    // The dose, or the slope along an axis, by cell or by float.
-    fn ask(&self, at: Where, along: Option<u32>) -> Result<i32, Refusal> {
-        let (shape, records) = (self.shape, &self.records[..]);
-        match (at, along) {
-            (Where::Position(p), None) => dose(shape, records, p),
-            (Where::Position(p), Some(axis)) => slope(shape, records, p, axis),
-            (Where::Cell(cell, u), None) => dose_in_cell(shape, records, cell, u),
-            (Where::Cell(cell, u), Some(axis)) => slope_in_cell(shape, records, cell, u, axis),
-            (Where::Float(p), None) => dose_float(shape, records, p).map(|x| x as i32),
-            (Where::Float(p), Some(axis)) => slope_float(shape, records, p, axis).map(|x| x as i32),
-        }
-    }
-}
-
-// None for a dose, and each axis of a slope.
-fn kinds(axes: u32) -> impl Iterator<Item = Option<u32>> {
-    (0..axes).map(Some).chain([None])
-}
-
-// The cells that contain a point, with its steps in them.
-fn cells_at(shape: Shape, point: [u32; 3]) -> Vec<([u32; 3], [u32; 3])> {
-    let holds = |cell: &[u32; 3]| {
-        (0..shape.axes as usize).all(|axis| {
-            let low = 256 * cell[axis];
-            (low..=low + 256).contains(&point[axis])
-        })
-    };
-    let cells = cells(shape).into_iter().filter(holds);
-    let with_u = |cell: [u32; 3]| (cell, [0, 1, 2].map(|axis| point[axis] - 256 * cell[axis]));
-    cells.map(with_u).collect()
-}
 
 #[test]
 fn all_cells_that_contain_a_point_agree() {
@@ -77,17 +33,6 @@ fn all_cells_that_contain_a_point_agree() {
             }
         }
     }
-}
-
-// A point with about every second step at a node.
-fn shared_point(random: &mut Random, shape: Shape) -> [u32; 3] {
-    let mut step = |axis: usize| {
-        let cells = shape.counts[axis] as i64 - 1;
-        let node = 256 * random.range(0, cells);
-        let inside = random.range(0, 256 * cells);
-        random.pick(&[node, inside]) as u32
-    };
-    [0, 1, 2].map(&mut step)
 }
 
 // The node is within the block of the cell: one below it to two above it on every used axis.

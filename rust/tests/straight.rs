@@ -1,10 +1,13 @@
 //! Straight data: sums of a constant and multiples of x, y, z, xy, xz, yz and xyz.
 
 mod common;
+mod estimated;
 mod model;
 
 use common::*;
+use estimated::*;
 use lukhtari::*;
+use model::query::Where;
 use model::shape::indices;
 use model::stages::{exact, Point};
 use model::Rational;
@@ -12,17 +15,17 @@ use model::Rational;
 // The numbers k0 to k7 of k0 + k1 x + k2 y + k3 xy + k4 z + k5 xz + k6 yz + k7 xyz.
 type Numbers = [i64; 8];
 
-// A straight table, its numbers within what estimation takes.
+// A straight table, its samples within what estimation takes.
 struct Straight {
     numbers: Numbers,
-    shape: Shape,
-    records: Vec<i32>,
+    samples: Vec<i32>,
+    table: Estimated,
 }
 
 // The sum at a point given in parts of a cell, times parts^3; or its derivative along an axis.
-fn sum(numbers: &Numbers, at: [i64; 3], parts: i64, slope: Option<usize>) -> i64 {
+fn sum(numbers: &Numbers, at: [i64; 3], parts: i64, along: Option<u32>) -> i64 {
     let term = |number: usize| {
-        let factor = |axis: usize| match (number >> axis & 1 == 1, slope == Some(axis)) {
+        let factor = |axis: usize| match (number >> axis & 1 == 1, along == Some(axis as u32)) {
             (true, true) => parts,
             (true, false) => at[axis],
             (false, true) => 0,
@@ -33,47 +36,84 @@ fn sum(numbers: &Numbers, at: [i64; 3], parts: i64, slope: Option<usize>) -> i64
     (0..8).map(term).sum()
 }
 
+// The sum at a point given in cells, or its derivative along an axis, written out.
+fn expression(numbers: &Numbers, [x, y, z]: [Rational; 3], along: Option<u32>) -> Rational {
+    let [k0, k1, k2, k3, k4, k5, k6, k7] = numbers.map(Rational::whole);
+    match along {
+        None => {
+            let plane = k0 + k1 * x + k2 * y + k3 * x * y;
+            plane + k4 * z + k5 * x * z + k6 * y * z + k7 * x * y * z
+        }
+        Some(0) => k1 + k3 * y + k5 * z + k7 * y * z,
+        Some(1) => k2 + k3 * x + k6 * z + k7 * x * z,
+        _ => k4 + k5 * x + k6 * y + k7 * x * y,
+    }
+}
+
+// A point in cells.
+fn in_cells(point: [u32; 3]) -> [Rational; 3] {
+    point.map(|step| Rational::ratio(step as i64, 256))
+}
+
+// Random numbers, multiples of a step, whose sum estimation takes at every node.
+fn random_numbers(random: &mut Random, shape: Shape, step: i64) -> Numbers {
+    let limit = limits::estimate_limit(shape.axes) as i64;
+    let all = 1 << shape.axes;
+    let terms = random.pick(&[1, 2, all, all]);
+    let mut numbers = [0; 8];
+    for term in 0..terms {
+        // All numbers, or any one or two of them.
+        let number = match terms == all {
+            true => term as usize,
+            false => random.below(all as u64) as usize,
+        };
+        let used = (0..3).filter(|axis| number >> axis & 1 == 1);
+        let largest: i64 = used.map(|axis| shape.counts[axis] as i64 - 1).product();
+        let most = limit / (terms * largest * step);
+        let any = random.range(-most, most);
+        numbers[number] = step * random.pick(&[most, -most, any, any, any]);
+    }
+    numbers
+}
+
 impl Straight {
-    // A random table whose numbers are multiples of a step.
-    fn new(random: &mut Random, axes: u32, degree: u32, step: i64) -> Straight {
-        let shape = random.shape(axes, degree, if axes == 3 { 3 } else { 4 });
-        let nodes = indices(shape.counts.map(|count| count as usize));
-        let limit = limits::estimate_limit(axes) as i64;
-        let size = random.pick(&[2, 16, 128, 512]);
-        loop {
-            let mut numbers = [0; 8];
-            for number in &mut numbers[..1 << axes] {
-                *number = step * random.range(-size / step - 1, size / step + 1);
-            }
-            let sample = |node: &[usize; 3]| sum(&numbers, node.map(|i| i as i64), 1, None);
-            let samples: Vec<i64> = nodes.iter().map(sample).collect();
-            if samples.iter().all(|sample| sample.abs() <= limit) {
-                let samples: Vec<i32> = samples.iter().map(|&sample| sample as i32).collect();
-                let mut records = vec![0; shape.entries()];
-                estimate(shape, &samples, &mut records).expect("accepted table");
-                return Straight {
-                    numbers,
-                    shape,
-                    records,
-                };
-            }
+    fn new(shape: Shape, numbers: Numbers) -> Straight {
+        let sample = |node: [usize; 3]| sum(&numbers, node.map(|i| i as i64), 1, None) as i32;
+        let nodes = indices(plain_shape(shape).sides());
+        let samples: Vec<i32> = nodes.into_iter().map(sample).collect();
+        let table = Estimated::new(shape, &samples);
+        Straight {
+            numbers,
+            samples,
+            table,
         }
     }
 
-    // The library's answer and the sum times 256^3.
-    fn ask(&self, cell: [u32; 3], u: [u32; 3], slope: Option<usize>) -> (i32, i64) {
-        let answer = match slope {
-            None => dose_in_cell(self.shape, &self.records, cell, u),
-            Some(axis) => slope_in_cell(self.shape, &self.records, cell, u, axis as u32),
-        };
-        let at = [0, 1, 2].map(|axis| 256 * cell[axis] as i64 + u[axis] as i64);
-        let sum = sum(&self.numbers, at, 256, slope);
-        (answer.expect("accepted query"), sum)
+    // A random small table whose numbers are multiples of a step.
+    fn small(random: &mut Random, axes: u32, degree: u32, step: i64) -> Straight {
+        let shape = random.shape(axes, degree, if axes == 3 { 3 } else { 4 });
+        let numbers = random_numbers(random, shape, step);
+        Straight::new(shape, numbers)
     }
 
-    // None for a dose, and each axis of a slope.
-    fn kinds(&self) -> impl Iterator<Item = Option<usize>> {
-        (0..self.shape.axes as usize).map(Some).chain([None])
+    // A random table with node counts of any size, the axes different from each other.
+    fn random(random: &mut Random, axes: u32, degree: u32) -> Straight {
+        let most = match axes {
+            1 => random.pick(&[2, 9, 64]),
+            2 => random.pick(&[3, 9, 20]),
+            _ => random.pick(&[3, 4, 7]),
+        };
+        let shape = random.shape(axes, degree, most);
+        let numbers = random_numbers(random, shape, 1);
+        Straight::new(shape, numbers)
+    }
+
+    // The library's answer and the sum times 256^3.
+    fn ask(&self, cell: [u32; 3], u: [u32; 3], along: Option<u32>) -> (i32, i64) {
+        let answer = self.table.ask(Where::Cell(cell, u), along);
+        let at = [0, 1, 2].map(|axis| 256 * cell[axis] as i64 + u[axis] as i64);
+        let sum = sum(&self.numbers, at, 256, along);
+        (answer.expect("accepted query"), sum)
     }
 }
 
@@ -85,12 +125,12 @@ fn records_are_straight() {
     let mut random = Random::new(1);
     for (axes, degree) in KINDS {
         for _ in 0..50 {
-            let table = Straight::new(&mut random, axes, degree, 1);
+            let Straight { numbers, table, .. } = Straight::random(&mut random, axes, degree);
             let plain = plain_shape(table.shape);
             for node in indices(plain.sides()) {
                 for orders in plain.record_orders() {
                     let entry = table.records[plain.entry_index(node, orders)] as i64;
-                    assert_eq!(entry, straight_entry(&table.numbers, node, orders));
+                    assert_eq!(entry, straight_entry(&numbers, node, orders));
                 }
             }
         }
@@ -112,41 +152,162 @@ fn straight_entry(numbers: &Numbers, node: [usize; 3], orders: [usize; 3]) -> i6
 }
 
 #[test]
-fn the_exact_interpolant_is_the_sum() {
+fn the_exact_interpolant_is_the_expression() {
+    // At nodes, on faces, between them, in each cell that contains the point.
     let mut random = Random::new(2);
     for (axes, degree) in KINDS {
-        for _ in 0..40 {
-            let table = Straight::new(&mut random, axes, degree, 1);
-            for _ in 0..10 {
-                let cell = random.pick(&cells(table.shape));
-                let mut u = [0; 3];
-                u[..axes as usize].fill_with(|| random.below(257) as u32);
-                for slope in table.kinds() {
-                    let (answer, sum) = table.ask(cell, u, slope);
-                    let point = Point { cell, u, slope };
-                    let value = exact(&plain_shape(table.shape), &table.records, &point);
-                    assert_eq!(value, Rational::ratio(sum, CUBE));
-                    let distance = (Rational::whole(answer as i64) - value).abs();
-                    assert!(distance <= distance_bound(axes, slope.is_some()));
+        for _ in 0..30 {
+            let straight = Straight::random(&mut random, axes, degree);
+            let shape = straight.table.shape;
+            let plain = plain_shape(shape);
+            let records = model::estimate::estimate(&plain, &straight.samples, plain.entries());
+            let records = records.expect("accepted table");
+            for _ in 0..6 {
+                let at = shared_point(&mut random, shape);
+                for along in kinds(axes) {
+                    let expected = expression(&straight.numbers, in_cells(at), along);
+                    for (cell, u) in cells_at(shape, at) {
+                        let slope = along.map(|axis| axis as usize);
+                        let value = exact(&plain, &records, &Point { cell, u, slope });
+                        assert_eq!(value, expected, "{shape:?} {at:?} {along:?}");
+                    }
                 }
             }
         }
     }
 }
 
+#[test]
+fn a_saddle() {
+    // 100 + 40x - 30y + 8xy + 20z - 16xz + 16yz + 32xyz, the example of the proofs.
+    for degree in [3, 5] {
+        let shape = shape(3, degree, [3, 2, 2]);
+        let saddle = Straight::new(shape, [100, 40, -30, 8, 20, -16, 16, 32]);
+        let samples = [100, 140, 180, 70, 118, 166, 120, 144, 168, 106, 170, 234];
+        assert_eq!(saddle.samples, samples);
+        // At x = 5/4, y = 1/2, z = 3/4 it is 161, and its derivative along y is 22.
+        let at = Where::Position([320, 128, 192]);
+        assert_eq!(saddle.table.ask(at, None), Ok(161));
+        assert_eq!(saddle.table.ask(at, Some(1)), Ok(22));
+    }
+}
+
+#[test]
+fn a_slope_is_the_difference_over_a_cell() {
+    // Derivative and sum as these tests write them.
+    let mut random = Random::new(3);
+    for _ in 0..500 {
+        let numbers: Numbers = [0; 8].map(|_: i64| random.range(-4096, 4096));
+        let at = [0; 3].map(|_: u32| random.below(1024) as u32);
+        let here = expression(&numbers, in_cells(at), None);
+        let parts = at.map(|step| step as i64);
+        assert_eq!(here, Rational::ratio(sum(&numbers, parts, 256, None), CUBE));
+        for axis in 0..3 {
+            let mut next = at;
+            next[axis] += 256;
+            let along = Some(axis as u32);
+            let slope = expression(&numbers, in_cells(next), None) - here;
+            assert_eq!(expression(&numbers, in_cells(at), along), slope);
+            let sum = sum(&numbers, parts, 256, along);
+            assert_eq!(slope, Rational::ratio(sum, CUBE));
+        }
+    }
+}
+
+#[test]
+fn every_answer_is_near_the_expression() {
+    let mut random = Random::new(4);
+    for (axes, degree) in KINDS {
+        for _ in 0..60 {
+            let straight = Straight::random(&mut random, axes, degree);
+            let shape = straight.table.shape;
+            for _ in 0..10 {
+                let at = shared_point(&mut random, shape);
+                let mut places = vec![
+                    Where::Position(at.map(|step| step as i32)),
+                    Where::Float(at.map(|step| step as f32 / 256.0)),
+                ];
+                places.extend(
+                    cells_at(shape, at)
+                        .iter()
+                        .map(|&(cell, u)| Where::Cell(cell, u)),
+                );
+                for along in kinds(axes) {
+                    let expected = expression(&straight.numbers, in_cells(at), along);
+                    for &place in &places {
+                        let answer = straight.table.ask(place, along).expect("accepted query");
+                        let distance = (Rational::whole(answer as i64) - expected).abs();
+                        let bound = distance_bound(axes, along.is_some());
+                        assert!(
+                            distance <= bound,
+                            "{shape:?} {place:?} {along:?}: {distance:?}"
+                        );
+                    }
+                }
+            }
+        }
+    }
+}
+
+// The fraction of doses, or of slopes, at random steps that are the sum rounded once, halves up.
+fn nearest(random: &mut Random, axes: u32, degree: u32, slope: bool) -> f64 {
+    let (mut asked, mut equal) = (0, 0);
+    for _ in 0..200 {
+        let straight = Straight::random(random, axes, degree);
+        for _ in 0..100 {
+            let cell = random.pick(&cells(straight.table.shape));
+            let mut u = [0; 3];
+            u[..axes as usize].fill_with(|| random.below(257) as u32);
+            let along = slope.then(|| random.below(axes as u64) as u32);
+            let (answer, sum) = straight.ask(cell, u, along);
+            asked += 1;
+            equal += u32::from(answer as i64 == rounded(sum));
+        }
+    }
+    f64::from(equal) / f64::from(asked)
+}
+
+#[test]
+fn most_answers_are_the_nearest_whole_number() {
+    // All on one axis. On more axes the eighths of the stages before move a few to the next one.
+    let mut random = Random::new(5);
+    for (axes, degree) in KINDS {
+        for slope in [false, true] {
+            let part = nearest(&mut random, axes, degree, slope);
+            let kind = if slope { "slopes" } else { "doses" };
+            println!("nearest whole number, {kind}, degree {degree}, axes {axes}: {part:.4}");
+            let least = match (axes, slope) {
+                (1, _) => 1.0,
+                (_, false) => 0.95,
+                (_, true) => 0.92,
+            };
+            assert!(
+                part >= least,
+                "{kind}, degree {degree}, axes {axes}: {part}"
+            );
+        }
+    }
+}
+
+// A sum times 256^3 as the nearest whole number, halves up.
+fn rounded(sum: i64) -> i64 {
+    (2 * sum + CUBE).div_euclid(2 * CUBE)
+}
+
 // Every answer at these steps of every cell is the sum, rounded once.
-fn check_all(table: &Straight, steps: &[u32]) {
-    let sides = [0, 1, 2].map(|axis| match axis < table.shape.axes {
+fn check_all(straight: &Straight, steps: &[u32]) {
+    let shape = straight.table.shape;
+    let sides = [0, 1, 2].map(|axis| match axis < shape.axes {
         true => steps.len(),
         false => 1,
     });
-    for cell in cells(table.shape) {
+    for cell in cells(shape) {
         for at in indices(sides) {
             let u = at.map(|index| steps[index]);
-            for slope in table.kinds() {
-                let (answer, sum) = table.ask(cell, u, slope);
-                let rounded = (2 * sum + CUBE).div_euclid(2 * CUBE);
-                assert_eq!(answer as i64, rounded, "{:?} {cell:?} {u:?}", table.numbers);
+            for along in kinds(shape.axes) {
+                let (answer, sum) = straight.ask(cell, u, along);
+                let numbers = straight.numbers;
+                assert_eq!(answer as i64, rounded(sum), "{numbers:?} {cell:?} {u:?}");
             }
         }
     }
@@ -154,11 +315,11 @@ fn check_all(table: &Straight, steps: &[u32]) {
 
 #[test]
 fn lines_at_every_step() {
-    let mut random = Random::new(3);
+    let mut random = Random::new(6);
     let steps: Vec<u32> = (0..=256).collect();
     for degree in [3, 5] {
         for _ in 0..100 {
-            check_all(&Straight::new(&mut random, 1, degree, 1), &steps);
+            check_all(&Straight::random(&mut random, 1, degree), &steps);
         }
     }
 }
@@ -166,11 +327,11 @@ fn lines_at_every_step() {
 #[test]
 fn planes_at_every_step() {
     // With multiples of 32 the stage of the first axis rounds nothing off.
-    let mut random = Random::new(4);
+    let mut random = Random::new(7);
     let steps: Vec<u32> = (0..=256).collect();
     for degree in [3, 5] {
         for _ in 0..4 {
-            check_all(&Straight::new(&mut random, 2, degree, 32), &steps);
+            check_all(&Straight::small(&mut random, 2, degree, 32), &steps);
         }
     }
 }
@@ -178,11 +339,11 @@ fn planes_at_every_step() {
 #[test]
 fn blocks_at_every_sixteenth_step() {
     // With multiples of 32 the stages of the first two axes round nothing off.
-    let mut random = Random::new(5);
+    let mut random = Random::new(8);
     let steps: Vec<u32> = (0..=256).step_by(16).collect();
     for degree in [3, 5] {
         for _ in 0..8 {
-            check_all(&Straight::new(&mut random, 3, degree, 32), &steps);
+            check_all(&Straight::small(&mut random, 3, degree, 32), &steps);
         }
     }
 }
@@ -190,29 +351,18 @@ fn blocks_at_every_sixteenth_step() {
 #[test]
 fn blocks_at_every_step_of_an_axis() {
     // Sums without products, whose numbers are multiples of 32, are rounded once at every step.
-    let mut random = Random::new(6);
+    let mut random = Random::new(9);
     for degree in [3, 5] {
         let shape = cube(3, degree, 3);
-        let numbers: Numbers = [-96, 416, -352, 0, 640, 0, 0, 0];
-        let nodes = indices([3; 3]).into_iter();
-        let sample = |node: [usize; 3]| sum(&numbers, node.map(|i| i as i64), 1, None) as i32;
-        let samples: Vec<i32> = nodes.map(sample).collect();
-        let mut records = vec![0; shape.entries()];
-        estimate(shape, &samples, &mut records).expect("accepted table");
-        let table = Straight {
-            numbers,
-            shape,
-            records,
-        };
+        let straight = Straight::new(shape, [-96, 416, -352, 0, 640, 0, 0, 0]);
         for axis in 0..3 {
             for step in 0..=256 {
                 let mut u = [0; 3].map(|_: u32| random.below(257) as u32);
                 u[axis] = step;
                 for cell in cells(shape) {
-                    for slope in table.kinds() {
-                        let (answer, sum) = table.ask(cell, u, slope);
-                        let rounded = (2 * sum + CUBE).div_euclid(2 * CUBE);
-                        assert_eq!(answer as i64, rounded, "{cell:?} {u:?} {slope:?}");
+                    for along in kinds(3) {
+                        let (answer, sum) = straight.ask(cell, u, along);
+                        assert_eq!(answer as i64, rounded(sum), "{cell:?} {u:?} {along:?}");
                     }
                 }
             }

@@ -167,9 +167,9 @@ round-common k x y h l =
 
 -- ---- multiples, and their quotients
 
-pub two-power : (n : ℕ) → pos 2 ^ℤ n ≡ pos (2 ^ n)
-two-power zero = ap pos (sym (pow-zero 2))
-two-power (suc n) = ap (λ z. pos 2 *ℤ z) (two-power n) ∙ ap pos (sym (pow-succ' 2 n))
+pub pos-power : (k n : ℕ) → pos k ^ℤ n ≡ pos (k ^ n)
+pos-power k zero = ap pos (sym (pow-zero k))
+pos-power k (suc n) = ap (λ z. pos k *ℤ z) (pos-power k n) ∙ ap pos (sym (pow-succ' k n))
 
 module _ (d : ℕ) (some : 0 < d) where
   -- a multiple and its quotient

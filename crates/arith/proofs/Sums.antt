@@ -1,12 +1,12 @@
 -- Finite sums: they are linear, change places, are cut in two, and are no larger than the sum of the sizes.
 use mathlib.Core.Path.{_≡_, refl, sym, ap, ap₂, subst, _∙_}
-use mathlib.Core.List.{[], _∷_}
+use mathlib.Core.List.{List, [], _∷_}
 use Prim.Native.Nat.{ℕ, zero, suc, _+_, _*_, _-_, _≤_, _<_}
-use native.Mathlib.Nat.{le-refl, le-trans, le-of-eq, add-le-add, mul-le-mul-left, add-zero, add-suc, le-add-right, le-add-left, not-suc-le-zero}
+use native.Mathlib.Nat.{le-refl, le-trans, le-of-eq, add-le-add, mul-le-mul-left, add-zero, add-suc, le-add-right, le-add-left, mul-pos, not-suc-le-zero}
 use native.Mathlib.Omega.{arith}
 use lib.Dec.{lit≤}
 use lib.IntN.{ℤ, pos, negℤ, _+ℤ_, _*ℤ_, natAbs, *ℤ-zero, zero-*ℤ, +ℤ-idl, +ℤ-idr, negℤ-+ℤ}
-use Rattle.arith.specs.Sum.{sum, total}
+use Rattle.arith.specs.Sum.{sum, total, times}
 use Rattle.arith.proofs.Laws.{+ℤ-swap4, +ℤ-*ℤ, *ℤ-+ℤ}
 use Rattle.arith.proofs.Abs.{abs-add, abs-mul}
 use Rattle.arith.proofs.Choices.{by-m}
@@ -79,6 +79,11 @@ total-more : (k j : ℕ) (f : ℕ → ℕ) → total k f ≤ total (k + j) f
 unfolding total
 total-more k zero f = rw add-zero (le-refl (total k f))
 total-more k (suc j) f = rw (add-suc k j) (le-trans (total-more k j f) (le-add-right (total (k + j) f) (f (k + j))))
+
+pub times-some : (ls : List ℕ) (f : ℕ → ℕ) → ((a : ℕ) → 0 < f a) → 0 < times ls f
+unfolding times
+times-some [] f h = omega arith
+times-some (a ∷ ls) f h = mul-pos (h a) (times-some ls f h)
 
 -- a shorter sum is at most a longer one
 pub total-part : (k n : ℕ) (f : ℕ → ℕ) → k ≤ n → total k f ≤ total n f

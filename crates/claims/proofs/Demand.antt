@@ -25,6 +25,7 @@ use Rattle.query.specs.Queries.{wantOutcome, askedOutcome, reading}
 use Rattle.query.proofs.QueryLaws.{last-used, asked-parts, asked-passes}
 use Rattle.float_query.specs.Answers.{FloatValue, asDose, asSlope, inFloat}
 use Rattle.claims.specs.Third.{Query, queried, cellRead, stepRead, Reads, AcceptedTable, bothCalls, asked, allowedDistance, WithinDistance, Distance, Agreement, recounted, Locality, Askable, NoGap, Claimed, ThirdDemand}
+use Rattle.claims.specs.Straight.{askOf}
 use Rattle.claims.proofs.General.{rejoined}
 use Rattle.claims.proofs.Distance.{Proper, distance}
 use Rattle.claims.proofs.Agree.{agreement}
@@ -62,7 +63,7 @@ abbrev readHere : Shape → List ℤ → Want → Query → Outcome ℤ
 readHere s xs want q = reading s (recordsOf s xs) want (cellRead s q) (stepRead s q)
 
 module _ (s : Shape) (xs old : List ℤ) (taken : AcceptedTable s xs old) where
-  known : Estimable s xs (length old)
+  pub known : Estimable s xs (length old)
   known = estimated s xs (length old) taken
 
   -- the tests of the query, then what it reads
@@ -97,13 +98,13 @@ module _ (s : Shape) (xs old : List ℤ) (taken : AcceptedTable s xs old) where
       ∙ first-passed (gate s q) (readHere s xs want q) h ∙ read-is want q a h
 
 -- the facts behind a dose or slope that is taken: neither call is refused
-record Taken (s : Shape) (xs old : List ℤ) (want : Want) (q : Query) (v : ℤ) : Type 0 where
-  table : AcceptedTable s xs old
-  can : Askable s want
-  passed : gate s q ≡ done tt
-  is : v ≡ answer (asked s want q) (tableRecords s xs)
+pub record Taken (s : Shape) (xs old : List ℤ) (want : Want) (q : Query) (v : ℤ) : Type 0 where
+  pub table : AcceptedTable s xs old
+  pub can : Askable s want
+  pub passed : gate s q ≡ done tt
+  pub is : v ≡ answer (asked s want q) (tableRecords s xs)
 
-taken : (s : Shape) (xs old : List ℤ) (want : Want) (q : Query) (v : ℤ) → bothCalls s xs old want q ≡ done v → Taken s xs old want q v
+pub taken : (s : Shape) (xs old : List ℤ) (want : Want) (q : Query) (v : ℤ) → bothCalls s xs old want q ≡ done v → Taken s xs old want q v
 unfolding bothCalls
 taken s xs old want q v h =
     let t = first-done (estimateOutcome s xs (length old)) (queried s _ want q) v h .0 in
@@ -113,25 +114,30 @@ taken s xs old want q v h =
     let a = asked-known s (recordsOf s xs) want (f .0) in
     record { table = t; can = a; passed = g .0; is = done-same v _ (sym (g .1) ∙ read-is s xs old t want q a (g .0)) }
 
-proper : (s : Shape) (want : Want) (q : Query) → Shaped s → Askable s want → Reads s q → Proper (asked s want q)
-unfolding askAt
-proper s want q ok a r = record {
+-- what is asked of a table of an accepted shape, for every number of steps
+pub proper : (s : Shape) (want : Want) (N cell u : Place) → Shaped s → Askable s want → ((a : ℕ) → 0 < N a)
+    → ((a : ℕ) → a < s .axes → u a ≤ N a) → Proper (askOf s want N cell u)
+proper s want N cell u ok a stepped inside = record {
   m-low = orders-range (s .degree) .0;
   m-high = orders-range (s .degree) .1;
   n-high = ok .axes-high;
-  some = λ i. lit< tt;
+  some = stepped;
   last = used-last s want (ok .axes-low) a;
-  inside = r .contains .upto;
+  inside = inside;
 }
 
 -- ---- the parts of the demand
 
 module _ (s : Shape) (xs old : List ℤ) (want : Want) (q : Query) where
-  third-reads : (v : ℤ) → bothCalls s xs old want q ≡ done v → Reads s q
+  pub third-reads : (v : ℤ) → bothCalls s xs old want q ≡ done v → Reads s q
   third-reads v h = let t = taken s xs old want q v h in gated s (known s xs old (t .table) .shape) q (t .passed)
 
   is-proper : (v : ℤ) → bothCalls s xs old want q ≡ done v → Proper (asked s want q)
-  is-proper v h = let t = taken s xs old want q v h in proper s want q (known s xs old (t .table) .shape) (t .can) (third-reads v h)
+  unfolding askAt
+  is-proper v h =
+      let t = taken s xs old want q v h in
+      proper s want (λ a. steps) (cellRead s q) (stepRead s q) (known s xs old (t .table) .shape) (t .can) (λ a. lit< tt)
+      (third-reads v h .contains .upto)
 
   pub third-distance : Distance s xs want q (bothCalls s xs old want q)
   unfolding askAt

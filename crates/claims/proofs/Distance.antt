@@ -1,12 +1,12 @@
 -- How far the rounded stages are from the exact value, for every rounding that is off by at most half: each stage adds its own half and
 -- carries the errors before it.
-use mathlib.Core.Path.{_≡_, refl, sym, ap, _∙_}
+use mathlib.Core.Path.{_≡_, refl, sym, ap, ap₂, _∙_}
 use mathlib.Core.List.{List, [], _∷_}
 use Prim.Native.Nat.{ℕ, zero, suc, _+_, _*_, _-_, _^_, _≤_, _<_}
-use native.Mathlib.Nat.{le-trans, le-of-eq, mul-le-mul-left, mul-le-mul-right, pow-suc}
+use native.Mathlib.Nat.{le-trans, le-of-eq, mul-le-mul-left, mul-le-mul-right, le-of-mul-le-mul-left, pow-suc}
 use native.Mathlib.Omega.{arith}
 use lib.ListN.{length}
-use lib.IntN.{ℤ, pos, _+ℤ_, _-ℤ_, _*ℤ_, natAbs}
+use lib.IntN.{ℤ, pos, _+ℤ_, _-ℤ_, _*ℤ_, *ℤ-comm, natAbs}
 use Rattle.arith.specs.Int.{Rounding}
 use Rattle.arith.specs.Sum.{sum, times}
 use Rattle.arith.proofs.Abs.{abs-mul, abs-add}
@@ -22,7 +22,7 @@ use Rattle.hermite.proofs.Reach.{reach, gain, reach-gain}
 use Rattle.hermite.proofs.Sizes.{divisor-some}
 use Rattle.evaluate.specs.Evaluate.{Want, dose, slopeAlong, Ask, orderOn, lastAxis, divisorOn, exactSum, exactDivisor, stageOn, toEighth, toUnit, inEighths, before, answerBy}
 use Rattle.evaluate.proofs.AnswerLaws.{order-before, order-slope, order-smooth, each-before}
-use Rattle.claims.specs.Third.{allowedDistance, WithinDistance}
+use Rattle.claims.specs.Third.{Fraction, allowedDistance, WithinDistance}
 use Rattle.claims.proofs.Exact.{exact-last}
 
 -- a question of one of the two degrees, on up to three axes, the last one worked off among them, at steps of the cell
@@ -231,3 +231,22 @@ distance round sound q ok g =
   where
     stages : length (before q) ≡ q .n - 1
     stages = let e = sym (length-axes (q .n)) ∙ length-order (last-first (q .n) (lastAxis (q .n) (q .want)) (ok .last)) in omega arith
+
+-- ---- equal fractions
+
+-- x / d and y / c
+pub same-fraction : (f : Fraction) (v x y : ℤ) (d c : ℕ) → 0 < d → x *ℤ pos c ≡ y *ℤ pos d → WithinDistance f v x d → WithinDistance f v y c
+same-fraction f v x y d c some e h =
+    le-of-mul-le-mul-left (go (f .bottom) (f .top) (natAbs (v *ℤ pos d -ℤ x)) (natAbs (v *ℤ pos c -ℤ y)) h both) some
+  where
+    spread : (v x c d : ℤ) → (v *ℤ d -ℤ x) *ℤ c ≡ v *ℤ (d *ℤ c) -ℤ x *ℤ c
+    spread v x c d = ring! (v ∷ x ∷ c ∷ d ∷ []) (search quotes depth 40) tt
+
+    across : (v *ℤ pos d -ℤ x) *ℤ pos c ≡ (v *ℤ pos c -ℤ y) *ℤ pos d
+    across = spread v x (pos c) (pos d) ∙ ap₂ (λ i j. v *ℤ i -ℤ j) (*ℤ-comm (pos d) (pos c)) e ∙ sym (spread v y (pos d) (pos c))
+
+    both : natAbs (v *ℤ pos d -ℤ x) * c ≡ natAbs (v *ℤ pos c -ℤ y) * d
+    both = sym (abs-mul (v *ℤ pos d -ℤ x) (pos c)) ∙ ap natAbs across ∙ abs-mul (v *ℤ pos c -ℤ y) (pos d)
+
+    go : (b t m n : ℕ) → b * m ≤ t * d → m * c ≡ n * d → d * (b * n) ≤ d * (t * c)
+    go b t m n h k = let i = mul-le-mul-right c h in let j = ap (λ (z : ℕ). b * z) k in omega arith

@@ -48,7 +48,7 @@ module _ (w : ℕ) (W : ℕ → ℕ → ℤ) where
       (λ t l. ap (λ (j : ℕ). sweep ls weighs C (put a t p) *ℤ W a j) (put-at a t p)))
 
 -- in any order
-exact-stages : (q : Ask) (ls : List ℕ) → Reordered (axes (q .n)) ls → (g : Field) → exactSum q g ≡ sweep ls (stageOn q) g origin
+pub exact-stages : (q : Ask) (ls : List ℕ) → Reordered (axes (q .n)) ls → (g : Field) → exactSum q g ≡ sweep ls (stageOn q) g origin
 unfolding exactSum coefficients weightOn stageOn stageSum
 exact-stages q ls r g =
     ap (λ (h : Field). h origin)

@@ -1,16 +1,20 @@
--- The worked examples with a star, and the further rows: every row computes what is printed.
-use mathlib.Core.Path.{refl, sym, ap₂, _∙_}
+-- The worked examples with a star, and the further rows: every row computes what is printed. An example of straight data.
+use mathlib.Core.Path.{_≡_, refl, sym, ap₂, _∙_}
 use mathlib.Core.List.{List, _++_, map-append}
+use Prim.Native.Nat.{ℕ, _+_, _*_, _<_}
+use lib.Dec.{lit<}
+use lib.IntN.{pos}
 use Rattle.arith.specs.Int.{roundHalfUp, unsignedOf}
 use Rattle.arith.specs.Sum.{sum, total, product, times}
 use Rattle.arith.specs.Choice.{pick}
+use Rattle.arith.proofs.Choices.{by-2, by-3}
 use Rattle.lattice.specs.Outcome.{firstOf}
-use Rattle.lattice.specs.Buffer.{tabulate}
+use Rattle.lattice.specs.Buffer.{at, tabulate}
 use Rattle.lattice.specs.Digits.{number, span, digit}
 use Rattle.lattice.specs.Shape.{count, ordersOf, nodes, entries, size, axesOutcome, degreeOutcome, countAllowed, countsOutcome, shapeOutcome}
 use Rattle.lattice.specs.Axes.{put, sweep, axes, without}
 use Rattle.lattice.specs.Records.{nodeNumber, samplesField, entryNumber, entryIndex, recordsField, entryPlace, totalOrder, entryLimit, limitOutcome}
-use Rattle.hermite.specs.Hermite.{multiplier, mirrored, share, forward, solved, backward, weight, weightAt, divisor, stageSum}
+use Rattle.hermite.specs.Hermite.{steps, multiplier, mirrored, share, forward, solved, backward, weight, weightAt, divisor, stageSum}
 use Rattle.cell.specs.Cell.{placeAt, cellOutcome, cornerPlace, cornerEntries, entryOutcome, cornersOutcome}
 use Rattle.cell.specs.Coefficients.{coefficients}
 use Rattle.cell.specs.Corners.{cornerNumbers}
@@ -19,11 +23,13 @@ use Rattle.table_file.specs.File.{sectionOne, sectionTwo, fileOf, complete, cou
 use Rattle.estimate.specs.Estimate.{left, right, byOrder, estimate, records, tableRecords, recordsOf, estimateLimit, estimateOutcome, estimateWrites}
 use Rattle.coefficients.specs.Coefficients.{requestOutcome, coefficientList, coefficientsOutcome}
 use Rattle.corners.specs.Corners.{numbersOutcome, coefficientsField, doubledEntry, entryAllowed, possibleOutcome, entryList, backOutcome}
-use Rattle.evaluate.specs.Evaluate.{orderOn, lastAxis, weightOn, sumOver, exactSum, divisorOn, exactDivisor, stageOn, toEighth, toUnit, inEighths, before, answerBy, askAt}
+use Rattle.evaluate.specs.Evaluate.{dose, orderOn, lastAxis, weightOn, sumOver, exactSum, divisorOn, exactDivisor, stageOn, toEighth, toUnit, inEighths, before, answerBy, askAt}
 use Rattle.query.specs.Queries.{wantOutcome, askedOutcome, reading, stepsOutcome, testedOutcome, byCell, positionAt, positionOutcome, cellOf, positionCell, positionStep, byPosition}
-use Rattle.claims.specs.Third.{queried, cellRead, stepRead, bothCalls, allowedDistance}
+use Rattle.claims.specs.Third.{atPosition, queried, pointOf, cellRead, stepRead, bothCalls, _over_, allowedDistance, WithinDistance}
 use Rattle.claims.specs.Examples.{Row, recordsFrom, coefficientsOf, coefficientsFrom, backInto, firstStage, exactly, answerTo, table, AllRows}
 use Rattle.claims.specs.Pinned.{answerFrom, notZero, sparse, among, numbered, limits, leftOver, distances, only, flat, fileWith, refusals, readings, numbers, pins}
+use Rattle.claims.specs.Straight.{valueOf, valueAt, wantedOf, Straight, saddle, saddleTable, inSaddle, saddleRows}
+use Rattle.claims.proofs.Straight.{nearly-straight}
 
 -- all definitions that the rows compute with, opened together
 opened : Unit {0}
@@ -65,3 +71,34 @@ pinned = joined (refusals ++ readings) numbers (joined refusals readings of-refu
   where
     joined : (xs ys : List Row) → AllRows xs → AllRows ys → AllRows (xs ++ ys)
     joined xs ys e f = map-append (λ (r : Row). r .computed) xs ys ∙ ap₂ _++_ e f ∙ sym (map-append (λ (r : Row). r .printed) xs ys)
+
+-- ---- straight data
+
+pub saddle-rows : AllRows saddleRows
+unfolding opened saddleRows
+saddle-rows = refl
+
+-- the samples are the expression at every node
+pub saddle-straight : (degree : ℕ) → Straight (saddleTable degree .shape) (saddleTable degree .samples) saddle
+unfolding opened valueOf
+saddle-straight degree p here =
+    by-3 At (rest 0 refl refl refl refl) (rest 1 refl refl refl refl) (rest 2 refl refl refl refl)
+    (p 0) (here .used 0 (lit< tt)) (p 1) (here .used 1 (lit< tt)) (p 2) (here .used 2 (lit< tt))
+  where
+    Node : ℕ → ℕ → ℕ → Type 0
+    Node i j k =
+        at (saddleTable degree .samples) (i + 3 * (j + 2 * (k + 2 * 0)))
+        ≡ valueOf saddle (pos 1) (pos 1) (pos 1) (pos i) (pos j) (pos k)
+
+    At : ℕ → Type 0
+    At i = (j : ℕ) → j < 2 → (k : ℕ) → k < 2 → Node i j k
+
+    rest : (i : ℕ) → Node i 0 0 → Node i 0 1 → Node i 1 0 → Node i 1 1 → At i
+    rest i a b c d = by-2 (λ j. (k : ℕ) → k < 2 → Node i j k) (by-2 (Node i 0) a b) (by-2 (Node i 1) c d)
+
+-- so the theorem speaks of the number given
+pub saddle-near : WithinDistance (173 over 256) (pos 161) (valueAt saddle (λ a. steps) (positionAt inSaddle)) (steps * steps * steps)
+unfolding opened wantedOf pointOf
+saddle-near =
+    nearly-straight (saddleTable 3 .shape) (saddleTable 3 .samples) (tabulate 96 (λ i. pos 0)) saddle dose (atPosition inSaddle) (pos 161)
+    (saddle-straight 3) refl

@@ -5,6 +5,7 @@ pub mod Agree
 pub mod Block
 pub mod Gates
 pub mod Demand
+pub mod Straight
 pub mod Corners
 pub mod Second
 pub mod Examples

@@ -1,7 +1,8 @@
--- Reading order: Third, Second, Corners, Calls, Examples, Pinned.
+-- Reading order: Third, Second, Corners, Calls, Examples, Pinned, Straight.
 pub mod Third
 pub mod Second
 pub mod Corners
 pub mod Calls
 pub mod Examples
 pub mod Pinned
+pub mod Straight

@@ -12,7 +12,7 @@ use lib.ListN.{length}
 use lib.Seq.{ext-getD}
 use borrow.Author.Tests.{le-leb, eq-eqb}
 use Rattle.arith.specs.Int.{_^ℤ_, floorDiv}
-use Rattle.arith.proofs.Round.{two-power, floor-multiple}
+use Rattle.arith.proofs.Round.{pos-power, floor-multiple}
 use Rattle.lattice.specs.Outcome.{done, refused, refuseUnless, firstOf}
 use Rattle.lattice.specs.Buffer.{at}
 use Rattle.lattice.specs.Digits.{digit}
@@ -53,7 +53,7 @@ module _ (m n : ℕ) (m2 : 2 ≤ m) (m3 : m ≤ 3) (cs : List ℤ) where
         (coefficient-within m m2 m3 n few (at r) (ok .within) (digit (λ b. 2 * m) K) (digits-in n (2 * m) K (omega arith) l)))
 
     doubled-is : (i : ℕ) → i < coefficientCount m n → doubledEntry m n cs i ≡ pos (2 ^ n) *ℤ at r i
-    doubled-is i l = doubled-of m n m2 m3 r cs has i l ∙ ap (λ z. z *ℤ at r i) (two-power n)
+    doubled-is i l = doubled-of m n m2 m3 r cs has i l ∙ ap (λ z. z *ℤ at r i) (pos-power 2 n)
 
     -- back of forward is the corner records
     pub back-of-forward : length r ≡ coefficientCount m n → entryList m n cs ≡ r
@@ -90,7 +90,7 @@ module _ (m n : ℕ) (m2 : 2 ≤ m) (m3 : m ≤ 3) (cs : List ℤ) where
     pub forward-of-back : HasCoefficients m n (entryList m n cs) cs
     forward-of-back =
         has-of m n m2 m3 (entryList m n cs) cs many
-        (λ i l. each i l .0 ∙ ap (λ z. z *ℤ entry i) (sym (two-power n)) ∙ ap (λ z. pos 2 ^ℤ n *ℤ z) (sym (entry-at i l)))
+        (λ i l. each i l .0 ∙ ap (λ z. z *ℤ entry i) (sym (pos-power 2 n)) ∙ ap (λ z. pos 2 ^ℤ n *ℤ z) (sym (entry-at i l)))
 
 -- ---- refusal 13
 

@@ -18,11 +18,11 @@ use Rattle.lattice.specs.Buffer.{at}
 use Rattle.lattice.specs.Shape.{orders, Shaped}
 use Rattle.lattice.specs.Axes.{Place, Field, put, sweep, axes}
 use Rattle.lattice.specs.Records.{recordsField}
-use Rattle.lattice.proofs.Along.{put-at, put-off, Each, Fresh, Distinct}
+use Rattle.lattice.proofs.Along.{put-at, put-off, linear-multiple, Each, Fresh, Distinct}
 use Rattle.lattice.proofs.ShapeLaws.{orders-range}
 use Rattle.hermite.specs.Hermite.{steps, divisor, stageSum}
 use Rattle.hermite.specs.Stage.{Folds, shiftOf}
-use Rattle.hermite.proofs.HermiteLaws.{stage-multiple}
+use Rattle.hermite.proofs.HermiteLaws.{stage-linear}
 use Rattle.hermite.proofs.StageLaws.{stage-folded}
 use Rattle.cell.specs.Cell.{Accepted, base, nodeStride, orderStride, offset}
 use Rattle.cell.proofs.CellLaws.{Numbers, placed, entry-at}
@@ -78,7 +78,7 @@ module _ {s : Shape} {want : Want} {step : Place} {from to a k : ℕ} {x : Axis}
     worked-is {round} sound c j X e =
         ap₂ round
         (stage-of (orderOn want a) (orders s) steps c (step a) X (λ t. pos from *ℤ g (i + offset s a t)) j e
-        ∙ stage-multiple (orderOn want a) (orders s) steps 0 (step a) (pos from) (λ t. g (i + offset s a t)) 0)
+        ∙ linear-multiple (stage-linear (orderOn want a) (orders s) steps 0 (step a)) (pos from) (λ t. g (i + offset s a t)) 0)
         (sym (h .shift-is) ∙ mul-comm (2 ^ (k + 1)) from)
         ∙ sound .common from (stageSum (orderOn want a) (orders s) steps 0 (step a) (λ t. g (i + offset s a t)) 0) (2 ^ (k + 1)) (h .some)
         (pow-pos (k + 1))

@@ -10,9 +10,9 @@ use borrow.Author.Tests.{lt-ltb, le-ltb}
 use lib.IntN.{ℤ, pos, negℤ, _+ℤ_, _-ℤ_, _*ℤ_, *ℤ-comm, zero-*ℤ, +ℤ-idl, +ℤ-idr, natAbs, negℤ-negℤ}
 use Rattle.arith.proofs.Abs.{abs-neg}
 use Rattle.arith.proofs.Choices.{pick-true, pick-false}
-use Rattle.arith.proofs.Laws.{negℤ-*ℤ, *ℤ-negℤ, *ℤ-left-comm}
+use Rattle.arith.proofs.Laws.{negℤ-*ℤ, *ℤ-negℤ}
 use Rattle.arith.proofs.Quote.{quotes, ring! }
-use Rattle.arith.proofs.Sums.{sum-ext, sum-left, sum-right, sum-swap, sum-zero, sum-neg, sum-ends, sum-halves}
+use Rattle.arith.proofs.Sums.{sum-ext, sum-right, sum-swap, sum-zero, sum-neg, sum-ends, sum-halves}
 use Rattle.arith.specs.Int.{_^ℤ_}
 use Rattle.arith.specs.Sum.{sum}
 use Rattle.lattice.specs.Axes.{Rule}
@@ -58,16 +58,6 @@ stage-linear k m N c u = record
         ∙ sum-swap (2 * m) (2 * m) (λ i t. share m i t *ℤ W i *ℤ y t)
         ∙ sum-ext (2 * m) (λ t. sum (2 * m) (λ i. share m i t *ℤ W i *ℤ y t)) (λ t. basis k m N u t *ℤ y t)
         (λ t l. sum-right (2 * m) (λ i. share m i t *ℤ W i) (y t))
-
--- a multiple of all numbers is a multiple of the stage
-pub stage-multiple : (k m N c u : ℕ) (z : ℤ) (x : ℕ → ℤ) (j : ℕ) → stageSum k m N c u (λ t. z *ℤ x t) j ≡ z *ℤ stageSum k m N c u x j
-unfolding stage-linear
-stage-multiple k m N c u z x j =
-    stage-linear k m N c u .is (λ t. z *ℤ x t) j
-    ∙ sum-ext (2 * m) (λ t. basis k m N u t *ℤ (z *ℤ x (m * c + t))) (λ t. z *ℤ (basis k m N u t *ℤ x (m * c + t)))
-    (λ t l. *ℤ-left-comm (basis k m N u t) z (x (m * c + t)))
-    ∙ sum-left (2 * m) z (λ t. basis k m N u t *ℤ x (m * c + t))
-    ∙ ap (λ y. z *ℤ y) (sym (stage-linear k m N c u .is x j))
 
 -- ---- one cell and another whose numbers are the same
 

@@ -78,6 +78,15 @@ pub linear-size : {R : Rule} (L : Linear R) (x : ℕ → ℤ) (j B : ℕ) → ((
     → natAbs (R x j) ≤ total (L .width) (λ t. natAbs (L .factor j t)) * B
 linear-size L x j B h = le-trans (le-of-eq (ap natAbs (L .is x j))) (abs-weighted (L .width) (L .factor j) (λ t. x (L .place j t)) B h)
 
+-- a multiple of all numbers makes the same multiple of the result
+pub linear-multiple : {R : Rule} (L : Linear R) (z : ℤ) (x : ℕ → ℤ) (j : ℕ) → R (λ t. z *ℤ x t) j ≡ z *ℤ R x j
+linear-multiple L z x j =
+    L .is (λ t. z *ℤ x t) j
+    ∙ sum-ext (L .width) (λ t. L .factor j t *ℤ (z *ℤ x (L .place j t))) (λ t. z *ℤ (L .factor j t *ℤ x (L .place j t)))
+    (λ t l. *ℤ-left-comm (L .factor j t) z (x (L .place j t)))
+    ∙ sum-left (L .width) z (λ t. L .factor j t *ℤ x (L .place j t))
+    ∙ ap (λ y. z *ℤ y) (sym (L .is x j))
+
 module _ {R S : Rule} (K : Linear R) (L : Linear S) (g : Field) where
   -- two rules on different axes, as one sum
   along-two : (a b : ℕ) (p : Place) → (b ≡ a → ⊥)

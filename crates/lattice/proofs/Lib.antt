@@ -5,6 +5,7 @@ pub mod DigitsLaws
 pub mod ShapeLaws
 pub mod Along
 pub mod Local
+pub mod Straight
 pub mod PassLaws
 pub mod PassesLaws
 pub mod RecordsLaws
