@@ -1,7 +1,8 @@
 /* Hermite interpolation on lattices of one to three axes, cubic or quintic, in whole numbers.
  *
  * A table is a shape with one sample for each node. lukhtari_estimate makes each node's record
- * from the samples; doses and slopes are then asked for by table position, by cell or by float.
+ * from the samples; doses and slopes are then asked for by table position, by cell or by float,
+ * and doses also by a list of positions, a ramp.
  *
  * Nodes, cells and positions. Axes are x, y, z in this order, numbered 0, 1, 2; a shape uses the
  * first 1, 2 or 3. With cx and cy the node counts of x and y, node (i, j, k) has number
@@ -40,6 +41,12 @@
  * x, y, z, xy, xz, yz and xyz, these being the node indices, the exact dose is that sum everywhere
  * in the table.
  *
+ * A ramp. A list of at most LUKHTARI_RAMP_MAX positions stands in one slice, three numbers each, x
+ * first. lukhtari_ramp writes one dose for each, the one that lukhtari_dose gives. The corner
+ * records are fetched only where the cell differs from that of the position before: the number of
+ * fetches is 0 for an empty list, else one more than the number of neighbouring pairs of positions
+ * with different cells.
+ *
  * The table file. Numbers of 4 bytes, lowest byte first, unsigned but for the samples, which are in
  * two's complement. n is the number of axes:
  *
@@ -62,17 +69,19 @@
  *
  * Slices. A slice is a pointer and its number of elements. The pointer is aligned and valid for so
  * many elements until the call returns. Slices lent to one call do not overlap where one of them
- * is written. With length 0 the pointer may be NULL: it is not used, and since every call needs
- * elements, the call is refused. What a buffer holds before a call has no effect on the call.
+ * is written. With length 0 the pointer may be NULL: it is not used. Every call but lukhtari_ramp,
+ * whose list may be empty, needs elements in each slice and is then refused. What a buffer holds
+ * before a call has no effect on the call.
  *
  * Results. Every result has a number and a place. Number 0 means not refused, and then place is 0.
  * Any other number is a refusal, one of enum lukhtari_refusal: no buffer is written, and value,
- * axes, counts and length are 0. Place is the first offending index as said there, else 0. A
+ * axes, counts, length and fetches are 0. Place is the first offending index as said there, else 0. A
  * buffer longer than needed keeps its tail.
  *
- * Refusals come before reading. Every call but lukhtari_read and lukhtari_import gives each refusal
- * but 5, 13 and 19 by the numbers and lengths handed over, before it reads an element of a slice.
- * lukhtari_read reads the numbers before the samples one by one, none beyond the bytes lent, and
+ * Refusals come before reading. Every call but lukhtari_read, lukhtari_import and lukhtari_ramp
+ * gives each refusal but 5, 13 and 19 by the numbers and lengths handed over, before it reads an
+ * element of a slice. lukhtari_ramp gives 1, 2, 3, 20, 4 and 9 so, and then reads no record beyond
+ * those of the cells of its positions, up to the first position that is refused. lukhtari_read reads the numbers before the samples one by one, none beyond the bytes lent, and
  * gives each refusal but 5 before it reads a sample. lukhtari_import gives 1, 2 and 3 before it
  * reads a byte of the text. Neither reads the slice that it fills.
  *
@@ -93,7 +102,7 @@ extern "C" {
 #endif
 
 /* The number of this interface; another number means other structs or calls. */
-#define LUKHTARI_INTERFACE 2
+#define LUKHTARI_INTERFACE 3
 
 /* Steps of a cell along an axis. */
 #define LUKHTARI_STEPS 256
@@ -116,6 +125,9 @@ extern "C" {
 /* The most bytes of a token. */
 #define LUKHTARI_TOKEN_BYTES_MAX 64
 
+/* The most positions of a ramp. */
+#define LUKHTARI_RAMP_MAX 256
+
 /* The largest sizes of buffers: entries of one record and of all records of a table; coefficients
  * of a cell, which are as many as the entries of its corner records; bytes of a table file. */
 #define LUKHTARI_RECORD_ENTRIES_MAX 27
@@ -135,12 +147,13 @@ extern "C" {
 #define LUKHTARI_FILE_BYTES(axes, nodes) (4 * (2 + (size_t)(axes) + (size_t)(nodes)))
 
 /* Bytes of stack, at most: of lukhtari_estimate; of lukhtari_coefficients and lukhtari_corners; of
- * each dose and slope; of lukhtari_read and lukhtari_write; of lukhtari_import. */
+ * each dose and slope; of lukhtari_read and lukhtari_write; of lukhtari_import; of lukhtari_ramp. */
 #define LUKHTARI_STACK_ESTIMATE 8192
 #define LUKHTARI_STACK_CONVERSION 4096
 #define LUKHTARI_STACK_QUERY 2048
 #define LUKHTARI_STACK_FILE 1024
 #define LUKHTARI_STACK_IMPORT 1024
+#define LUKHTARI_STACK_RAMP 4096
 
 /* The numbers of refusals. */
 enum lukhtari_refusal {
@@ -157,7 +170,7 @@ enum lukhtari_refusal {
     LUKHTARI_REFUSED_LENGTH = 4,
     /* A sample of a file or text, or an entry, is beyond its limit; place: its index in the slice.
      * Queries and lukhtari_coefficients look at the corner records of their cell alone, in corner
-     * order. */
+     * order. For lukhtari_ramp the place is the index of the position in the list. */
     LUKHTARI_REFUSED_BEYOND_LIMIT = 5,
     /* The file's bytes end early; place: the number of bytes lent. */
     LUKHTARI_REFUSED_FILE_ENDS_EARLY = 6,
@@ -170,7 +183,8 @@ enum lukhtari_refusal {
     /* A float is NaN or infinite; place: the axis. */
     LUKHTARI_REFUSED_NOT_FINITE = 10,
     /* A position is below 0 or beyond the last node, an in-cell step is above 256, or either is
-     * not 0 on an unused axis; place: the axis. */
+     * not 0 on an unused axis; place: the axis, and for lukhtari_ramp the index of the position in
+     * the list. */
     LUKHTARI_REFUSED_POSITION = 11,
     /* The axis of a slope is not used. */
     LUKHTARI_REFUSED_SLOPE_AXIS = 12,
@@ -188,7 +202,9 @@ enum lukhtari_refusal {
     /* A token is not a whole number of units; place: the same. */
     LUKHTARI_REFUSED_TOKEN_NOT_WHOLE = 18,
     /* A sample given for estimation is beyond 32768 / 2^axes; place: its index. */
-    LUKHTARI_REFUSED_BEYOND_ESTIMATE_LIMIT = 19
+    LUKHTARI_REFUSED_BEYOND_ESTIMATE_LIMIT = 19,
+    /* A ramp has more than 256 positions, or their numbers are not three for each. */
+    LUKHTARI_REFUSED_RAMP_LENGTH = 20
 };
 
 /* A table's number of axes (1 to 3), degree (3 or 5) and node counts: 2 to 64 on each used axis,
@@ -251,6 +267,13 @@ typedef struct lukhtari_written {
     uint64_t length;
 } lukhtari_written;
 
+/* How often the corner records of a cell were fetched. */
+typedef struct lukhtari_ramped {
+    uint32_t number;
+    uint64_t place;
+    uint64_t fetches;
+} lukhtari_ramped;
+
 /* The structs are laid out as the archive was built for. */
 #if defined(__cplusplus) && __cplusplus >= 201103L
 #define LUKHTARI_SIZE(type, size) static_assert(sizeof(type) == (size), #type)
@@ -268,6 +291,7 @@ LUKHTARI_SIZE(lukhtari_whole, 24);
 LUKHTARI_SIZE(lukhtari_real, 24);
 LUKHTARI_SIZE(lukhtari_table, 32);
 LUKHTARI_SIZE(lukhtari_written, 24);
+LUKHTARI_SIZE(lukhtari_ramped, 24);
 #undef LUKHTARI_SIZE
 #endif
 
@@ -340,6 +364,13 @@ lukhtari_written lukhtari_write(uint32_t axes, lukhtari_index counts, const int3
  * Refusals in order: 1, 2, 3, 4 (the number of tokens), 9, then token by token 16, 17, 18, 5. */
 lukhtari_done lukhtari_import(lukhtari_shape shape, const uint8_t *text, size_t text_len,
                               int32_t *samples, size_t samples_len);
+
+/* Writes the doses at a list of table positions, three numbers each, one answer for each position.
+ * Refusals in order, also for an empty list: 1, 2, 3, 20, 4, 9; then position by position what
+ * lukhtari_dose refuses it for, 11 or 5, with the index of the position in the list as place. */
+lukhtari_ramped lukhtari_ramp(lukhtari_shape shape, const int32_t *records, size_t records_len,
+                              const int32_t *positions, size_t positions_len, int32_t *answers,
+                              size_t answers_len);
 
 #ifdef __cplusplus
 }

@@ -1,6 +1,6 @@
 //! The library's calls beside hand-written Rust and C of the same whole calls, the published method
 //! in f64, and LittleCMS where it is installed. All times are of one run, in nanoseconds a call, of
-//! import a byte; in brackets is the library's time divided by the other's. The tables are those of
+//! import a byte, of ramps a dose; in brackets is the library's time divided by the other's. The tables are those of
 //! `docs/SPEED.md`.
 //!
 //! Doses and slopes by hand are of two kinds: specialised, with one copy of the code for each
@@ -18,17 +18,19 @@ mod import;
 mod inputs;
 mod lcms;
 mod queries;
+mod ramps;
 mod report;
 
 use std::env;
 
 // All parts, or those named by the arguments.
 fn main() {
-    let parts: [(&str, fn()); 7] = [
+    let parts: [(&str, fn()); 8] = [
         ("import", import::run),
         ("estimation", estimation::run),
         ("conversion", conversion::run),
         ("queries", queries::run),
+        ("ramps", ramps::run),
         ("floats", floats::run),
         ("c", c::run),
         ("lcms", lcms::run),

@@ -3,7 +3,8 @@
 //! A slice is a pointer and its number of elements. It is lent to a call if, until it returns,
 //! the pointer is aligned and valid for so many elements: to be read behind `*const`, to be read and
 //! written behind `*mut`, where it overlaps no other slice of the call. A slice of length 0 is lent
-//! with any pointer, null included: the pointer is not used, and the call is refused.
+//! with any pointer, null included: the pointer is not used, and every call but `lukhtari_ramp` is
+//! refused.
 
 /// Number of axes, degree and node counts of a table.
 #[repr(C)]
@@ -103,6 +104,18 @@ pub struct Written {
     pub place: u64,
     /// Number of bytes, 0 where refused
     pub length: u64,
+}
+
+/// Number of fetches of a ramp, or a refusal.
+#[repr(C)]
+#[derive(Clone, Copy, Debug, PartialEq, Eq)]
+pub struct Ramped {
+    /// 0, or the number of the refusal
+    pub number: u32,
+    /// Place of the refusal, else 0
+    pub place: u64,
+    /// How often the corner records of a cell were fetched, 0 where refused
+    pub fetches: u64,
 }
 
 // estimate
@@ -278,4 +291,22 @@ extern "C" {
         samples: *mut i32,
         samples_len: usize,
     ) -> Done;
+}
+
+// ramp
+extern "C" {
+    /// Doses at a list of table positions: see [`ramp`](crate::ramp).
+    ///
+    /// # Safety
+    ///
+    /// The slices `records`, `positions` and `answers` are lent as the [module](self) says.
+    pub fn lukhtari_ramp(
+        shape: Shape,
+        records: *const i32,
+        records_len: usize,
+        positions: *const i32,
+        positions_len: usize,
+        answers: *mut i32,
+        answers_len: usize,
+    ) -> Ramped;
 }

@@ -2,7 +2,7 @@
 //!
 //! A table is a [`Shape`] with one sample for each node, from the host, a table file or decimal
 //! text. Estimation makes each node's record from the samples; doses and slopes are then asked for
-//! by table position, by cell or by float. Every call either answers or gives a [`Refusal`] with
+//! by table position, by cell or by float, doses also by a list of positions. Every call either answers or gives a [`Refusal`] with
 //! its number and place, and a refused call leaves every lent buffer as it was. All calls are made
 //! by the static library `liblukhtari.a`; the crate uses neither `std` nor other crates.
 //!
@@ -30,6 +30,9 @@ pub use coefficients::{coefficients, corners};
 
 mod whole;
 pub use whole::{dose, dose_in_cell, slope, slope_in_cell};
+
+mod ramp;
+pub use ramp::ramp;
 
 mod real;
 pub use real::{dose_float, slope_float};

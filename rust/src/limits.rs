@@ -1,7 +1,7 @@
 //! Limits of tables and the largest sizes of buffers, as `lukhtari.h` has them.
 
 /// Number of the C interface; another number means other structs or calls.
-pub const INTERFACE: u32 = 2;
+pub const INTERFACE: u32 = 3;
 
 /// Steps of a cell along an axis.
 pub const STEPS: u32 = 256;
@@ -48,6 +48,9 @@ pub const ANSWER_LIMIT: i32 = 1 << 24;
 /// Most bytes of a token.
 pub const TOKEN_BYTES_MAX: usize = 64;
 
+/// Most positions of a ramp.
+pub const RAMP_MAX: usize = 256;
+
 /// Most entries of one record.
 pub const RECORD_ENTRIES_MAX: usize = 27;
 
@@ -74,3 +77,6 @@ pub const STACK_FILE: usize = 1024;
 
 /// Most bytes of stack that reading the text of a table uses.
 pub const STACK_IMPORT: usize = 1024;
+
+/// Most bytes of stack that a ramp uses.
+pub const STACK_RAMP: usize = 4096;

@@ -13,7 +13,7 @@ use core::fmt;
 /// ```
 #[derive(Clone, Copy, Debug, PartialEq, Eq)]
 pub struct Refusal {
-    /// 1 to 19, the constants below
+    /// 1 to 20, the constants below
     pub number: u32,
     /// An index counted from 0, and 0 where the reason names none
     pub place: u64,
@@ -60,6 +60,8 @@ impl Refusal {
     pub const TOKEN_NOT_WHOLE: u32 = 18;
     /// A sample given for estimation is beyond its limit there; the place is its index.
     pub const BEYOND_ESTIMATE_LIMIT: u32 = 19;
+    /// A ramp has more than 256 positions, or their numbers are not three for each.
+    pub const RAMP_LENGTH: u32 = 20;
 }
 
 impl fmt::Display for Refusal {
@@ -104,6 +106,10 @@ impl fmt::Display for Refusal {
                     "the sample at index {place} is beyond the limit of estimation"
                 )
             }
+            Self::RAMP_LENGTH => write!(
+                f,
+                "the ramp has over 256 positions, or not three numbers for each"
+            ),
             _ => write!(f, "unknown reason"),
         }
     }

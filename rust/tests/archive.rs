@@ -45,5 +45,5 @@ fn calls_keep_to_their_stack() {
     assert_eq!(most[1..3], [limits::STACK_CONVERSION; 2]);
     assert_eq!(most[3..9], [limits::STACK_QUERY; 6]);
     assert_eq!(most[9..11], [limits::STACK_FILE; 2]);
-    assert_eq!(most[11..], [limits::STACK_IMPORT]);
+    assert_eq!(most[11..], [limits::STACK_IMPORT, limits::STACK_RAMP]);
 }

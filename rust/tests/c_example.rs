@@ -31,6 +31,15 @@ fn import_example() {
 }
 
 #[test]
+fn ramp_example() {
+    let example = c::repository().join("examples/ramp.c");
+    assert_eq!(
+        c::run("c99", &example),
+        "0 25 50 75 100 150 200\n2 fetches\n"
+    );
+}
+
+#[test]
 fn readme_example() {
     let (before, block) = readme_block();
     assert!(before.ends_with(&format!("it prints `{}`.\n", PRINTED.trim_end())));

@@ -61,6 +61,17 @@ fn tokens() {
 }
 
 #[test]
+fn ramps() {
+    let shape = cube(1, 3, 2);
+    let refused = |length| {
+        let list = vec![[0; 3]; length];
+        number(ramp(shape, &[0; 4], &list, &mut vec![0; length]))
+    };
+    assert_eq!(refused(RAMP_MAX), 0);
+    assert_eq!(refused(RAMP_MAX + 1), Refusal::RAMP_LENGTH);
+}
+
+#[test]
 fn largest_table() {
     let shape = cube(3, 5, COUNT_MAX);
     assert_eq!(shape.nodes(), NODES_MAX);

@@ -1,5 +1,5 @@
 //! The reference model on all worked examples and traps of document 01, as request U2 of document
-//! 02 works them out anew, and on the texts of request U1.
+//! 02 works them out anew, on the texts of request U1 and on ramps of request U5.
 
 mod model;
 
@@ -10,6 +10,7 @@ use model::float::float_step;
 use model::int::Int;
 use model::program::output;
 use model::query::{locate, query, query_float, Where};
+use model::ramp::ramp;
 use model::stages::{axis_weights, exact, stages, stages_in_order, Point};
 use model::text::import;
 use model::{Answer, Rational, Refusal, Shape};
@@ -323,4 +324,32 @@ fn texts() {
         assert_eq!(samples(text), refused(number, place), "{text}");
     }
     assert_eq!(import(&line(3), b"01 1", 1), refused(9, 0));
+}
+
+#[test]
+fn ramps() {
+    let shape = Shape::new(1, 3, [3, 1, 1]);
+    let records = records(&shape, &[0, 100, 200]);
+    let asked = |steps: &[i32]| {
+        let positions: Vec<i32> = steps.iter().flat_map(|&step| [step, 0, 0]).collect();
+        ramp(&shape, &records, &positions, steps.len())
+    };
+    for (steps, answers, fetches) in [
+        (&[][..], &[][..], 0),
+        (&[64], &[25], 1),
+        (&[0, 64, 255], &[0, 25, 100], 1),
+        // A node is read in the upper cell, the last one in the last cell.
+        (&[255, 256, 512], &[100, 100, 200], 2),
+        (&[0, 256, 0], &[0, 100, 0], 3),
+    ] {
+        let ramped = asked(steps).expect("accepted ramp");
+        assert_eq!((&ramped.answers[..], ramped.fetches), (answers, fetches));
+    }
+    assert_eq!(asked(&[0; 256]).map(|ramped| ramped.fetches), Ok(1));
+    assert_eq!(asked(&[0; 257]), refused(20, 0));
+    assert_eq!(asked(&[0, 513, -1]), refused(11, 1));
+    assert_eq!(ramp(&shape, &records, &[0; 4], 9), refused(20, 0));
+    assert_eq!(ramp(&shape, &[], &[0; 4], 0), refused(20, 0));
+    assert_eq!(ramp(&shape, &[], &[], 0), refused(4, 0));
+    assert_eq!(ramp(&shape, &records, &[-1, 0, 0], 0), refused(9, 0));
 }

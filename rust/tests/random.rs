@@ -4,12 +4,14 @@
 
 mod common;
 mod model;
+mod ramps;
 mod texts;
 
 use common::*;
 use lukhtari::*;
 use model::query::{checked_point, last_step, Where};
 use model::Rational;
+use ramps::{run_ramp, Ramp};
 use std::env;
 use texts::damaged;
 
@@ -68,7 +70,8 @@ fn run_table(random: &mut Random, seed: u64, (degree, axes, kind): (u32, u32, Ki
         }
     }
     convert(&query, seed);
-    queries + 5
+    along_path(random, &query, seed);
+    queries + 6
 }
 
 // Records by the library, or its refusal, equal to the model's.
@@ -207,6 +210,48 @@ fn convert(query: &Query, seed: u64) {
     let entries = corner_entries(shape, [0; 3]);
     let same = |(entry, (index, _)): (&i32, &(usize, i32))| *entry == query.records[*index];
     assert!(back.iter().zip(&entries).all(same), "seed {seed}");
+}
+
+// A ramp on the query's table, some of them with faults, against the model and against own calls.
+fn along_path(random: &mut Random, query: &Query, seed: u64) {
+    let length = random.pick(&[0, 1, 3, 6]);
+    let list = random.path(query.shape, length);
+    let mut call = Ramp::new(query.shape, &query.records, &list);
+    call.room += random.below(3) as usize;
+    if random.chance(3) {
+        spoil(random, &mut call);
+    }
+    if let Ok(ramped) = run_ramp(&call) {
+        let own = |at| dose(call.shape, &call.records, at).expect("accepted position");
+        let own: Vec<i32> = call.list().into_iter().map(own).collect();
+        assert_eq!(ramped.answers, own, "seed {seed}");
+    }
+}
+
+// One to three faults of any kind in a ramp.
+fn spoil(random: &mut Random, call: &mut Ramp) {
+    for _ in 0..random.range(1, 3) {
+        let any = random.next() as i32;
+        match random.below(7) {
+            0 => call.shape.axes = random.below(5) as u32,
+            1 => call.shape.degree = random.below(8) as u32,
+            2 => call.shape.counts[random.below(3) as usize] = random.below(67) as u32,
+            3 => call.positions.push(0),
+            4 => call.records.push(0),
+            5 => call.room = call.room.saturating_sub(3),
+            _ if random.chance(2) => {
+                let index = random.below(call.records.len() as u64) as usize;
+                call.records[index] = any;
+            }
+            _ => {
+                let numbers = call.positions.len() as u64;
+                if numbers > 0 {
+                    let step = random.pick(&[-1, any, 255, 256]);
+                    call.positions[random.below(numbers) as usize] = step;
+                }
+            }
+        }
+    }
 }
 
 #[test]

@@ -1,8 +1,8 @@
 //! Refusals that follow from the lengths and the numbers handed over: nothing of a slice is read.
-//! NULL with length 0 is such a slice, and its call is refused.
+//! NULL with length 0 is such a slice, and its call is refused, unless it is a ramp.
 //!
-//! Every slice here but the text of an import that is refused for it is a pointer to no memory, so
-//! that a read or a write ends the test by a fault.
+//! Every slice here but the text of an import and the positions of a ramp that are refused for them
+//! is a pointer to no memory, so that a read or a write ends the test by a fault.
 //! The calls are the raw ones of the C interface, which take the pointer and the length as they
 //! are: no Rust slice is made of them, and a call that reads and writes nothing is sound with them.
 
@@ -80,6 +80,71 @@ fn importing() {
         for room in [LONG, 0] {
             assert_eq!(import(shape, &tokens.join(" "), room), 4);
         }
+    }
+}
+
+// With positions at no place.
+fn ramp_nowhere(shape: Shape, records: usize, numbers: usize, room: usize) -> Ramped {
+    // SAFETY: nothing is read or written.
+    unsafe {
+        lukhtari_ramp(
+            shape,
+            nowhere(),
+            records,
+            nowhere(),
+            numbers,
+            nowhere(),
+            room,
+        )
+    }
+}
+
+// With records and answers at no place.
+fn ramp(shape: Shape, positions: &[i32]) -> Ramped {
+    let (list, numbers) = (positions.as_ptr(), positions.len());
+    // SAFETY: the positions are lent; no record is read and no answer written.
+    unsafe {
+        lukhtari_ramp(
+            shape,
+            nowhere(),
+            shape.entries(),
+            list,
+            numbers,
+            nowhere(),
+            256,
+        )
+    }
+}
+
+#[test]
+fn ramps() {
+    for (axes, degree) in KINDS {
+        let shape = cube(axes, degree, 64);
+        let entries = shape.entries();
+        for (records, numbers, room) in [(LONG, LONG, LONG), (0, 3, 0), (entries, 0, 0)] {
+            let number = |shape| ramp_nowhere(shape, records, numbers, room).number;
+            assert_eq!(number(Shape { axes: 0, ..shape }), 1);
+            assert_eq!(number(Shape { degree: 4, ..shape }), 2);
+            assert_eq!(number(cube(axes, degree, 65)), 3);
+        }
+        for numbers in [LONG, 1, 2, 4, 767, 769, 771, 3 * 65_536, usize::MAX] {
+            for (records, room) in [(LONG, LONG), (entries, 256), (0, 0)] {
+                assert_eq!(ramp_nowhere(shape, records, numbers, room).number, 20);
+            }
+        }
+        for numbers in [0, 3, 768] {
+            for records in [LONG, entries - 1, entries + 1] {
+                assert_eq!(ramp_nowhere(shape, records, numbers, LONG).number, 4);
+            }
+        }
+        for (numbers, room) in [(3, 0), (768, 255), (768, 1)] {
+            assert_eq!(ramp_nowhere(shape, entries, numbers, room).number, 9);
+        }
+        // The first position is outside the table, or the list is empty.
+        let outside = ramp(shape, &[-1, 0, 0, 0, 0, 0]);
+        assert_eq!((outside.number, outside.place), (11, 0));
+        let empty = ramp_nowhere(shape, entries, 0, LONG);
+        assert_eq!((empty.number, empty.place, empty.fetches), (0, 0, 0));
     }
 }
 
@@ -296,4 +361,28 @@ fn null_with_length_0_for_texts() {
         ]
     };
     assert_eq!(texts, [4, 4, 9, 0]);
+}
+
+#[test]
+fn null_with_length_0_for_ramps() {
+    for (axes, degree) in KINDS {
+        let shape = cube(axes, degree, 2);
+        let (records, positions) = (vec![7; shape.entries()], [0; 3]);
+        let mut answers = [0; 1];
+        let (r, entries) = (records.as_ptr(), records.len());
+        let (p, a) = (positions.as_ptr(), answers.as_mut_ptr());
+        // SAFETY: the slices are lent; one of length 0 may be NULL.
+        let ramps = unsafe {
+            [
+                lukhtari_ramp(shape, null(), 0, null(), 0, null_mut(), 0).number,
+                lukhtari_ramp(shape, null(), 0, p, 3, a, 1).number,
+                lukhtari_ramp(shape, r, entries, p, 3, null_mut(), 0).number,
+                lukhtari_ramp(shape, r, entries, null(), 0, null_mut(), 0).number,
+                lukhtari_ramp(shape, r, entries, null(), 0, a, 1).number,
+                lukhtari_ramp(shape, r, entries, p, 3, a, 1).number,
+            ]
+        };
+        assert_eq!(ramps, [4, 4, 9, 0, 0, 0]);
+        assert_eq!(answers, [7]);
+    }
 }

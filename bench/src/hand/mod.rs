@@ -8,4 +8,5 @@ pub mod method;
 pub mod plain;
 pub mod point;
 pub mod query;
+pub mod ramp;
 pub mod stages;

@@ -89,10 +89,18 @@ fn ends<const S: usize, const R: usize>(
 fn line<X: Method, const S: usize, const R: usize>(records: &[i32], point: Point) -> Answer<i32> {
     let x = point.cell[0] as usize;
     let corners = [record::<S, R>(records, x)?, record::<S, R>(records, x + 1)?];
+    Ok(line_stage::<X, S, R>(corners, point))
+}
+
+#[inline(always)]
+pub fn line_stage<X: Method, const S: usize, const R: usize>(
+    corners: [&[i32; R]; 2],
+    point: Point,
+) -> i32 {
     let slope = point.slope.is_some();
     let weights = X::weights::<S>(point.u[0], slope);
     let sum = X::sum(&ends(corners, 0, 1), &weights);
-    Ok(round(sum, divisor_bits::<S>(slope)) as i32)
+    round(sum, divisor_bits::<S>(slope)) as i32
 }
 
 fn square<X: Method, const S: usize, const R: usize>(
@@ -115,7 +123,7 @@ fn square<X: Method, const S: usize, const R: usize>(
 
 // Axis P first, then Q.
 #[inline(always)]
-fn square_stages<X: Method, const S: usize, const R: usize, const P: usize, const Q: usize>(
+pub fn square_stages<X: Method, const S: usize, const R: usize, const P: usize, const Q: usize>(
     corners: [&[i32; R]; 4],
     point: Point,
 ) -> i32 {
@@ -157,7 +165,7 @@ fn cube<X: Method, const S: usize, const R: usize>(
 
 // Axis P first, then Q, then T.
 #[inline(always)]
-fn cube_stages<
+pub fn cube_stages<
     X: Method,
     const S: usize,
     const R: usize,

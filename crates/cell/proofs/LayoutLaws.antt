@@ -28,7 +28,7 @@ module _ (s : Shape) (cell : List ℕ) (l : Layout) (rs : List ℤ) (limits : Li
   pub few : (c : ℕ) → c < 2 ^ s .axes → c < 8
   few c h = lt-of-lt-of-le h (pow-mono (ok .axes-high))
 
-  start-is : (c : ℕ) → startOf l c ≡ cornerStart s (placeAt cell) c
+  pub start-is : (c : ℕ) → startOf l c ≡ cornerStart s (placeAt cell) c
   unfolding cornerStart
   start-is c = rw (laid .base-is, laid .stride-x, laid .stride-y, laid .stride-z) refl
 

@@ -215,7 +215,7 @@ pub fn corner_start(l: Layout, c: usize) -> usize
 }
 
 // Whether the limit test of the first `corners` records of a cell is passed.
-fn all_within(limits: &[i32; 27], n: usize, corners: usize, records: &[i32], l: Layout) -> bool
+pub fn all_within(limits: &[i32; 27], n: usize, corners: usize, records: &[i32], l: Layout) -> bool
     requires { ⌜ (n ≤ 27) × (corners ≤ 8) × Small l × Limits n (now limits) ⌝ }
     requires { ⌜ ((c : ℕ) → c < corners → startOf l c + n ≤ length (now records)) ⌝ }
     ensures { λ r. ⌜ r ≡ passed (firstOf corners (λ c. recordOutcome (limitIn (now (limits .entry))) n (now (records .entry)) (startOf l c))) ⌝ }

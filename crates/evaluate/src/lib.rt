@@ -47,7 +47,7 @@ pub struct Sequence {
 }
 
 // The stage of an axis whose numbers come and go in units, or in eighths where `from` or `to` is set.
-fn axis_of(
+pub fn axis_of(
     m: usize,
     derivative: u32,
     from: bool,
@@ -144,7 +144,7 @@ fn first_ends(
 }
 
 // The number after the second stage.
-fn second(m: usize, k: u32, y: Axis, x: Axis, records: &[i32], p: usize) -> i64
+pub fn second(m: usize, k: u32, y: Axis, x: Axis, records: &[i32], p: usize) -> i64
     requires { ⌜ AllPrepared m (y ∷ x ∷ []) × (k ≤ 44) ⌝ }
     requires { ⌜ Safe roundHalfUp m (length (now records)) (y ∷ x ∷ []) (at (now records)) p ⌝ }
     ensures { λ r. ⌜ r ≡ worked roundHalfUp k y (after roundHalfUp m (x ∷ []) (at (now (records .entry)))) p ⌝ }
@@ -181,7 +181,7 @@ fn first_stages(m: usize, y: Axis, x: Axis, records: &[i32], p: usize) -> i64
 }
 
 // Where number t of two ends stands: those of the low end first.
-fn place_at(m: usize, order: usize, node: usize, t: usize) -> usize
+pub fn place_at(m: usize, order: usize, node: usize, t: usize) -> usize
     requires { ⌜ (t < 2 * m) × (placeOf m order node t < 2 ^ 64) ⌝ }
     ensures { λ r. ⌜ r ≡ placeOf m order node t ⌝ }
 {
@@ -253,7 +253,7 @@ fn third(m: usize, z: Axis, y: Axis, x: Axis, records: &[i32], p: usize) -> i64
 }
 
 // The stage of one axis, to units.
-fn one_axis(m: usize, order: u32, a: Strides, records: &[i32], p: usize) -> i64
+pub fn one_axis(m: usize, order: u32, a: Strides, records: &[i32], p: usize) -> i64
     requires { ⌜ Workable roundHalfUp m order a [] (length (now records)) (at (now records)) p ⌝ }
     ensures { λ r. ⌜ WorkedOff roundHalfUp m order a [] (at (now (records .entry))) p r ⌝ }
 {

@@ -11,6 +11,7 @@ use Rattle.lukhtari.specs.declared.Done.{Done}
 use Rattle.lukhtari.specs.declared.Whole.{Whole}
 use Rattle.lukhtari.specs.declared.Real.{Real}
 use Rattle.lukhtari.specs.declared.Table.{Table}
+use Rattle.lukhtari.specs.declared.Ramped.{Ramped}
 use Rattle.lukhtari.specs.declared.Written.{Written}
 
 abbrev pub doneOf : Check → Done
@@ -43,6 +44,10 @@ realOf (refused n p) = record { number = n; place = p; value = some (pos 0) }
 abbrev pub tableFrom : Outcome Header → Table
 tableFrom (done h) = record { number = 0; place = 0; axes = h .axes; counts = h .counts }
 tableFrom (refused n p) = record { number = n; place = p; axes = 0; counts = 0 ∷ 0 ∷ 0 ∷ [] }
+
+abbrev pub rampedFrom : Outcome ℕ → Ramped
+rampedFrom (done k) = record { number = 0; place = 0; fetches = k }
+rampedFrom (refused n p) = record { number = n; place = p; fetches = 0 }
 
 abbrev pub writtenFrom : Outcome ℕ → Written
 writtenFrom (done k) = record { number = 0; place = 0; length = k }

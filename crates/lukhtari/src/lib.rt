@@ -3,6 +3,7 @@ pub mod conversion;
 pub mod estimation;
 pub mod files;
 pub mod float_queries;
+pub mod ramps;
 pub mod text;
 pub mod whole_queries;
 
@@ -47,6 +48,13 @@ pub struct Table {
     pub place: usize,
     pub axes: u32,
     pub counts: [u32; 3],
+}
+
+#[repr(C)]
+pub struct Ramped {
+    pub number: u32,
+    pub place: usize,
+    pub fetches: usize,
 }
 
 #[repr(C)]

@@ -114,9 +114,9 @@ pub record Located (s : Shape) (p : Position) (b : ℕ → ℕ) (cell step : Pla
 
 module _ (s : Shape) (p : Position) (b : ℕ → ℕ) (cell step : Place) (l : Located s p b cell step) (f : Shaped s) where
   -- no cell of a position is refused
-  cells : cellOutcome s cell ≡ done tt
+  pub located-cells : cellOutcome s cell ≡ done tt
   unfolding cellOf
-  cells = cell-passes s cell (λ a k. let e = l .cell-is a in let i = f .used a k in omega arith)
+  located-cells = cell-passes s cell (λ a k. let e = l .cell-is a in let i = f .used a k in omega arith)
       (λ a h k. let e = l .cell-is a in let i = f .unused a h k in omega arith)
 
   one : (a : ℕ) → a < 3 → pick (ltb a (s .axes)) (leb (step a) steps)
@@ -136,9 +136,11 @@ module _ (s : Shape) (p : Position) (b : ℕ → ℕ) (cell step : Place) (l : L
           ∙ ap (λ (i : ℕ). eqb i 0) at-step
           ∙ unused-test (count s a) (p a) (b a) (f .unused a h (omega arith)) (l .stand a h)
 
-  tests : stepsOutcome s step ≡ firstOf 3 (positionOutcome s p)
+  -- 11 of the in-cell step is 11 of the position
+  pub located-tests : stepsOutcome s step ≡ firstOf 3 (positionOutcome s p)
   unfolding stepsOutcome positionOutcome
-  tests = firstOf-same 3 (λ a. refuseUnless (pick (ltb a (s .axes)) (leb (step a) steps) (eqb (step a) 0)) 11 a) (positionOutcome s p)
+  located-tests =
+      firstOf-same 3 (λ a. refuseUnless (pick (ltb a (s .axes)) (leb (step a) steps) (eqb (step a) 0)) 11 a) (positionOutcome s p)
       (λ a h. ap (λ (t : Bool). refuseUnless t 11 a) (one a h))
 
   -- the cell and the in-cell step of a position that is not refused
@@ -150,13 +152,13 @@ module _ (s : Shape) (p : Position) (b : ℕ → ℕ) (cell step : Place) (l : L
         go (yes k) = l .stand a k .low (position-range s p h a k .0)
         go (no k) = l .beyond a (omega arith)
 
-    cell-at : cell ≡ positionCell s p
+    pub located-cell : cell ≡ positionCell s p
     unfolding positionCell
-    cell-at = fun-ext (λ a. l .cell-is a ∙ ap (cellOf steps (count s a)) (is-here a))
+    located-cell = fun-ext (λ a. l .cell-is a ∙ ap (cellOf steps (count s a)) (is-here a))
 
-    step-at : step ≡ positionStep s p
+    pub located-step : step ≡ positionStep s p
     unfolding positionStep
-    step-at = fun-ext (λ a. l .step-is a ∙ ap₂ (λ (i j : ℕ). i - steps * j) (is-here a) (ap (λ (g : Place). g a) cell-at))
+    located-step = fun-ext (λ a. l .step-is a ∙ ap₂ (λ (i j : ℕ). i - steps * j) (is-here a) (ap (λ (g : Place). g a) located-cell))
 
 -- the query by position, for every position
 pub located : (s : Shape) (rs : List ℤ) (want : Want) (p : Position) (b : ℕ → ℕ) (cell step : Place) → Located s p b cell step
@@ -168,9 +170,9 @@ located s rs want p b cell step l =
     (first (firstOf 3 (positionOutcome s p)) (reading s rs want (positionCell s p) (positionStep s p)))
     (λ a. let f = shaped s (asked-parts s rs want a .0) in
     ap (λ (t : Check). first t (reading s rs want cell step))
-    (first-passed (cellOutcome s cell) (stepsOutcome s step) (cells s p b cell step l f) ∙ tests s p b cell step l f)
+    (first-passed (cellOutcome s cell) (stepsOutcome s step) (located-cells s p b cell step l f) ∙ located-tests s p b cell step l f)
     ∙ first-after (firstOf 3 (positionOutcome s p)) (reading s rs want cell step) (reading s rs want (positionCell s p) (positionStep s p))
-    (λ h. ap₂ (reading s rs want) (cell-at s p b cell step l f h) (step-at s p b cell step l f h)))
+    (λ h. ap₂ (reading s rs want) (located-cell s p b cell step l f h) (located-step s p b cell step l f h)))
 
 -- in a table: the query by the position's own cell and step
 pub by-position-is : (s : Shape) (rs : List ℤ) (want : Want) (p : Position) → firstOf 3 (positionOutcome s p) ≡ done tt
@@ -185,23 +187,21 @@ by-position-is s rs want p h =
       beyond = λ a l. refl;
     }))
 
--- and by what the code has of three axes
-pub on-axes : (s : Shape) (rs : List ℤ) (want : Want) (xs : List ℤ) (x y z i j k : ℕ) → StandsFor (at xs 0) x → StandsFor (at xs 1) y
-    → StandsFor (at xs 2) z
+-- by what the code has of three axes
+pub located-axes : (s : Shape) (xs : List ℤ) (x y z i j k : ℕ) → StandsFor (at xs 0) x → StandsFor (at xs 1) y → StandsFor (at xs 2) z
     → i ≡ cellOf steps (count s 0) x → j ≡ cellOf steps (count s 1) y → k ≡ cellOf steps (count s 2) z
-    → byCell s rs want (placeAt (i ∷ j ∷ k ∷ [])) (placeAt ((x - 256 * i) ∷ (y - 256 * j) ∷ (z - 256 * k) ∷ [])) ≡ byPosition s rs want
-    (positionAt xs)
+    → Located s (positionAt xs) (placeAt (x ∷ y ∷ z ∷ [])) (placeAt (i ∷ j ∷ k ∷ []))
+    (placeAt ((x - 256 * i) ∷ (y - 256 * j) ∷ (z - 256 * k) ∷ []))
 unfolding placeAt positionAt pick cellOf
-on-axes s rs want xs x y z i j k p q r e f g =
-    located s rs want (positionAt xs) (placeAt numbers) (placeAt cell) (placeAt step)
-    (record {
+located-axes s xs x y z i j k p q r e f g =
+    record {
       stand = by-3 (λ (a : ℕ). StandsFor (positionAt xs a) (placeAt numbers a)) p q r;
       cell-is = from-3 (λ a. placeAt cell a ≡ cellOf steps (count s a) (placeAt numbers a)) e f g
           (λ a h. let l = place-beyond numbers a h in let m = place-beyond cell a h in omega arith);
       step-is = from-3 (λ a. placeAt step a ≡ placeAt numbers a - steps * placeAt cell a) refl refl refl
           (λ a h. let l = place-beyond numbers a h in let m = place-beyond step a h in omega arith);
       beyond = λ a h. place-beyond numbers a h ∙ sym (ap natAbs (pick-false (ltb a 3) (at xs a) (pos 0) (le-ltb a 3 h)));
-    })
+    }
   where
     numbers : List ℕ
     numbers = x ∷ y ∷ z ∷ []
@@ -211,6 +211,15 @@ on-axes s rs want xs x y z i j k p q r e f g =
 
     step : List ℕ
     step = (x - 256 * i) ∷ (y - 256 * j) ∷ (z - 256 * k) ∷ []
+
+pub on-axes : (s : Shape) (rs : List ℤ) (want : Want) (xs : List ℤ) (x y z i j k : ℕ) → StandsFor (at xs 0) x → StandsFor (at xs 1) y
+    → StandsFor (at xs 2) z
+    → i ≡ cellOf steps (count s 0) x → j ≡ cellOf steps (count s 1) y → k ≡ cellOf steps (count s 2) z
+    → byCell s rs want (placeAt (i ∷ j ∷ k ∷ [])) (placeAt ((x - 256 * i) ∷ (y - 256 * j) ∷ (z - 256 * k) ∷ [])) ≡ byPosition s rs want
+    (positionAt xs)
+on-axes s rs want xs x y z i j k p q r e f g =
+    located s rs want (positionAt xs) (placeAt (x ∷ y ∷ z ∷ [])) (placeAt (i ∷ j ∷ k ∷ []))
+    (placeAt ((x - 256 * i) ∷ (y - 256 * j) ∷ (z - 256 * k) ∷ [])) (located-axes s xs x y z i j k p q r e f g)
 
 -- an answer at a position is below 2^24
 pub by-position-small : (s : Shape) (rs : List ℤ) (want : Want) (xs : List ℤ) (v : ℤ) → byPosition s rs want (positionAt xs) ≡ done v

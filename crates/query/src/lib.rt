@@ -63,7 +63,7 @@ fn step_allowed(n: u32, step: u32, axis: u32) -> bool
 }
 
 // Refusal 11 of an in-cell step.
-fn check_steps(n: u32, s: Shape, u: u32, v: u32, w: u32) -> Check
+pub fn check_steps(n: u32, s: Shape, u: u32, v: u32, w: u32) -> Check
     requires { ⌜ n ≡ s .axes ⌝ }
     ensures { λ r. ⌜ outcomeOf r ≡ stepsOutcome s (placeAt (u ∷ v ∷ w ∷ [])) ⌝ }
 {
@@ -235,7 +235,7 @@ pub fn in_cell(s: Shape, records: &[i32], q: CellQuery) -> Reading
 }
 
 // The cell of a position on an axis of `count` nodes.
-fn cell_of(count: u32, p: u32) -> u32
+pub fn cell_of(count: u32, p: u32) -> u32
     ensures { λ r. ⌜ r ≡ cellOf steps count p ⌝ }
 {
     let c = p / 256;

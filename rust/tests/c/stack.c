@@ -24,6 +24,7 @@ static int32_t samples[NODES], records[NODES * LUKHTARI_RECORD_ENTRIES_MAX];
 static int32_t coefficients[LUKHTARI_COEFFICIENTS_MAX], corners[LUKHTARI_COEFFICIENTS_MAX];
 static uint8_t file[LUKHTARI_FILE_BYTES(3, NODES)];
 static char text[NODES * (LUKHTARI_TOKEN_BYTES_MAX + 2)];
+static int32_t positions[3 * LUKHTARI_RAMP_MAX], answers[LUKHTARI_RAMP_MAX];
 static size_t nodes, entries, cell_numbers, bytes, letters;
 static uint32_t number;
 
@@ -73,6 +74,12 @@ static void import(void) {
     number = lukhtari_import(shape, (const uint8_t *)text, letters, samples, nodes).number;
 }
 
+static void ramp(void) {
+    number = lukhtari_ramp(shape, records, entries, positions, 3 * LUKHTARI_RAMP_MAX, answers,
+                           LUKHTARI_RAMP_MAX)
+                 .number;
+}
+
 enum {
     ESTIMATE,
     COEFFICIENTS,
@@ -86,6 +93,7 @@ enum {
     WRITE,
     READ,
     IMPORT,
+    RAMP,
     CALLS
 };
 
@@ -106,6 +114,7 @@ static const struct {
     {"write", write_file, LUKHTARI_STACK_FILE},
     {"read", read_file, LUKHTARI_STACK_FILE},
     {"import", import, LUKHTARI_STACK_IMPORT},
+    {"ramp", ramp, LUKHTARI_STACK_RAMP},
 };
 
 static size_t most[CALLS];
@@ -161,6 +170,12 @@ static void prepare(uint32_t axes, uint32_t degree) {
         position.at[axis] = 77;
         u.at[axis] = 77;
     }
+    /* From the first cell to the second along all axes. */
+    for (int32_t i = 0; i < LUKHTARI_RAMP_MAX; i++) {
+        for (uint32_t axis = 0; axis < axes; axis++) {
+            positions[3 * i + (int32_t)axis] = 2 * i;
+        }
+    }
     float_position.x = 0.3f;
     float_position.y = axes > 1 ? 0.3f : 0;
     float_position.z = axes > 2 ? 0.3f : 0;
@@ -181,6 +196,7 @@ static int measure_table(uint32_t axes, uint32_t degree) {
         right &= measure(which, LUKHTARI_REFUSED_BEYOND_LIMIT);
     }
     right &= measure(COEFFICIENTS, LUKHTARI_REFUSED_BEYOND_LIMIT);
+    right &= measure(RAMP, LUKHTARI_REFUSED_BEYOND_LIMIT);
     coefficients[0] = 1;
     right &= measure(CORNERS, LUKHTARI_REFUSED_NO_CORNER_RECORDS);
     type("1234567890123456789012345678901234567890123456789012345678901234.5");

@@ -14,6 +14,7 @@ pub mod int;
 pub mod listing;
 pub mod program;
 pub mod query;
+pub mod ramp;
 pub mod rational;
 pub mod shape;
 pub mod stages;

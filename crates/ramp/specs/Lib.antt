@@ -1,0 +1,4 @@
+-- Reading order: Ramp, Answers, Parts.
+pub mod Ramp
+pub mod Answers
+pub mod Parts

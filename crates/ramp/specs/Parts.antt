@@ -1,0 +1,86 @@
+-- What the inner functions state: where a position stands, corner records as they are held, and a table that is ready.
+use mathlib.Core.Path.{_≡_}
+use Prim.Native.Nat.{ℕ, _+_, _*_, _/_, _%_, _≤_, _<_}
+use mathlib.Core.List.{List, [], _∷_}
+use lib.IntN.{ℤ}
+use lib.ListN.{length, take, getD}
+use Rattle.lattice.specs.declared.Shape.{Shape}
+use Rattle.lattice.specs.Outcome.{done, firstOf}
+use Rattle.lattice.specs.Buffer.{at}
+use Rattle.lattice.specs.Shape.{size, shapeOutcome, Shaped}
+use Rattle.lattice.specs.Axes.{Place, origin}
+use Rattle.hermite.specs.Hermite.{steps}
+use Rattle.cell.specs.declared.Layout.{Layout}
+use Rattle.cell.specs.Cell.{placeAt, cornersOutcome, Accepted, Small, startOf}
+use Rattle.cell.specs.Corners.{cornerRecords, oneCell}
+use Rattle.evaluate.specs.declared.Axis.{Axis}
+use Rattle.query.specs.Queries.{Position, positionOutcome, positionCell, positionStep, stepsOutcome}
+use Rattle.ramp.specs.declared.Spot.{Spot}
+use Rattle.ramp.specs.Ramp.{queries}
+
+-- the table of one cell, of the same axes and degree
+abbrev pub one : Shape → Shape
+one s = oneCell (s .axes) (s .degree)
+
+-- what the tests of lengths leave: a table, its records, and whole triples
+pub record Listed (s : Shape) (rs ps : List ℤ) : Type 0 where
+  pub shape : shapeOutcome s ≡ done tt
+  pub long : length rs ≡ size s
+  pub whole : length ps ≡ 3 * queries ps
+  pub few : queries ps ≤ 256
+
+-- ---- a position
+
+-- the cell and the in-cell step of a position, which are tested as the position is
+pub record Stands (s : Shape) (p : Position) (spot : Spot) : Type 0 where
+  pub tests : stepsOutcome s (placeAt (spot .step)) ≡ firstOf 3 (positionOutcome s p)
+  pub here : Accepted s (placeAt (spot .cell))
+  pub cell-is : firstOf 3 (positionOutcome s p) ≡ done tt → placeAt (spot .cell) ≡ positionCell s p
+  pub step-is : firstOf 3 (positionOutcome s p) ≡ done tt → placeAt (spot .step) ≡ positionStep s p
+
+-- ---- corner records
+
+-- entry i of the corner records, e entries each, by the layout
+abbrev pub cornerEntryAt : Layout → List ℤ → ℕ → ℕ → ℤ
+cornerEntryAt l rs e i = at rs (startOf l (i / e) + i % e)
+
+-- where they stand by themselves
+abbrev pub layoutAlone : ℕ → ℕ → Layout
+layoutAlone m e = record { orders = m; entries = e; base = 0; strides = e ∷ 2 * e ∷ 4 * e ∷ [] }
+
+-- the first k of them stand in front of an array
+pub record Copied (l : Layout) (rs : List ℤ) (e k : ℕ) (held : List ℤ) : Type 0 where
+  pub long : length held ≡ 216
+  pub is : (i : ℕ) → i < k → at held i ≡ cornerEntryAt l rs e i
+
+-- rows of two records of e entries, which are neighbours along x, lie in the records
+pub record CornerRows (l : Layout) (rs : List ℤ) (e rows : ℕ) : Type 0 where
+  pub some : 1 ≤ e
+  pub low : e ≤ 27
+  pub few : rows ≤ 4
+  pub small : Small l
+  pub next : getD (l .strides) 0 0 ≡ e
+  pub inside : (r : ℕ) → r < rows → startOf l (2 * r) + 2 * e ≤ length rs
+
+-- an array holds the corner records of a cell
+pub record Held (s : Shape) (rs : List ℤ) (cell : Place) (held : List ℤ) : Type 0 where
+  pub long : length held ≡ 216
+  pub is : take (size (one s)) held ≡ cornerRecords s rs cell
+
+-- corner records within their limits, and a step of their cell
+pub record Readable (s : Shape) (held : List ℤ) (step : Place) : Type 0 where
+  pub shape : Shaped s
+  pub long : length held ≡ size (one s)
+  pub within : cornersOutcome (one s) held origin ≡ done tt
+  pub steps-low : (a : ℕ) → a < s .axes → step a ≤ steps
+
+-- ---- stages in the table of one cell of three axes
+
+-- the strides of axis x, and of axis y
+pub record AlongX (m : ℕ) (x : Axis) : Type 0 where
+  pub node-is : x .node ≡ m * m * m
+  pub order-is : x .order ≡ 1
+
+pub record AlongY (m : ℕ) (y : Axis) : Type 0 where
+  pub node-is : y .node ≡ 2 * (m * m * m)
+  pub order-is : y .order ≡ m

@@ -1,0 +1,51 @@
+//! Doses along a path.
+
+use crate::answer::answer;
+use crate::{ffi, Refusal, Shape};
+
+/// Writes the doses at up to 256 table positions, in units, to the front of `answers`, and returns
+/// how often the corner records of a cell were fetched.
+///
+/// Each answer is the one of [`dose`](crate::dose) at its position. The number of fetches is 0 for
+/// an empty list, else one more than the number of neighbouring pairs of positions with different
+/// cells.
+///
+/// Refusals in order, also for an empty list: 1, 2, 3, 20, 4, 9; then position by position 11, 5,
+/// with the index of the position in the list as place. [`dose`](crate::dose) gives their places
+/// within the query.
+///
+/// ```
+/// use lukhtari::{estimate, ramp, Refusal, Shape};
+/// let shape = Shape { axes: 1, degree: 3, counts: [3, 1, 1] };
+/// let mut records = [0; 6];
+/// estimate(shape, &[0, 100, 200], &mut records)?;
+/// let mut answers = [0; 3];
+/// let fetches = ramp(shape, &records, &[[0, 0, 0], [64, 0, 0], [512, 0, 0]], &mut answers)?;
+/// assert_eq!(answers, [0, 25, 200]);
+/// assert_eq!(fetches, 2);
+///
+/// let refusal = ramp(shape, &records, &[[0, 0, 0], [513, 0, 0]], &mut answers).unwrap_err();
+/// assert_eq!(refusal, Refusal { number: 11, place: 1 });
+/// # Ok::<(), Refusal>(())
+/// ```
+pub fn ramp(
+    shape: Shape,
+    records: &[i32],
+    positions: &[[i32; 3]],
+    answers: &mut [i32],
+) -> Result<u64, Refusal> {
+    let positions = positions.as_flattened();
+    // SAFETY: all slices are lent for the call, with their lengths.
+    let ramped = unsafe {
+        ffi::lukhtari_ramp(
+            shape,
+            records.as_ptr(),
+            records.len(),
+            positions.as_ptr(),
+            positions.len(),
+            answers.as_mut_ptr(),
+            answers.len(),
+        )
+    };
+    answer(ramped.number, ramped.place, ramped.fetches)
+}
