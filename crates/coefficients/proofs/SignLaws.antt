@@ -1,10 +1,10 @@
 -- The signs of a corner: they change no size, and to sign a block as a whole is to sign along each axis where its rule is applied.
-use mathlib.Core.Path.{_≡_, refl, sym, ap, _∙_}
+use mathlib.Core.Path.{_≡_, refl, sym, ap, ap₂, _∙_}
 use mathlib.Core.List.{List, [], _∷_}
 use Prim.Native.Nat.{ℕ, zero, suc, _+_, _-_, _*_, _/_, _%_, _^_, _≤_, _<_}
-use native.Mathlib.Nat.{zero-add, mod-eq-of-lt}
+use native.Mathlib.Nat.{zero-add, mod-eq-of-lt, mod-lt, le-trans, le-of-eq}
 use native.Mathlib.Omega.{arith}
-use lib.Dec.{eqb, lit<}
+use lib.Dec.{eqb, lit<, lit≤}
 use lib.IntN.{ℤ, pos, negℤ, _*ℤ_, natAbs, negℤ-negℤ}
 use mir.Syntax.{w64}
 use mir.Val.{SFits}
@@ -12,6 +12,7 @@ use mir.Facts.{toZ-ofZ}
 use Rattle.arith.specs.Choice.{pick}
 use Rattle.arith.specs.Int.{_^ℤ_}
 use Rattle.arith.specs.Sum.{product}
+use Rattle.arith.proofs.Abs.{abs-mul}
 use Rattle.arith.proofs.Laws.{negℤ-*ℤ, *ℤ-assoc, *ℤ-pos-one, pos-one-*ℤ}
 use Rattle.arith.proofs.Choices.{by-2, by-3}
 use Rattle.arith.proofs.Machine.{sized, sizes, fits?, kept}
@@ -23,7 +24,8 @@ use Rattle.lattice.proofs.DigitsLaws.{digit-below, Digits, of-number, high-digi
 use Rattle.hermite.specs.Hermite.{mirrored}
 use Rattle.hermite.proofs.HermiteLaws.{mirrored-size}
 use Rattle.hermite.proofs.DotLaws.{held}
-use Rattle.coefficients.specs.Blocks.{endSign, blockSign}
+use Rattle.coefficients.specs.declared.Row.{Row}
+use Rattle.coefficients.specs.Blocks.{RowOf, endSign, blockSign}
 
 -- ---- one axis
 
@@ -113,6 +115,36 @@ module _ (s x : ℤ) (hs : natAbs s ≤ 1) (hx : natAbs x ≤ 2 ^ 50) where
 
   pub sign-kept : held (held s *ℤ held x) ≡ s *ℤ x
   sign-kept = rw (kept s 1 hs (lit< tt), kept x (2 ^ 50) hx (lit< tt)) (toZ-ofZ {w = w64} fits)
+
+-- the signs of a row as they are held: that of the row and that of order 1 along x, each 1 or −1
+module _ (m c g : ℕ) (o : Row) (m3 : m ≤ 3) (few : c < 8) (of-row : RowOf m g o) (lz : o .z < m) (row along : ℤ)
+    (row-is : (row ≡ endSign (c / 2 / 2) ^ℤ o .z *ℤ endSign (c / 2 % 2) ^ℤ o .y) × (natAbs row ≡ 1))
+    (along-is : (along ≡ endSign (c % 2) ^ℤ 1) × (natAbs along ≡ 1)) where
+  along-small : natAbs along ≤ 2 ^ 50
+  along-small = le-trans (le-of-eq (along-is .1)) (lit≤ tt)
+
+  row-kept : held row ≡ row
+  row-kept = kept row 1 (le-of-eq (row-is .1)) (lit< tt)
+
+  pub row-one : natAbs (held row) ≡ 1
+  row-one = ap natAbs row-kept ∙ row-is .1
+
+  both : held (held row *ℤ held along) ≡ row *ℤ along
+  both = sign-kept row along (le-of-eq (row-is .1)) along-small
+
+  pub both-one : natAbs (held (held row *ℤ held along)) ≡ 1
+  both-one = ap natAbs both ∙ abs-mul row along ∙ ap₂ _*_ (row-is .1) (along-is .1)
+
+  pub both-fit : SFits w64 (held row *ℤ held along)
+  both-fit = sign-fits row along (le-of-eq (row-is .1)) along-small
+
+  -- number t of the row
+  pub row-number : (t : ℕ) → t < m → pick (eqb t 1) (held (held row *ℤ held along)) (held row) ≡ blockSign m c (m * g + t)
+  row-number t l =
+      ap (λ z. pick (eqb t 1) (held (held row *ℤ held along)) z) row-kept
+      ∙ ap (λ z. pick (eqb t 1) z row) (both ∙ ap (λ z. row *ℤ z) (along-is .0))
+      ∙ sym (order-sign row (c % 2) (mod-lt c (lit< tt)) t (omega arith)) ∙ ap (λ z. z *ℤ endSign (c % 2) ^ℤ t) (row-is .0)
+      ∙ sym (ap (λ (k : ℕ). blockSign m c (m * k + t)) (of-row .number-is) ∙ row-signs m c (o .y) (o .z) few (of-row .low) lz t l)
 
 -- the sign of the orders p
 pub signs-are : (m n c : ℕ) → n ≤ 3 → (p : Place) → Digits n m p

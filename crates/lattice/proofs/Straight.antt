@@ -1,5 +1,5 @@
--- Straight numbers, which rise by the same from node to node: where a rule makes of them a number that is linear in them, so does a sweep of
--- such rules, axis after axis, of numbers that are straight along each axis.
+-- Straight numbers, which rise by the same from node to node: where a rule makes of them a number that is linear in them, so does a sweep
+-- of such rules, axis after axis, of numbers that are straight along each axis.
 use mathlib.Core.Path.{_≡_, refl, sym, ap, ap₂, subst, _∙_}
 use mathlib.Core.List.{List, [], _∷_}
 use Prim.Native.Nat.{ℕ, zero, suc, _+_}

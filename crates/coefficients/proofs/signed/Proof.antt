@@ -1,23 +1,22 @@
 -- `coefficients::signed` meets its contract: row after row, each number by the sign of its orders.
-use mathlib.Core.Path.{_≡_, sym, ap, ap₂, subst, _∙_}
+use mathlib.Core.Path.{_≡_, sym, ap, subst, _∙_}
 use mathlib.Core.List.{List}
-use Prim.Native.Nat.{ℕ, _≤_, _<_, _+_, _^_, _-_, _*_, _%_, zero-le}
-use native.Mathlib.Nat.{le-trans, le-of-eq, mod-lt, mul-zero}
+use Prim.Native.Nat.{ℕ, _≤_, _<_, _+_, _^_, _-_, _*_, zero-le}
+use native.Mathlib.Nat.{mod-lt, mul-zero}
 use native.Mathlib.Omega.{arith}
-use lib.Dec.{eqb, lit<, lit≤}
+use lib.Dec.{eqb, lit<}
 use lib.IntN.{ℤ, _*ℤ_, natAbs}
 use lib.ListN.{length}
 use denote.Ref.{now}
+use mir.Syntax.{w64}
+use mir.Val.{SFits}
 use Rattle.arith.specs.Choice.{pick}
-use Rattle.arith.specs.Int.{_^ℤ_}
-use Rattle.arith.proofs.Abs.{abs-mul}
-use Rattle.arith.proofs.Machine.{kept}
 use Rattle.lattice.specs.Buffer.{at}
 use Rattle.lattice.proofs.DigitsLaws.{next-group}
 use Rattle.hermite.proofs.DotLaws.{held}
-use Rattle.coefficients.specs.Blocks.{RowOf, endSign, blockSign, scatter}
+use Rattle.coefficients.specs.Blocks.{RowOf, blockSign, scatter}
 use Rattle.coefficients.proofs.BlockLaws.{orders-some, entries-low, corner-low, row-room, first-row, row-orders}
-use Rattle.coefficients.proofs.SignLaws.{sign-fits, sign-kept, row-signs, order-sign}
+use Rattle.coefficients.proofs.SignLaws.{row-one, both-one, both-fit, row-number}
 use Rattle.coefficients.proofs.SpotLaws.{scatter-length, scatter-at, scatter-add, scatter-same}
 use Rattle.coefficients.proofs.signed.Statement.{statement}
 use Rattle.coefficients.proofs.signed.Tie as tie
@@ -48,41 +47,28 @@ module _ (c : tie.After-row-sign Inv-loop μ-loop) where
   abbrev i : tie.In-loop Inv-loop μ-loop
   i = c .before
 
-  abbrev along : ℤ
-  along = i .before .before .sign .result
-
-  along-low : natAbs along ≡ 1
-  along-low = i .before .before .sign .ensures .1
-
-  along-small : natAbs along ≤ 2 ^ 50
-  along-small = le-trans (le-of-eq along-low) (lit≤ tt)
-
-  row-kept : held (c .row-sign .result) ≡ c .row-sign .result
-  row-kept = kept (c .row-sign .result) 1 (le-of-eq (c .row-sign .ensures .1)) (lit< tt)
-
   row-low : natAbs (held (c .row-sign .result)) ≡ 1
-  row-low = ap natAbs row-kept ∙ c .row-sign .ensures .1
+  row-low = row-one (s i .args .m) (s i .args .c) (i .before .loop .g) (i .before .loop .o) (s i .pre .0 .orders-high) (few i)
+      (i .before .loop .inv .1) (z-low i) (c .row-sign .result) (i .before .before .sign .result) (c .row-sign .ensures)
+      (i .before .before .sign .ensures)
 
-  both : held (held (c .row-sign .result) *ℤ held along) ≡ c .row-sign .result *ℤ along
-  both = sign-kept (c .row-sign .result) along (le-of-eq (c .row-sign .ensures .1)) along-small
+  both-low : natAbs (held (held (c .row-sign .result) *ℤ held (i .before .before .sign .result))) ≡ 1
+  both-low = both-one (s i .args .m) (s i .args .c) (i .before .loop .g) (i .before .loop .o) (s i .pre .0 .orders-high) (few i)
+      (i .before .loop .inv .1) (z-low i) (c .row-sign .result) (i .before .before .sign .result) (c .row-sign .ensures)
+      (i .before .before .sign .ensures)
 
-  both-low : natAbs (held (held (c .row-sign .result) *ℤ held along)) ≡ 1
-  both-low = ap natAbs both ∙ abs-mul (c .row-sign .result) along ∙ ap₂ _*_ (c .row-sign .ensures .1) along-low
+  both-fits : SFits w64 (held (c .row-sign .result) *ℤ held (i .before .before .sign .result))
+  both-fits = both-fit (s i .args .m) (s i .args .c) (i .before .loop .g) (i .before .loop .o) (s i .pre .0 .orders-high) (few i)
+      (i .before .loop .inv .1) (z-low i) (c .row-sign .result) (i .before .before .sign .result) (c .row-sign .ensures)
+      (i .before .before .sign .ensures)
 
   -- number o of the row
   number-is : (o : ℕ) → o < s i .args .m
-      → pick (eqb o 1) (held (held (c .row-sign .result) *ℤ held along)) (held (c .row-sign .result))
+      → pick (eqb o 1) (held (held (c .row-sign .result) *ℤ held (i .before .before .sign .result))) (held (c .row-sign .result))
       ≡ blockSign (s i .args .m) (s i .args .c) (s i .args .m * i .before .loop .g + o)
-  number-is o l =
-      let a = s i .args in
-      let w = i .before .loop in
-      let m3 = s i .pre .0 .orders-high in
-      ap (λ z. pick (eqb o 1) (held (held (c .row-sign .result) *ℤ held along)) z) row-kept
-      ∙ ap (λ z. pick (eqb o 1) z (c .row-sign .result)) (both ∙ ap (λ z. c .row-sign .result *ℤ z) (i .before .before .sign .ensures .0))
-      ∙ sym (order-sign (c .row-sign .result) (a .c % 2) (mod-lt (a .c) (lit< tt)) o (omega arith))
-      ∙ ap (λ z. z *ℤ endSign (a .c % 2) ^ℤ o) (c .row-sign .ensures .0)
-      ∙ sym (ap (λ (k : ℕ). blockSign (a .m) (a .c) (a .m * k + o)) (w .inv .1 .number-is)
-      ∙ row-signs (a .m) (a .c) (w .o .y) (w .o .z) (few i) (w .inv .1 .low) (z-low i) o l)
+  number-is = row-number (s i .args .m) (s i .args .c) (i .before .loop .g) (i .before .loop .o) (s i .pre .0 .orders-high) (few i)
+      (i .before .loop .inv .1) (z-low i) (c .row-sign .result) (i .before .before .sign .result) (c .row-sign .ensures)
+      (i .before .before .sign .ensures)
 
 loop-holds : tie.Need-loop-holds Inv-loop μ-loop
 unfolding scatter
@@ -162,7 +148,7 @@ signed-spec =
     (λ c κs. (mod-lt (c .args .c) (lit< tt), lit< tt))
     loop-holds
     row-sign-requires
-    (λ c. sign-fits (c .row-sign .result) (along c) (le-of-eq (c .row-sign .ensures .1)) (along-small c))
+    (λ c. both-fits c)
     (λ c. let h = room (i c) in let e = entries-low (s (i c) .pre .0) in omega arith)
     sign-row-requires
     next-row-requires
