@@ -2,7 +2,8 @@
  *
  * A table is a shape with one sample for each node. lukhtari_estimate makes each node's record
  * from the samples; doses and slopes are then asked for by table position, by cell or by float,
- * and doses also by a list of positions, a ramp.
+ * doses also by a list of positions, a ramp, and curvatures of quintic tables by table position or
+ * by cell.
  *
  * Nodes, cells and positions. Axes are x, y, z in this order, numbered 0, 1, 2; a shape uses the
  * first 1, 2 or 3. With cx and cy the node counts of x and y, node (i, j, k) has number
@@ -33,13 +34,16 @@
  * alike with b along y and c along z. A cell's corner records are those of the nodes at its 2^axes
  * corners, x fastest; together they have as many entries as the cell has coefficients.
  *
- * Answers. A dose is in units, a slope in units per cell. Axes are worked off one by one, in the
- * order x, y, z, a slope's axis last; each but the last rounds to an eighth of a unit, the last to
- * a unit, to the nearest and halves up. Doses and slopes lie below 2^24 in size. With estimated
- * records a dose is within 1/2, 37/64, 173/256 of the exact dose on 1, 2, 3 axes, a slope within
- * 1/2, 13/16, 77/64 of its derivative. Where the samples are a sum of a constant and multiples of
- * x, y, z, xy, xz, yz and xyz, these being the node indices, the exact dose is that sum everywhere
- * in the table.
+ * Answers. A dose is in units, a slope, its derivative along an axis, in units per cell, a
+ * curvature, the second derivative along an axis, in units per cell squared. Quintic tables alone
+ * have curvatures: cubic ones are not smooth to the second derivative. Axes are worked off one by
+ * one, in the order x, y, z, the axis of a slope or curvature last; each but the last rounds to an
+ * eighth of a unit, the last to a unit, to the nearest and halves up. Answers lie below 2^24 in
+ * size. With estimated records a dose is within 1/2, 37/64, 173/256 of the exact dose on 1, 2, 3
+ * axes, a slope within 1/2, 13/16, 77/64 of its derivative, a curvature within 1/2, 3/2, 11/4 of
+ * its second derivative. Where the samples are a sum of a constant and multiples of x, y, z, xy,
+ * xz, yz and xyz, these being the node indices, the exact dose is that sum everywhere in the table,
+ * and the exact curvature is 0.
  *
  * A ramp. A list of at most LUKHTARI_RAMP_MAX positions stands in one slice, three numbers each, x
  * first. lukhtari_ramp writes one dose for each, the one that lukhtari_dose gives. The corner
@@ -75,15 +79,16 @@
  *
  * Results. Every result has a number and a place. Number 0 means not refused, and then place is 0.
  * Any other number is a refusal, one of enum lukhtari_refusal: no buffer is written, and value,
- * axes, counts, length and fetches are 0. Place is the first offending index as said there, else 0. A
- * buffer longer than needed keeps its tail.
+ * axes, counts, length and fetches are 0. Place is the first offending index as said there, else 0.
+ * A buffer longer than needed keeps its tail.
  *
  * Refusals come before reading. Every call but lukhtari_read, lukhtari_import and lukhtari_ramp
  * gives each refusal but 5, 13 and 19 by the numbers and lengths handed over, before it reads an
  * element of a slice. lukhtari_ramp gives 1, 2, 3, 20, 4 and 9 so, and then reads no record beyond
- * those of the cells of its positions, up to the first position that is refused. lukhtari_read reads the numbers before the samples one by one, none beyond the bytes lent, and
- * gives each refusal but 5 before it reads a sample. lukhtari_import gives 1, 2 and 3 before it
- * reads a byte of the text. Neither reads the slice that it fills.
+ * those of the cells of its positions, up to the first position that is refused. lukhtari_read
+ * reads the numbers before the samples one by one, none beyond the bytes lent, and gives each
+ * refusal but 5 before it reads a sample. lukhtari_import gives 1, 2 and 3 before it reads a byte
+ * of the text. Neither reads the slice that it fills.
  *
  * Surroundings. The archive is for x86-64 Linux. It needs memcpy and memset and nothing else, uses
  * no heap and has no data that changes: calls may run at the same time, in threads and in signal
@@ -102,7 +107,7 @@ extern "C" {
 #endif
 
 /* The number of this interface; another number means other structs or calls. */
-#define LUKHTARI_INTERFACE 3
+#define LUKHTARI_INTERFACE 4
 
 /* Steps of a cell along an axis. */
 #define LUKHTARI_STEPS 256
@@ -119,7 +124,7 @@ extern "C" {
 #define LUKHTARI_ENTRY_LIMIT(orders) (LUKHTARI_SAMPLE_LIMIT * (1 << (orders)))
 #define LUKHTARI_COEFFICIENT_LIMIT 1073741824
 
-/* Doses and slopes are smaller than this in size. */
+/* Doses, slopes and curvatures are smaller than this in size. */
 #define LUKHTARI_ANSWER_LIMIT 16777216
 
 /* The most bytes of a token. */
@@ -147,7 +152,8 @@ extern "C" {
 #define LUKHTARI_FILE_BYTES(axes, nodes) (4 * (2 + (size_t)(axes) + (size_t)(nodes)))
 
 /* Bytes of stack, at most: of lukhtari_estimate; of lukhtari_coefficients and lukhtari_corners; of
- * each dose and slope; of lukhtari_read and lukhtari_write; of lukhtari_import; of lukhtari_ramp. */
+ * each dose, slope and curvature; of lukhtari_read and lukhtari_write; of lukhtari_import; of
+ * lukhtari_ramp. */
 #define LUKHTARI_STACK_ESTIMATE 8192
 #define LUKHTARI_STACK_CONVERSION 4096
 #define LUKHTARI_STACK_QUERY 2048
@@ -186,7 +192,7 @@ enum lukhtari_refusal {
      * not 0 on an unused axis; place: the axis, and for lukhtari_ramp the index of the position in
      * the list. */
     LUKHTARI_REFUSED_POSITION = 11,
-    /* The axis of a slope is not used. */
+    /* The axis of a slope or curvature is not used. */
     LUKHTARI_REFUSED_SLOPE_AXIS = 12,
     /* No permitted corner records have these coefficients. */
     LUKHTARI_REFUSED_NO_CORNER_RECORDS = 13,
@@ -204,7 +210,9 @@ enum lukhtari_refusal {
     /* A sample given for estimation is beyond 32768 / 2^axes; place: its index. */
     LUKHTARI_REFUSED_BEYOND_ESTIMATE_LIMIT = 19,
     /* A ramp has more than 256 positions, or their numbers are not three for each. */
-    LUKHTARI_REFUSED_RAMP_LENGTH = 20
+    LUKHTARI_REFUSED_RAMP_LENGTH = 20,
+    /* A curvature is asked for in degree 3. */
+    LUKHTARI_REFUSED_CURVATURE_DEGREE = 21
 };
 
 /* A table's number of axes (1 to 3), degree (3 or 5) and node counts: 2 to 64 on each used axis,
@@ -238,14 +246,14 @@ typedef struct lukhtari_done {
     uint64_t place;
 } lukhtari_done;
 
-/* A dose in units, or a slope in units per cell. */
+/* A dose in units, a slope in units per cell, or a curvature in units per cell squared. */
 typedef struct lukhtari_whole {
     uint32_t number;
     uint64_t place;
     int32_t value;
 } lukhtari_whole;
 
-/* The same as a float, which equals the whole number exactly. */
+/* A dose or slope as a float, which equals the whole number exactly. */
 typedef struct lukhtari_real {
     uint32_t number;
     uint64_t place;
@@ -335,6 +343,18 @@ lukhtari_whole lukhtari_dose_in_cell(lukhtari_shape shape, const int32_t *record
 lukhtari_whole lukhtari_slope_in_cell(lukhtari_shape shape, const int32_t *records,
                                       size_t records_len, lukhtari_index cell, lukhtari_index u,
                                       uint32_t axis);
+
+/* Curvature along an axis (0 for x, 1 for y, 2 for z) at a table position.
+ * Refusals in order: 1, 2, 3, 4, 12, 21, 11 (each axis), 5 (the cell's corners in order). */
+lukhtari_whole lukhtari_curvature(lukhtari_shape shape, const int32_t *records, size_t records_len,
+                                  lukhtari_position position, uint32_t axis);
+
+/* Curvature along an axis at the steps u (0 to 256) within a cell.
+ * Refusals in order: 1, 2, 3, 4, 12, 21, 14 (each axis), 11 (each axis), 5 (the cell's corners in
+ * order). */
+lukhtari_whole lukhtari_curvature_in_cell(lukhtari_shape shape, const int32_t *records,
+                                          size_t records_len, lukhtari_index cell,
+                                          lukhtari_index u, uint32_t axis);
 
 /* Dose at the step nearest to a position in cells, halves up.
  * Refusals in order: 1, 2, 3, 4, on each axis 10 and then 11, 5 (the cell's corners in order). */

@@ -3,7 +3,7 @@
 //! The coefficients come from the paper's sums, corner by corner; or from the one-axis table axis
 //! by axis, which needs less work; or they are stored for each cell of the table.
 
-use super::inputs::cell_and_u;
+use super::inputs::{cell_and_u, Want};
 use lukhtari::Shape;
 
 // How the coefficients are had.
@@ -65,15 +65,15 @@ impl Double {
         self.stored.extend(&block);
     }
 
-    // Dose or slope at a position.
-    pub fn at(&self, position: [i32; 3], slope: Option<u32>, source: Source) -> f64 {
+    // Dose, slope or curvature at a position.
+    pub fn at(&self, position: [i32; 3], want: Want, source: Source) -> f64 {
         match (self.shape.degree, self.shape.axes) {
-            (3, 1) => self.value::<4, 1, 2, 4>(position, slope, source),
-            (3, 2) => self.value::<4, 2, 4, 16>(position, slope, source),
-            (3, _) => self.value::<4, 3, 8, 64>(position, slope, source),
-            (_, 1) => self.value::<6, 1, 3, 6>(position, slope, source),
-            (_, 2) => self.value::<6, 2, 9, 36>(position, slope, source),
-            (_, _) => self.value::<6, 3, 27, 216>(position, slope, source),
+            (3, 1) => self.value::<4, 1, 2, 4>(position, want, source),
+            (3, 2) => self.value::<4, 2, 4, 16>(position, want, source),
+            (3, _) => self.value::<4, 3, 8, 64>(position, want, source),
+            (_, 1) => self.value::<6, 1, 3, 6>(position, want, source),
+            (_, 2) => self.value::<6, 2, 9, 36>(position, want, source),
+            (_, _) => self.value::<6, 3, 27, 216>(position, want, source),
         }
     }
 
@@ -82,18 +82,18 @@ impl Double {
     fn value<const S: usize, const N: usize, const R: usize, const K: usize>(
         &self,
         position: [i32; 3],
-        slope: Option<u32>,
+        want: Want,
         source: Source,
     ) -> f64 {
         let (cell, u) = cell_and_u(self.shape, position);
         match source {
-            Source::Sums => tensor::<S, N>(&self.by_sums::<S, N, R, K>(cell), u, slope),
-            Source::Axes => tensor::<S, N>(&self.by_axes::<S, N, R, K>(cell), u, slope),
+            Source::Sums => tensor::<S, N>(&self.by_sums::<S, N, R, K>(cell), u, want),
+            Source::Axes => tensor::<S, N>(&self.by_axes::<S, N, R, K>(cell), u, want),
             Source::Stored => {
                 let [x, y, z] = cell.map(|index| index as usize);
                 let [cx, cy, _] = self.shape.counts.map(|count| (count as usize - 1).max(1));
                 let start = K * (x + cx * (y + cy * z));
-                tensor::<S, N>(&self.stored[start..start + K], u, slope)
+                tensor::<S, N>(&self.stored[start..start + K], u, want)
             }
         }
     }
@@ -255,8 +255,11 @@ fn axis_table<const S: usize>(block: &mut [f64], stride: usize) {
 
 // Sum over all coefficients, the innermost along x.
 #[inline(always)]
-fn tensor<const S: usize, const N: usize>(block: &[f64], u: [u32; 3], slope: Option<u32>) -> f64 {
-    let along = |axis: usize| weights::<S>(u[axis], slope == Some(axis as u32));
+fn tensor<const S: usize, const N: usize>(block: &[f64], u: [u32; 3], want: Want) -> f64 {
+    let along = |axis: usize| {
+        let last = want.axis() == Some(axis as u32);
+        weights::<S>(u[axis], if last { want.order() } else { 0 })
+    };
     let mut numbers = [0.0; 36];
     let mut lines = S.pow(N as u32 - 1);
     let first = along(0);
@@ -282,9 +285,9 @@ fn dot<const S: usize>(numbers: &[f64], weights: &[f64; S]) -> f64 {
     sum
 }
 
-// Weights (1-t)^(d-i) t^i, or their derivatives.
+// Weights (1-t)^(d-i) t^i, or their derivatives of an order.
 #[inline(always)]
-fn weights<const S: usize>(u: u32, slope: bool) -> [f64; S] {
+fn weights<const S: usize>(u: u32, order: u32) -> [f64; S] {
     let t = u as f64 / 256.0;
     let (mut step, mut rest) = ([1.0; S], [1.0; S]);
     for i in 1..S {
@@ -294,8 +297,12 @@ fn weights<const S: usize>(u: u32, slope: bool) -> [f64; S] {
     let mut weights = [0.0; S];
     for i in 0..S {
         let left = S - 1 - i;
-        if !slope {
+        if order == 0 {
             weights[i] = rest[left] * step[i];
+            continue;
+        }
+        if order == 2 {
+            weights[i] = second_derivative(&rest, &step, left, i);
             continue;
         }
         if i > 0 {
@@ -306,4 +313,25 @@ fn weights<const S: usize>(u: u32, slope: bool) -> [f64; S] {
         }
     }
     weights
+}
+
+// Of (1-t)^left t^i, from the powers of both.
+#[inline(always)]
+fn second_derivative<const S: usize>(
+    rest: &[f64; S],
+    step: &[f64; S],
+    left: usize,
+    i: usize,
+) -> f64 {
+    let mut sum = 0.0;
+    if i > 1 {
+        sum += (i * (i - 1)) as f64 * rest[left] * step[i - 2];
+    }
+    if i > 0 && left > 0 {
+        sum -= (2 * i * left) as f64 * rest[left - 1] * step[i - 1];
+    }
+    if left > 1 {
+        sum += (left * (left - 1)) as f64 * rest[left - 2] * step[i];
+    }
+    sum
 }

@@ -5,7 +5,7 @@ use super::hand::method::{Folded, Printed};
 use super::hand::plain::Plain;
 use super::hand::query;
 use super::hand::stages::Specialised;
-use super::inputs::{cube, estimable, positions, KINDS};
+use super::inputs::{cube, estimable, positions, Want, KINDS};
 use super::queries::WHOLE;
 use super::report::{heading, kind, line, wanted};
 use lukhtari::{dose_float, estimate, slope_float, Refusal};
@@ -17,14 +17,14 @@ type Answer = Result<f32, Refusal>;
 pub fn run() {
     heading("By float", &WHOLE);
     for (degree, axes) in KINDS {
-        for along in [None, Some(0)] {
-            let name = format!("{}, {}", kind(degree, axes), wanted(along));
-            line(&name, &times(degree, axes, along));
+        for want in [Want::Dose, Want::Slope(0)] {
+            let name = format!("{}, {}", kind(degree, axes), wanted(want));
+            line(&name, &times(degree, axes, want));
         }
     }
 }
 
-fn times(degree: u32, axes: u32, along: Option<u32>) -> Vec<f64> {
+fn times(degree: u32, axes: u32, want: Want) -> Vec<f64> {
     let shape = cube(degree, axes, if axes == 3 { 17 } else { 33 });
     let mut records = vec![0; shape.entries()];
     estimate(shape, &estimable(shape), &mut records).expect("accepted table");
@@ -34,24 +34,25 @@ fn times(degree: u32, axes: u32, along: Option<u32>) -> Vec<f64> {
         .iter()
         .map(|p| p.map(|step| step as f32 / 256.0))
         .collect();
-    let library = |p| match along {
-        None => dose_float(shape, records, p),
-        Some(axis) => slope_float(shape, records, p, axis),
+    let library = |p| match want {
+        Want::Dose => dose_float(shape, records, p),
+        Want::Slope(axis) => slope_float(shape, records, p, axis),
+        Want::Curvature(_) => panic!("there is no curvature by float"),
     };
     let expected: &[Answer] = &points.iter().map(|&p| library(p)).collect::<Vec<_>>();
     let mut runs = [
         over(&points, expected, library),
         over(&points, expected, |p| {
-            query::by_float::<Specialised<Printed>>(shape, records, p, along)
+            query::by_float::<Specialised<Printed>>(shape, records, p, want)
         }),
         over(&points, expected, |p| {
-            query::by_float::<Specialised<Folded>>(shape, records, p, along)
+            query::by_float::<Specialised<Folded>>(shape, records, p, want)
         }),
         over(&points, expected, |p| {
-            query::by_float::<Plain<Printed>>(shape, records, p, along)
+            query::by_float::<Plain<Printed>>(shape, records, p, want)
         }),
         over(&points, expected, |p| {
-            query::by_float::<Plain<Folded>>(shape, records, p, along)
+            query::by_float::<Plain<Folded>>(shape, records, p, want)
         }),
     ];
     side_by_side(POINTS, &mut runs)

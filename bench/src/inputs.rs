@@ -19,6 +19,35 @@ impl Random {
     }
 }
 
+// What is asked for: a dose, or a slope or curvature along an axis.
+#[derive(Clone, Copy, PartialEq)]
+pub enum Want {
+    Dose,
+    Slope(u32),
+    Curvature(u32),
+}
+
+impl Want {
+    // The order of the derivative.
+    #[inline(always)]
+    pub fn order(self) -> u32 {
+        match self {
+            Want::Dose => 0,
+            Want::Slope(_) => 1,
+            Want::Curvature(_) => 2,
+        }
+    }
+
+    // Its axis.
+    #[inline(always)]
+    pub fn axis(self) -> Option<u32> {
+        match self {
+            Want::Dose => None,
+            Want::Slope(axis) | Want::Curvature(axis) => Some(axis),
+        }
+    }
+}
+
 pub const KINDS: [(u32, u32); 6] = [(3, 1), (3, 2), (3, 3), (5, 1), (5, 2), (5, 3)];
 
 // A shape with the same number of nodes on each used axis.

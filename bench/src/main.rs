@@ -3,9 +3,10 @@
 //! import a byte, of ramps a dose; in brackets is the library's time divided by the other's. The tables are those of
 //! `docs/SPEED.md`.
 //!
-//! Doses and slopes by hand are of two kinds: specialised, with one copy of the code for each
-//! degree, number of axes and slope axis; and plain, with one copy for all of them. Each kind works
-//! off an axis in two ways: as printed, and with the table folded into the weights.
+//! Doses, slopes and curvatures by hand are of two kinds: specialised, with one copy of the code
+//! for each degree, number of axes and axis worked off last; and plain, with one copy for all of
+//! them. Each kind works off an axis in two ways: as printed, and with the table folded into the
+//! weights.
 
 mod c;
 mod clock;

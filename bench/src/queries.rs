@@ -1,4 +1,4 @@
-//! Doses and slopes by position and by cell.
+//! Doses, slopes and curvatures by position and by cell.
 
 use super::clock::{side_by_side, Run};
 use super::double::{Double, Source};
@@ -6,9 +6,10 @@ use super::hand::method::{Folded, Printed};
 use super::hand::plain::Plain;
 use super::hand::query;
 use super::hand::stages::Specialised;
-use super::inputs::{cell_and_u, cube, estimable, positions, KINDS};
+use super::inputs::{cell_and_u, cube, estimable, positions, Want, KINDS};
 use super::report::{heading, kind, line, wanted};
-use lukhtari::{dose, dose_in_cell, estimate, slope, slope_in_cell, Refusal, Shape};
+use lukhtari::{curvature, curvature_in_cell, dose, dose_in_cell, slope, slope_in_cell};
+use lukhtari::{estimate, Refusal, Shape};
 
 const POINTS: usize = 1024;
 
@@ -32,12 +33,10 @@ pub fn run() {
     let (mut by_position, mut by_cell) = (Vec::new(), Vec::new());
     for (degree, axes) in KINDS {
         let table = Table::new(degree, axes);
-        let mut kinds = vec![None, Some(0), Some(axes - 1)];
-        kinds.dedup();
-        for along in kinds {
-            let name = format!("{}, {}", kind(degree, axes), wanted(along));
-            by_position.push((name.clone(), table.by_position(along)));
-            by_cell.push((name, table.by_cell(along)));
+        for want in wants(degree, axes) {
+            let name = format!("{}, {}", kind(degree, axes), wanted(want));
+            by_position.push((name.clone(), table.by_position(want)));
+            by_cell.push((name, table.by_cell(want)));
         }
     }
     let real = |(name, times): &Row| (name.clone(), [&times[..1], &times[5..]].concat());
@@ -46,6 +45,16 @@ pub fn run() {
     print("By position", &WHOLE, &by_position);
     print("By position, beside f64", &REAL, &in_reals);
     print("By cell", &WHOLE, &by_cell);
+}
+
+// A dose, and along the first and the last axis a slope and, in degree 5, a curvature.
+fn wants(degree: u32, axes: u32) -> Vec<Want> {
+    let mut all = vec![Want::Dose, Want::Slope(0), Want::Slope(axes - 1)];
+    if degree == 5 {
+        all.extend([Want::Curvature(0), Want::Curvature(axes - 1)]);
+    }
+    all.dedup();
+    all
 }
 
 fn print(title: &str, columns: &[&str], rows: &[Row]) {
@@ -100,42 +109,44 @@ impl Table {
         Box::new(run)
     }
 
-    fn by_position(&self, along: Option<u32>) -> Vec<f64> {
+    fn by_position(&self, want: Want) -> Vec<f64> {
         let (shape, records) = (self.shape, &self.records[..]);
-        let library = |p| match along {
-            None => dose(shape, records, p),
-            Some(axis) => slope(shape, records, p, axis),
+        let library = |p| match want {
+            Want::Dose => dose(shape, records, p),
+            Want::Slope(axis) => slope(shape, records, p, axis),
+            Want::Curvature(axis) => curvature(shape, records, p, axis),
         };
         let expected: Vec<Answer> = self.positions.iter().map(|&p| library(p)).collect();
         let expected = &expected[..];
         let mut runs = [
             self.whole(expected, library),
             self.whole(expected, |p| {
-                query::by_position::<Specialised<Printed>>(shape, records, p, along)
+                query::by_position::<Specialised<Printed>>(shape, records, p, want)
             }),
             self.whole(expected, |p| {
-                query::by_position::<Specialised<Folded>>(shape, records, p, along)
+                query::by_position::<Specialised<Folded>>(shape, records, p, want)
             }),
             self.whole(expected, |p| {
-                query::by_position::<Plain<Printed>>(shape, records, p, along)
+                query::by_position::<Plain<Printed>>(shape, records, p, want)
             }),
             self.whole(expected, |p| {
-                query::by_position::<Plain<Folded>>(shape, records, p, along)
+                query::by_position::<Plain<Folded>>(shape, records, p, want)
             }),
-            self.real(expected, |p| self.double.at(p, along, Source::Sums)),
-            self.real(expected, |p| self.double.at(p, along, Source::Axes)),
-            self.real(expected, |p| self.double.at(p, along, Source::Stored)),
+            self.real(expected, |p| self.double.at(p, want, Source::Sums)),
+            self.real(expected, |p| self.double.at(p, want, Source::Axes)),
+            self.real(expected, |p| self.double.at(p, want, Source::Stored)),
         ];
         side_by_side(POINTS, &mut runs)
     }
 
-    fn by_cell(&self, along: Option<u32>) -> Vec<f64> {
+    fn by_cell(&self, want: Want) -> Vec<f64> {
         let (shape, records) = (self.shape, &self.records[..]);
         let points = self.positions.iter().map(|&p| cell_and_u(shape, p));
         let points: &[CellAndU] = &points.collect::<Vec<_>>();
-        let library = |cell, u| match along {
-            None => dose_in_cell(shape, records, cell, u),
-            Some(axis) => slope_in_cell(shape, records, cell, u, axis),
+        let library = |cell, u| match want {
+            Want::Dose => dose_in_cell(shape, records, cell, u),
+            Want::Slope(axis) => slope_in_cell(shape, records, cell, u, axis),
+            Want::Curvature(axis) => curvature_in_cell(shape, records, cell, u, axis),
         };
         let expected: &[Answer] = &points
             .iter()
@@ -144,16 +155,16 @@ impl Table {
         let mut runs = [
             over(points, expected, library),
             over(points, expected, |cell, u| {
-                query::by_cell::<Specialised<Printed>>(shape, records, cell, u, along)
+                query::by_cell::<Specialised<Printed>>(shape, records, cell, u, want)
             }),
             over(points, expected, |cell, u| {
-                query::by_cell::<Specialised<Folded>>(shape, records, cell, u, along)
+                query::by_cell::<Specialised<Folded>>(shape, records, cell, u, want)
             }),
             over(points, expected, |cell, u| {
-                query::by_cell::<Plain<Printed>>(shape, records, cell, u, along)
+                query::by_cell::<Plain<Printed>>(shape, records, cell, u, want)
             }),
             over(points, expected, |cell, u| {
-                query::by_cell::<Plain<Folded>>(shape, records, cell, u, along)
+                query::by_cell::<Plain<Folded>>(shape, records, cell, u, want)
             }),
         ];
         side_by_side(POINTS, &mut runs)

@@ -1,5 +1,7 @@
 //! Printing, as tables of Markdown.
 
+use super::inputs::Want;
+
 // A title and the names of the columns.
 pub fn heading(title: &str, columns: &[&str]) {
     println!("\n## {title}\n");
@@ -27,13 +29,12 @@ pub fn kind(degree: u32, axes: u32) -> String {
     }
 }
 
-// The name of a dose, or of a slope along an axis.
-pub fn wanted(along: Option<u32>) -> &'static str {
-    match along {
-        None => "dose",
-        Some(0) => "slope x",
-        Some(1) => "slope y",
-        Some(_) => "slope z",
+// The name of a dose, or of a slope or curvature along an axis.
+pub fn wanted(want: Want) -> String {
+    let kind = ["dose", "slope", "curvature"][want.order() as usize];
+    match want.axis() {
+        None => kind.to_string(),
+        Some(axis) => format!("{kind} {}", ["x", "y", "z"][axis as usize]),
     }
 }
 

@@ -56,7 +56,7 @@ pub struct Done {
     pub place: u64,
 }
 
-/// A dose or slope, or a refusal.
+/// A dose, slope or curvature, or a refusal.
 #[repr(C)]
 #[derive(Clone, Copy, Debug, PartialEq, Eq)]
 pub struct Whole {
@@ -64,7 +64,8 @@ pub struct Whole {
     pub number: u32,
     /// Place of the refusal, else 0
     pub place: u64,
-    /// Dose in units or slope in units per cell, 0 where refused
+    /// Dose in units, slope in units per cell or curvature in units per cell squared, 0 where
+    /// refused
     pub value: i32,
 }
 
@@ -211,6 +212,33 @@ extern "C" {
     ///
     /// The slice `records` is lent as the [module](self) says.
     pub fn lukhtari_slope_in_cell(
+        shape: Shape,
+        records: *const i32,
+        records_len: usize,
+        cell: Index,
+        u: Index,
+        axis: u32,
+    ) -> Whole;
+
+    /// Curvature at a table position: see [`curvature`](crate::curvature).
+    ///
+    /// # Safety
+    ///
+    /// The slice `records` is lent as the [module](self) says.
+    pub fn lukhtari_curvature(
+        shape: Shape,
+        records: *const i32,
+        records_len: usize,
+        position: Position,
+        axis: u32,
+    ) -> Whole;
+
+    /// Curvature within a cell: see [`curvature_in_cell`](crate::curvature_in_cell).
+    ///
+    /// # Safety
+    ///
+    /// The slice `records` is lent as the [module](self) says.
+    pub fn lukhtari_curvature_in_cell(
         shape: Shape,
         records: *const i32,
         records_len: usize,

@@ -2,9 +2,10 @@
 //!
 //! A table is a [`Shape`] with one sample for each node, from the host, a table file or decimal
 //! text. Estimation makes each node's record from the samples; doses and slopes are then asked for
-//! by table position, by cell or by float, doses also by a list of positions. Every call either answers or gives a [`Refusal`] with
-//! its number and place, and a refused call leaves every lent buffer as it was. All calls are made
-//! by the static library `liblukhtari.a`; the crate uses neither `std` nor other crates.
+//! by table position, by cell or by float, doses also by a list of positions, and curvatures of
+//! quintic tables by table position or by cell. Every call either answers or gives a [`Refusal`]
+//! with its number and place, and a refused call leaves every lent buffer as it was. All calls are
+//! made by the static library `liblukhtari.a`; the crate uses neither `std` nor other crates.
 //!
 //! Samples, records and coefficients stand in slices with x fastest. A position counts 256 steps
 //! for each cell. Arrays of three hold one number for each axis, x first, and 0 on unused axes
@@ -29,7 +30,7 @@ mod coefficients;
 pub use coefficients::{coefficients, corners};
 
 mod whole;
-pub use whole::{dose, dose_in_cell, slope, slope_in_cell};
+pub use whole::{curvature, curvature_in_cell, dose, dose_in_cell, slope, slope_in_cell};
 
 mod ramp;
 pub use ramp::ramp;

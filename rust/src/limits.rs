@@ -1,7 +1,7 @@
 //! Limits of tables and the largest sizes of buffers, as `lukhtari.h` has them.
 
 /// Number of the C interface; another number means other structs or calls.
-pub const INTERFACE: u32 = 3;
+pub const INTERFACE: u32 = 4;
 
 /// Steps of a cell along an axis.
 pub const STEPS: u32 = 256;
@@ -42,7 +42,7 @@ pub const fn entry_limit(orders: u32) -> i32 {
 /// Largest size of a coefficient.
 pub const COEFFICIENT_LIMIT: i32 = 1 << 30;
 
-/// Doses and slopes are smaller than this in size.
+/// Doses, slopes and curvatures are smaller than this in size.
 pub const ANSWER_LIMIT: i32 = 1 << 24;
 
 /// Most bytes of a token.
@@ -69,7 +69,7 @@ pub const STACK_ESTIMATE: usize = 8192;
 /// Most bytes of stack that coefficients or corner records use.
 pub const STACK_CONVERSION: usize = 4096;
 
-/// Most bytes of stack that a dose or slope uses.
+/// Most bytes of stack that a dose, slope or curvature uses.
 pub const STACK_QUERY: usize = 2048;
 
 /// Most bytes of stack that reading or writing a table file uses.

@@ -13,7 +13,7 @@ use core::fmt;
 /// ```
 #[derive(Clone, Copy, Debug, PartialEq, Eq)]
 pub struct Refusal {
-    /// 1 to 20, the constants below
+    /// 1 to 21, the constants below
     pub number: u32,
     /// An index counted from 0, and 0 where the reason names none
     pub place: u64,
@@ -44,7 +44,7 @@ impl Refusal {
     pub const NOT_FINITE: u32 = 10;
     /// A position or in-cell step is outside the table or cell; the place is the axis.
     pub const POSITION: u32 = 11;
-    /// The axis of a slope is not used.
+    /// The axis of a slope or curvature is not used.
     pub const SLOPE_AXIS: u32 = 12;
     /// No permitted corner records have these coefficients.
     pub const NO_CORNER_RECORDS: u32 = 13;
@@ -62,6 +62,8 @@ impl Refusal {
     pub const BEYOND_ESTIMATE_LIMIT: u32 = 19;
     /// A ramp has more than 256 positions, or their numbers are not three for each.
     pub const RAMP_LENGTH: u32 = 20;
+    /// A curvature is asked for in degree 3.
+    pub const CURVATURE_DEGREE: u32 = 21;
 }
 
 impl fmt::Display for Refusal {
@@ -86,7 +88,7 @@ impl fmt::Display for Refusal {
             Self::BUFFER_TOO_SHORT => write!(f, "the buffer to be written is too short"),
             Self::NOT_FINITE => write!(f, "the position on axis {place} is NaN or infinite"),
             Self::POSITION => write!(f, "the position on axis {place} is outside the table"),
-            Self::SLOPE_AXIS => write!(f, "the axis of the slope is not used"),
+            Self::SLOPE_AXIS => write!(f, "the axis of the slope or curvature is not used"),
             Self::NO_CORNER_RECORDS => {
                 write!(f, "no permitted corner records have these coefficients")
             }
@@ -110,6 +112,7 @@ impl fmt::Display for Refusal {
                 f,
                 "the ramp has over 256 positions, or not three numbers for each"
             ),
+            Self::CURVATURE_DEGREE => write!(f, "a table of degree 3 has no curvature"),
             _ => write!(f, "unknown reason"),
         }
     }

@@ -1,4 +1,4 @@
-//! Doses and slopes by position and by cell.
+//! Doses, slopes and curvatures by position and by cell.
 
 use crate::answer::answer;
 use crate::{ffi, Refusal, Shape};
@@ -100,6 +100,66 @@ pub fn slope_in_cell(
     // SAFETY: the slice is lent for the call, with its length.
     let result = unsafe {
         ffi::lukhtari_slope_in_cell(shape, records.as_ptr(), records.len(), cell, u, axis)
+    };
+    answer(result.number, result.place, result.value)
+}
+
+/// Curvature along an axis at a table position, in units per cell squared: the second derivative of
+/// a quintic table.
+///
+/// Refusals in order: 1, 2, 3, 4, 12, 21, 11, 5.
+///
+/// ```
+/// use lukhtari::{curvature, estimate, Refusal, Shape};
+/// let shape = Shape { axes: 1, degree: 5, counts: [3, 1, 1] };
+/// let mut records = [0; 9];
+/// estimate(shape, &[0, 100, 400], &mut records)?;
+/// assert_eq!(curvature(shape, &records, [256, 0, 0], 0)?, 200);
+///
+/// let cubic = Shape { degree: 3, ..shape };
+/// let refusal = curvature(cubic, &records[..6], [256, 0, 0], 0).unwrap_err();
+/// assert_eq!(refusal, Refusal { number: 21, place: 0 });
+/// # Ok::<(), Refusal>(())
+/// ```
+#[inline]
+pub fn curvature(
+    shape: Shape,
+    records: &[i32],
+    position: [i32; 3],
+    axis: u32,
+) -> Result<i32, Refusal> {
+    let position = ffi::Position { at: position };
+    // SAFETY: the slice is lent for the call, with its length.
+    let result =
+        unsafe { ffi::lukhtari_curvature(shape, records.as_ptr(), records.len(), position, axis) };
+    answer(result.number, result.place, result.value)
+}
+
+/// Curvature along an axis at the steps `u` within a cell, in units per cell squared.
+///
+/// Refusals in order: 1, 2, 3, 4, 12, 21, 14, 11, 5.
+///
+/// ```
+/// use lukhtari::{curvature_in_cell, estimate, Refusal, Shape};
+/// let shape = Shape { axes: 1, degree: 5, counts: [3, 1, 1] };
+/// let mut records = [0; 9];
+/// estimate(shape, &[0, 100, 400], &mut records)?;
+/// assert_eq!(curvature_in_cell(shape, &records, [0, 0, 0], [256, 0, 0], 0)?, 200);
+/// assert_eq!(curvature_in_cell(shape, &records, [1, 0, 0], [0, 0, 0], 0)?, 200);
+/// # Ok::<(), Refusal>(())
+/// ```
+#[inline]
+pub fn curvature_in_cell(
+    shape: Shape,
+    records: &[i32],
+    cell: [u32; 3],
+    u: [u32; 3],
+    axis: u32,
+) -> Result<i32, Refusal> {
+    let (cell, u) = (ffi::Index { at: cell }, ffi::Index { at: u });
+    // SAFETY: the slice is lent for the call, with its length.
+    let result = unsafe {
+        ffi::lukhtari_curvature_in_cell(shape, records.as_ptr(), records.len(), cell, u, axis)
     };
     answer(result.number, result.place, result.value)
 }

@@ -6,11 +6,13 @@
 
 mod common;
 mod model;
+mod queries;
 
 use common::*;
-use lukhtari::{dose_in_cell, estimate, slope_in_cell, Shape};
+use lukhtari::{estimate, Shape};
+use model::query::Where;
 use model::stages::{exact, Point};
-use model::Rational;
+use model::{Rational, Want};
 use std::env;
 use std::io::{stdout, Write};
 
@@ -31,16 +33,17 @@ struct Trial {
 
 impl Trial {
     // A random table of small samples, which have the widest choice of fractions.
-    fn new(random: &mut Random, axes: u32, degree: u32, slope: bool) -> Trial {
+    fn new(random: &mut Random, axes: u32, degree: u32, order: u32) -> Trial {
         let shape = random.shape(axes, degree, 4);
         let size = random.pick(&[1, 2, 8, 100, 1000]);
         let samples = (0..shape.nodes()).map(|_| random.range(-size, size) as i32);
         let samples = samples.collect();
         let mut u = [0; 3];
         u[..axes as usize].fill_with(|| random.below(257) as u32);
-        let slope = slope.then(|| random.below(axes as u64) as usize);
+        let axis = random.below(axes as u64) as u32;
+        let want = [Want::Dose, Want::Slope(axis), Want::Curvature(axis)][order as usize];
         let cell = random.pick(&cells(shape));
-        let point = Point { cell, u, slope };
+        let point = Point { cell, u, want };
         Trial {
             shape,
             samples,
@@ -73,12 +76,9 @@ impl Trial {
     }
 
     fn answer(&self, records: &[i32]) -> i32 {
-        let Point { cell, u, slope } = self.point;
-        match slope {
-            None => dose_in_cell(self.shape, records, cell, u),
-            Some(axis) => slope_in_cell(self.shape, records, cell, u, axis as u32),
-        }
-        .expect("accepted query")
+        let Point { cell, u, want } = self.point;
+        let answer = queries::answer(self.shape, records, Where::Cell(cell, u), want);
+        answer.expect("accepted query")
     }
 
     // The distance in f64.
@@ -98,27 +98,27 @@ impl Trial {
     }
 }
 
+// The derivative of (1-t)^i t^j of an order.
+fn weight(i: i32, j: i32, t: f64, order: u32) -> f64 {
+    if order == 0 {
+        return (1.0 - t).powi(i) * t.powi(j);
+    }
+    let rising = match j {
+        0 => 0.0,
+        _ => j as f64 * weight(i, j - 1, t, order - 1),
+    };
+    let falling = match i {
+        0 => 0.0,
+        _ => i as f64 * weight(i - 1, j, t, order - 1),
+    };
+    rising - falling
+}
+
 // Weights of the low end's orders and the high end's at t, or their derivatives.
-fn basis(degree: u32, t: f64, slope: bool) -> Vec<f64> {
-    let (d, r) = (degree as i32, 1.0 - t);
+fn basis(degree: u32, t: f64, order: u32) -> Vec<f64> {
     let mut weights = [0.0; 6];
-    for i in 0..=d {
-        weights[i as usize] = if slope {
-            let rising = if i == 0 {
-                0.0
-            } else {
-                i as f64 * r.powi(d - i) * t.powi(i - 1)
-            };
-            let left = (d - i) as f64;
-            let falling = if i == d {
-                0.0
-            } else {
-                left * r.powi(d - i - 1) * t.powi(i)
-            };
-            rising - falling
-        } else {
-            r.powi(d - i) * t.powi(i)
-        };
+    for i in 0..=degree {
+        weights[i as usize] = weight((degree - i) as i32, i as i32, t, order);
     }
     let w = weights.map(|weight| weight / 2.0);
     match degree {
@@ -145,7 +145,8 @@ fn interpolant(shape: Shape, records: &[i32], point: &Point) -> f64 {
     let mut along = [vec![1.0], vec![1.0], vec![1.0]];
     for (axis, weights) in along.iter_mut().enumerate().take(shape.axes as usize) {
         let t = point.u[axis] as f64 / 256.0;
-        *weights = basis(shape.degree, t, point.slope == Some(axis));
+        let along = point.want.axis() == Some(axis as u32);
+        *weights = basis(shape.degree, t, if along { point.want.order() } else { 0 });
     }
     let plain = plain_shape(shape);
     let mut sum = 0.0;
@@ -163,12 +164,12 @@ fn interpolant(shape: Shape, records: &[i32], point: &Point) -> f64 {
 }
 
 // Climbs from random starts and returns the trial with the largest guess.
-fn search(random: &mut Random, axes: u32, degree: u32, slope: bool, trials: u64) -> Trial {
-    let mut best = Trial::new(random, axes, degree, slope);
+fn search(random: &mut Random, axes: u32, degree: u32, order: u32, trials: u64) -> Trial {
+    let mut best = Trial::new(random, axes, degree, order);
     let mut best_guess = best.guess();
     let climb = 400;
     for _ in 0..trials / climb {
-        let mut here = Trial::new(random, axes, degree, slope);
+        let mut here = Trial::new(random, axes, degree, order);
         // About every second climb goes on from the best so far.
         if random.chance(2) {
             here = best.clone();
@@ -188,12 +189,12 @@ fn search(random: &mut Random, axes: u32, degree: u32, slope: bool, trials: u64)
     best
 }
 
-fn run(axes: u32, degree: u32, slope: bool) {
+fn run(axes: u32, degree: u32, order: u32) {
     let trials = setting("LUKHTARI_SEARCH", 200_000);
     let mut random = Random::new(setting("LUKHTARI_SEED", 1));
-    let best = search(&mut random, axes, degree, slope, trials);
-    let (distance, bound) = (best.distance(), distance_bound(axes, slope));
-    let kind = if slope { "slope" } else { "dose" };
+    let best = search(&mut random, axes, degree, order, trials);
+    let (distance, bound) = (best.distance(), distance_bound(axes, order));
+    let kind = ["dose", "slope", "curvature"][order as usize];
     let (found, most) = (distance.to_f64(), bound.to_f64());
     // Written past the test harness, so that the figures always show.
     let line = format!(
@@ -213,36 +214,51 @@ fn run(axes: u32, degree: u32, slope: bool) {
 
 #[test]
 fn doses_on_1_axis() {
-    run(1, 3, false);
-    run(1, 5, false);
+    run(1, 3, 0);
+    run(1, 5, 0);
 }
 
 #[test]
 fn doses_on_2_axes() {
-    run(2, 3, false);
-    run(2, 5, false);
+    run(2, 3, 0);
+    run(2, 5, 0);
 }
 
 #[test]
 fn doses_on_3_axes() {
-    run(3, 3, false);
-    run(3, 5, false);
+    run(3, 3, 0);
+    run(3, 5, 0);
 }
 
 #[test]
 fn slopes_on_1_axis() {
-    run(1, 3, true);
-    run(1, 5, true);
+    run(1, 3, 1);
+    run(1, 5, 1);
 }
 
 #[test]
 fn slopes_on_2_axes() {
-    run(2, 3, true);
-    run(2, 5, true);
+    run(2, 3, 1);
+    run(2, 5, 1);
 }
 
 #[test]
 fn slopes_on_3_axes() {
-    run(3, 3, true);
-    run(3, 5, true);
+    run(3, 3, 1);
+    run(3, 5, 1);
+}
+
+#[test]
+fn curvatures_on_1_axis() {
+    run(1, 5, 2);
+}
+
+#[test]
+fn curvatures_on_2_axes() {
+    run(2, 5, 2);
+}
+
+#[test]
+fn curvatures_on_3_axes() {
+    run(3, 5, 2);
 }

@@ -4,11 +4,13 @@
 mod common;
 mod estimated;
 mod model;
+mod queries;
 
 use common::*;
 use estimated::*;
 use lukhtari::*;
 use model::query::Where;
+use model::Want::{Curvature, Dose};
 
 #[test]
 fn all_cells_that_contain_a_point_agree() {
@@ -22,11 +24,13 @@ fn all_cells_that_contain_a_point_agree() {
                 let point = shared_point(&mut random, shape);
                 let steps = Where::Position(point.map(|step| step as i32));
                 let floats = Where::Float(point.map(|step| step as f32 / 256.0));
-                for along in kinds(axes) {
-                    let answer = table.ask(steps, along).expect("accepted query");
-                    assert_eq!(table.ask(floats, along), Ok(answer));
+                for want in wants(shape) {
+                    let answer = table.ask(steps, want).expect("accepted query");
+                    if want.order() < 2 {
+                        assert_eq!(table.ask(floats, want), Ok(answer));
+                    }
                     for (cell, u) in cells_at(shape, point) {
-                        let here = table.ask(Where::Cell(cell, u), along);
+                        let here = table.ask(Where::Cell(cell, u), want);
                         assert_eq!(here, Ok(answer), "{shape:?} {point:?} {cell:?}");
                     }
                 }
@@ -47,16 +51,16 @@ fn in_block(shape: Shape, cell: [u32; 3], node: usize) -> bool {
 
 // Both tables answer, and alike, at some random steps of a cell.
 fn assert_alike(random: &mut Random, tables: &[Estimated; 2], cell: [u32; 3], times: usize) {
-    let axes = tables[0].shape.axes;
+    let shape = tables[0].shape;
     for _ in 0..times {
         let mut u = [0; 3];
-        u[..axes as usize].fill_with(|| random.below(257) as u32);
-        for along in kinds(axes) {
+        u[..shape.axes as usize].fill_with(|| random.below(257) as u32);
+        for want in wants(shape) {
             let [one, two] = tables
                 .each_ref()
-                .map(|table| table.ask(Where::Cell(cell, u), along));
+                .map(|table| table.ask(Where::Cell(cell, u), want));
             assert!(one.is_ok());
-            assert_eq!(one, two, "{:?} {cell:?} {u:?}", tables[0].shape);
+            assert_eq!(one, two, "{shape:?} {cell:?} {u:?} {want:?}");
         }
     }
 }
@@ -126,13 +130,13 @@ fn a_table_that_grows_keeps_its_answers() {
 fn a_node_after_the_last_cell_counts() {
     let small = Estimated::new(shape(1, 3, [2, 1, 1]), &[0, 100]);
     let large = Estimated::new(shape(1, 3, [3, 1, 1]), &[0, 100, 0]);
-    let doses = [small, large].map(|t| t.ask(Where::Cell([0; 3], [192, 0, 0]), None));
+    let doses = [small, large].map(|t| t.ask(Where::Cell([0; 3], [192, 0, 0]), Dose));
     assert_eq!(doses, [Ok(75), Ok(89)]);
 }
 
 #[test]
 fn every_sample_of_the_block_counts() {
-    // A change anywhere in the block shows in some dose or slope of a quintic cell.
+    // A change anywhere in the block shows in some dose and some curvature of a quintic cell.
     let shape = cube(2, 5, 6);
     let samples = vec![0; shape.nodes()];
     let cell = [2, 2, 0];
@@ -140,11 +144,13 @@ fn every_sample_of_the_block_counts() {
         let mut other = samples.clone();
         other[node] = 8192;
         let table = Estimated::new(shape, &other);
-        let shows = (0..=256).step_by(16).any(|x| {
-            let ask = |y| table.ask(Where::Cell(cell, [x, y, 0]), None);
-            (0..=256).step_by(16).any(|y| ask(y) != Ok(0))
-        });
-        assert!(shows, "node {node}");
+        for want in [Dose, Curvature(0), Curvature(1)] {
+            let shows = (0..=256).step_by(16).any(|x| {
+                let ask = |y| table.ask(Where::Cell(cell, [x, y, 0]), want);
+                (0..=256).step_by(16).any(|y| ask(y) != Ok(0))
+            });
+            assert!(shows, "node {node}, {want:?}");
+        }
     }
 }
 
@@ -155,19 +161,21 @@ fn every_step_has_an_answer() {
         let shape = shape(1, degree, [64, 1, 1]);
         let table = Estimated::new(shape, &random.estimable(shape));
         for p in 0..=16128 {
-            for along in kinds(1) {
-                assert!(table.ask(Where::Position([p, 0, 0]), along).is_ok());
+            for want in wants(shape) {
+                assert!(table.ask(Where::Position([p, 0, 0]), want).is_ok());
+            }
+            for want in dose_and_slopes(1) {
                 let float = [p as f32 / 256.0, 0.0, 0.0];
-                assert!(table.ask(Where::Float(float), along).is_ok());
+                assert!(table.ask(Where::Float(float), want).is_ok());
             }
         }
         let shape = cube(2, degree, 2);
         let table = Estimated::new(shape, &random.estimable(shape));
         for x in 0..=256 {
             for y in 0..=256 {
-                for along in kinds(2) {
+                for want in wants(shape) {
                     let at = Where::Cell([0; 3], [x, y, 0]);
-                    assert!(table.ask(at, along).is_ok());
+                    assert!(table.ask(at, want).is_ok());
                 }
             }
         }
@@ -187,8 +195,8 @@ fn every_coarse_step_of_a_cube_has_an_answer() {
         for &x in &steps {
             for &y in &steps {
                 for z in [0, 1, 100, 255, 256, 257, 511, 512] {
-                    for along in kinds(3) {
-                        assert!(table.ask(Where::Position([x, y, z]), along).is_ok());
+                    for want in wants(shape) {
+                        assert!(table.ask(Where::Position([x, y, z]), want).is_ok());
                     }
                 }
             }

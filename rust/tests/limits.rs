@@ -121,5 +121,12 @@ fn coefficients_and_answers() {
         assert!(all.iter().all(|number| number.abs() <= COEFFICIENT_LIMIT));
         let middle = [0, 1, 2].map(|axis| if axis < axes { 128 } else { 0 });
         assert!(dose(shape, &records, middle).expect("an answer").abs() < ANSWER_LIMIT);
+        let curvature = |axis| curvature(shape, &records, middle, axis);
+        for axis in 0..axes {
+            match degree {
+                3 => assert_eq!(number(curvature(axis)), Refusal::CURVATURE_DEGREE),
+                _ => assert!(curvature(axis).expect("an answer").abs() < ANSWER_LIMIT),
+            }
+        }
     }
 }

@@ -1,5 +1,6 @@
 //! The reference model on all worked examples and traps of document 01, as request U2 of document
-//! 02 works them out anew, on the texts of request U1 and on ramps of request U5.
+//! 02 works them out anew, on the texts of request U1, on ramps of request U5 and on curvatures of
+//! request U6.
 
 mod model;
 
@@ -11,8 +12,10 @@ use model::int::Int;
 use model::program::output;
 use model::query::{locate, query, query_float, Where};
 use model::ramp::ramp;
-use model::stages::{axis_weights, exact, stages, stages_in_order, Point};
+use model::stages::{axis_weights, curvature_weights, exact, slope_weights};
+use model::stages::{stages, stages_in_order, Point};
 use model::text::import;
+use model::Want::{self, Curvature, Dose, Slope};
 use model::{Answer, Rational, Refusal, Shape};
 
 fn line(degree: u32) -> Shape {
@@ -34,7 +37,7 @@ fn dose(degree: u32, samples: [i32; 2], p: i32) -> Answer<i32> {
         &shape,
         &records(&shape, &samples),
         Where::Position([p, 0, 0]),
-        None,
+        Dose,
     )
 }
 
@@ -42,14 +45,14 @@ fn dose(degree: u32, samples: [i32; 2], p: i32) -> Answer<i32> {
 fn slope(degree: u32, p: i32) -> Answer<i32> {
     let shape = line(degree);
     let records = records(&shape, &[0, 100]);
-    query(&shape, &records, Where::Position([p, 0, 0]), Some(0))
+    query(&shape, &records, Where::Position([p, 0, 0]), Slope(0))
 }
 
 fn point(u: u32) -> Point {
     Point {
         cell: [0; 3],
         u: [u, 0, 0],
-        slope: None,
+        want: Dose,
     }
 }
 
@@ -112,7 +115,7 @@ fn two_axes() {
     let records = records(&shape, &[0, 100, 0, 100]);
     let after = stages(&shape, &records, &point(64));
     assert_eq!(after[0].at([0, 0, 0]), Rational::ratio(200, 8));
-    let dose = query(&shape, &records, Where::Position([64, 0, 0]), None);
+    let dose = query(&shape, &records, Where::Position([64, 0, 0]), Dose);
     assert_eq!(dose, Ok(25));
 }
 
@@ -152,7 +155,7 @@ fn float_steps() {
 fn float_query() {
     let shape = line(3);
     let records = records(&shape, &[0, 100]);
-    let ask = |x, y| query_float(&shape, &records, [x, y, 0.0], None);
+    let ask = |x, y| query_float(&shape, &records, [x, y, 0.0], Dose);
     assert_eq!(ask(0.25, 0.0), Ok(25.0));
     assert_eq!(ask(1.0, 0.0), Ok(100.0));
     assert_eq!(ask(1.01, f32::NAN), refused(11, 0));
@@ -262,17 +265,14 @@ fn largest_sum(
     (results.max().expect("numbers") * scale).floor()
 }
 
-#[test]
-fn trap_slope_axis_first() {
+// The axis of a slope or curvature, x here, worked off first leaves 64 bits in the second stage.
+fn check_axis_first(u: [u32; 3], want: Want) {
     let shape = Shape::new(3, 5, [2; 3]);
-    let point = Point {
-        cell: [0; 3],
-        u: [128; 3],
-        slope: Some(0),
-    };
+    let cell = [0; 3];
+    let point = Point { cell, u, want };
     // Entries of order 2 along z are four times as large, so they lead the second stage.
     let mut records = extreme_records(&shape, &point);
-    for node in model::block::corner_nodes(&shape, [0; 3]) {
+    for node in model::block::corner_nodes(&shape, cell) {
         for orders in shape.record_orders() {
             let value = records[shape.entry_index(node, [orders[0], orders[1], 0])];
             let limit = model::shape::entry_limit(orders) as i32;
@@ -284,6 +284,16 @@ fn trap_slope_axis_first() {
     for stage in 0..3 {
         assert!(largest_sum(&shape, &records, &point, &[1, 2, 0], stage) < range);
     }
+}
+
+#[test]
+fn trap_slope_axis_first() {
+    check_axis_first([128; 3], Slope(0));
+}
+
+#[test]
+fn trap_curvature_axis_first() {
+    check_axis_first([57, 128, 128], Curvature(0));
 }
 
 #[test]
@@ -352,4 +362,58 @@ fn ramps() {
     assert_eq!(ramp(&shape, &[], &[0; 4], 0), refused(20, 0));
     assert_eq!(ramp(&shape, &[], &[], 0), refused(4, 0));
     assert_eq!(ramp(&shape, &records, &[-1, 0, 0], 0), refused(9, 0));
+}
+
+#[test]
+fn curvatures() {
+    let shape = Shape::new(1, 5, [3, 1, 1]);
+    let records = records(&shape, &[0, 100, 400]);
+    let asked = |p, axis| {
+        query(
+            &shape,
+            &records,
+            Where::Position([p, 0, 0]),
+            Curvature(axis),
+        )
+    };
+    // The borders continue the line; the node between has l - 2 f + r.
+    assert_eq!(asked(0, 0), Ok(0));
+    assert_eq!(asked(256, 0), Ok(200));
+    assert_eq!(asked(512, 0), Ok(0));
+    assert_eq!(asked(513, 0), refused(11, 0));
+    assert_eq!(asked(513, 1), refused(12, 0));
+    let cubic = Shape::new(1, 3, [3, 1, 1]);
+    let asked = |records: &[i32], p, axis| {
+        query(&cubic, records, Where::Position([p, 0, 0]), Curvature(axis))
+    };
+    assert_eq!(asked(&[0; 6], 0, 0), refused(21, 0));
+    assert_eq!(asked(&[0; 6], -1, 0), refused(21, 0));
+    assert_eq!(asked(&[0; 6], -1, 1), refused(12, 0));
+    assert_eq!(asked(&[0; 5], -1, 1), refused(4, 0));
+}
+
+// The same sum of products with the weights of each order.
+fn derived(weights: Vec<Int>, numbers: &[i64; 6]) -> Int {
+    let products = weights.into_iter().zip(numbers);
+    let product = |(weight, &number): (Int, &i64)| weight * Int::from(number);
+    products.map(product).fold(Int::ZERO, |sum, x| sum + x)
+}
+
+#[test]
+fn weights_are_derivatives_of_each_other() {
+    // Central differences of five values are exact: 1, -8, 0, 8, -1 over 12 for degree 4 and below.
+    for numbers in [
+        [1, 0, 0, 0, 0, 0],
+        [0, 1, 0, 0, 0, 0],
+        [0, 0, 1, 0, 0, 0],
+        [3, -5, 8, 13, -21, 34],
+    ] {
+        for u in 2..=254 {
+            let slope = |u| derived(slope_weights(5, u), &numbers);
+            let eight = Int::from(8);
+            let steps = slope(u - 2) - eight * slope(u - 1) + eight * slope(u + 1) - slope(u + 2);
+            let curvature = derived(curvature_weights(5, u), &numbers);
+            assert_eq!(steps, Int::from(12) * curvature, "{numbers:?} {u}");
+        }
+    }
 }

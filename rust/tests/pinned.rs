@@ -12,18 +12,20 @@ use files::{words, EXAMPLE};
 use lukhtari::{dose_float, read};
 use model::query::Where::{Cell, Position};
 use model::Rational;
+use model::Want::{self, Curvature, Dose, Slope};
 use printed::*;
 
 #[test]
 fn axes_then_degree_then_counts_then_lengths() {
-    for (axes, degree, counts, slope, number, place) in [
-        (4, 7, [0, 0, 0], None, 1, 0),
-        (2, 7, [2, 65, 1], None, 2, 0),
-        (2, 3, [64, 65, 1], None, 3, 1),
-        (2, 5, [64, 64, 1], Some(2), 4, 0),
+    for (axes, degree, counts, want, number, place) in [
+        (4, 7, [0, 0, 0], Dose, 1, 0),
+        (2, 7, [2, 65, 1], Dose, 2, 0),
+        (2, 3, [64, 65, 1], Dose, 3, 1),
+        (2, 5, [64, 64, 1], Slope(2), 4, 0),
+        (2, 3, [64, 64, 1], Curvature(2), 4, 0),
     ] {
         let shape = shape(axes, degree, counts);
-        check(shape, &[], START, slope, refused(number, place));
+        check(shape, &[], START, want, refused(number, place));
         let said = with_nothing_lent(shape);
         assert_eq!(said[..4], [refused(number, place); 4], "{shape:?}");
     }
@@ -50,7 +52,7 @@ fn nodes_on_an_axis_are_64_at_most() {
             let records = estimated(shape, &samples, shape.entries()).expect("64 nodes");
             let mut last = [0; 3];
             last[axis] = 16128;
-            check(shape, &records, Position(last), None, Ok(7));
+            check(shape, &records, Position(last), Dose, Ok(7));
             shape.counts[axis] = 65;
             let place = axis as u64;
             assert_eq!(with_nothing_lent(shape), [refused(3, place); 5]);
@@ -134,29 +136,63 @@ fn borders_continue_the_line() {
 }
 
 #[test]
-fn slope_axis_then_cell_then_step_then_entry() {
+fn axis_then_degree_then_cell_then_step_then_entry() {
     let records = only(16, &[(0, 32769)]);
-    for (cell, u, slope, number, place) in [
-        ([1, 0, 0], [0, 0, 0], Some(2), 12, 0),
-        ([0, 1, 0], [257, 0, 0], None, 14, 1),
-        ([0, 0, 0], [256, 257, 0], None, 11, 1),
-        ([0, 0, 0], [256, 256, 0], None, 5, 0),
+    for (cell, u, want, number, place) in [
+        ([1, 0, 0], [0, 0, 0], Slope(2), 12, 0),
+        ([1, 0, 0], [0, 0, 0], Curvature(2), 12, 0),
+        ([1, 0, 0], [0, 0, 0], Curvature(1), 21, 0),
+        ([0, 0, 0], [257, 0, 0], Curvature(1), 21, 0),
+        ([0, 0, 0], [0, 0, 0], Curvature(1), 21, 0),
+        ([0, 1, 0], [257, 0, 0], Dose, 14, 1),
+        ([0, 0, 0], [256, 257, 0], Dose, 11, 1),
+        ([0, 0, 0], [256, 256, 0], Dose, 5, 0),
     ] {
         let printed = refused(number, place);
-        check(cube(2, 3, 2), &records, Cell(cell, u), slope, printed);
+        check(cube(2, 3, 2), &records, Cell(cell, u), want, printed);
     }
 }
 
 #[test]
-fn a_slope_axis_not_used_is_12() {
+fn an_axis_not_used_is_12() {
     for (axes, degree) in KINDS {
         let shape = cube(axes, degree, 2);
         let records = vec![0; shape.entries()];
         for at in [START, Cell(ORIGIN, ORIGIN)] {
             for axis in [axes, 3, u32::MAX] {
-                check(shape, &records, at, Some(axis), refused(12, 0));
+                check(shape, &records, at, Slope(axis), refused(12, 0));
+                check(shape, &records, at, Curvature(axis), refused(12, 0));
             }
         }
+    }
+}
+
+#[test]
+fn a_curvature_in_degree_3_is_21() {
+    for axes in 1..=3 {
+        let shape = cube(axes, 3, 2);
+        let records = vec![0; shape.entries()];
+        for axis in 0..axes {
+            for at in [START, Cell(ORIGIN, ORIGIN), Position([-1, 0, 0])] {
+                check(shape, &records, at, Curvature(axis), refused(21, 0));
+            }
+        }
+    }
+}
+
+#[test]
+fn curvatures_at_both_nodes_and_between() {
+    // Their own S at the nodes; no two entries alike.
+    let line = cube(1, 5, 2);
+    for (p, curvature) in [(0, 16), (64, 540), (256, 10)] {
+        let records = [3, 5, 16, 100, -8, 10];
+        check(
+            line,
+            &records,
+            Position([p, 0, 0]),
+            Curvature(0),
+            Ok(curvature),
+        );
     }
 }
 
@@ -217,7 +253,7 @@ fn limits_of_entries_and_place_of_5() {
                 (-1, 1, beyond),
             ] {
                 let records = only(shape.entries(), &[(index, sign * (limit + more))]);
-                check(shape, &records, START, None, printed);
+                check(shape, &records, START, Dose, printed);
                 let numbers = forward(shape, &records, ORIGIN, 216);
                 assert_eq!(outcome(&numbers), outcome(&printed));
             }
@@ -241,7 +277,7 @@ fn place_of_5_in_corner_order() {
             let beyond = nodes[corner..].iter().map(|node| (size * node, 32769));
             let records = only(shape.entries(), &beyond.collect::<Vec<_>>());
             let place = (size * node) as u64;
-            check(shape, &records, Cell(cell, ORIGIN), None, refused(5, place));
+            check(shape, &records, Cell(cell, ORIGIN), Dose, refused(5, place));
             assert_eq!(forward(shape, &records, cell, 216), refused(5, place));
         }
     }
@@ -253,7 +289,7 @@ fn shared_nodes_are_read_in_the_upper_cell() {
     let records = [32769, 0, 7, 0, 9, 0];
     assert_eq!(dose_float(line, &records, [1.0, 0.0, 0.0]), Ok(7.0));
     for (p, printed) in [(255, refused(5, 0)), (256, Ok(7)), (512, Ok(9))] {
-        check(line, &records, Position([p, 0, 0]), None, printed);
+        check(line, &records, Position([p, 0, 0]), Dose, printed);
     }
     for (axes, degree) in KINDS {
         for axis in 0..axes as usize {
@@ -266,7 +302,7 @@ fn shared_nodes_are_read_in_the_upper_cell() {
             let upper = refused(5, 2 * next as u64);
             for (beyond, printed) in [(0, Ok(7)), (2 * next, upper)] {
                 let records = only(shape.entries(), &[(next, 7), (beyond, 32769)]);
-                check(shape, &records, Position(at), None, printed);
+                check(shape, &records, Position(at), Dose, printed);
             }
         }
     }
@@ -275,32 +311,38 @@ fn shared_nodes_are_read_in_the_upper_cell() {
 #[test]
 fn nodes_and_entries_with_x_fastest() {
     // Node (0, 1, 2) of a block and (1, 2) of a plane: its value, twice its slope along each axis,
-    // and its second derivative, of which the dose half a cell on has a sixty-fourth.
+    // and its second derivative, which is the curvature there and of which the dose half a cell on
+    // has a sixty-fourth.
     let (block, plane) = ((3, [2, 3, 4]), (2, [3, 4, 1]));
-    for ((axes, counts), degree, index, entry, slope, at, answer) in [
-        (block, 3, 112, 5, None, [0, 256, 512], 5),
-        (block, 3, 113, 20, Some(0), [0, 256, 512], 10),
-        (block, 3, 114, 20, Some(1), [0, 256, 512], 10),
-        (block, 3, 116, 20, Some(2), [0, 256, 512], 10),
-        (block, 5, 378, 5, None, [0, 256, 512], 5),
-        (block, 5, 379, 20, Some(0), [0, 256, 512], 10),
-        (block, 5, 381, 20, Some(1), [0, 256, 512], 10),
-        (block, 5, 387, 20, Some(2), [0, 256, 512], 10),
-        (block, 5, 380, 640, None, [128, 256, 512], 10),
-        (block, 5, 384, 640, None, [0, 384, 512], 10),
-        (block, 5, 396, 640, None, [0, 256, 640], 10),
-        (plane, 3, 28, 5, None, [256, 512, 0], 5),
-        (plane, 3, 29, 20, Some(0), [256, 512, 0], 10),
-        (plane, 3, 30, 20, Some(1), [256, 512, 0], 10),
-        (plane, 5, 63, 5, None, [256, 512, 0], 5),
-        (plane, 5, 64, 20, Some(0), [256, 512, 0], 10),
-        (plane, 5, 66, 20, Some(1), [256, 512, 0], 10),
-        (plane, 5, 65, 640, None, [384, 512, 0], 10),
-        (plane, 5, 69, 640, None, [256, 640, 0], 10),
+    for ((axes, counts), degree, index, entry, want, at, answer) in [
+        (block, 3, 112, 5, Dose, [0, 256, 512], 5),
+        (block, 3, 113, 20, Slope(0), [0, 256, 512], 10),
+        (block, 3, 114, 20, Slope(1), [0, 256, 512], 10),
+        (block, 3, 116, 20, Slope(2), [0, 256, 512], 10),
+        (block, 5, 378, 5, Dose, [0, 256, 512], 5),
+        (block, 5, 379, 20, Slope(0), [0, 256, 512], 10),
+        (block, 5, 381, 20, Slope(1), [0, 256, 512], 10),
+        (block, 5, 387, 20, Slope(2), [0, 256, 512], 10),
+        (block, 5, 380, 640, Dose, [128, 256, 512], 10),
+        (block, 5, 384, 640, Dose, [0, 384, 512], 10),
+        (block, 5, 396, 640, Dose, [0, 256, 640], 10),
+        (block, 5, 380, 10, Curvature(0), [0, 256, 512], 10),
+        (block, 5, 384, 10, Curvature(1), [0, 256, 512], 10),
+        (block, 5, 396, 10, Curvature(2), [0, 256, 512], 10),
+        (plane, 3, 28, 5, Dose, [256, 512, 0], 5),
+        (plane, 3, 29, 20, Slope(0), [256, 512, 0], 10),
+        (plane, 3, 30, 20, Slope(1), [256, 512, 0], 10),
+        (plane, 5, 63, 5, Dose, [256, 512, 0], 5),
+        (plane, 5, 64, 20, Slope(0), [256, 512, 0], 10),
+        (plane, 5, 66, 20, Slope(1), [256, 512, 0], 10),
+        (plane, 5, 65, 10, Curvature(0), [256, 512, 0], 10),
+        (plane, 5, 69, 10, Curvature(1), [256, 512, 0], 10),
+        (plane, 5, 65, 640, Dose, [384, 512, 0], 10),
+        (plane, 5, 69, 640, Dose, [256, 640, 0], 10),
     ] {
         let shape = shape(axes, degree, counts);
         let records = only(shape.entries(), &[(index, entry)]);
-        check(shape, &records, Position(at), slope, Ok(answer));
+        check(shape, &records, Position(at), want, Ok(answer));
     }
 }
 
@@ -377,17 +419,17 @@ fn corners_with_x_fastest() {
 
 // The answer in a cell of two or three axes whose corners have these values and no slopes.
 #[track_caller]
-fn check_stages(degree: u32, slope: Option<u32>, at: [i32; 3], values: &[i32], answer: i32) {
+fn check_stages(degree: u32, want: Want, at: [i32; 3], values: &[i32], answer: i32) {
     let shape = cube(values.len().ilog2(), degree, 2);
     let size = shape.entries() / shape.nodes();
     let values = values.iter().enumerate();
     let values: Vec<_> = values.map(|(node, &value)| (size * node, value)).collect();
     let records = only(shape.entries(), &values);
-    check(shape, &records, Position(at), slope, Ok(answer));
+    check(shape, &records, Position(at), want, Ok(answer));
 }
 
 #[test]
-fn stages_in_the_order_x_y_z_and_a_slope_last() {
+fn stages_in_the_order_x_y_z_and_a_derivative_last() {
     // Every other order gives another answer.
     for (degree, at, values, answer) in [
         (3, [160, 96, 0], &[0, -2, 1, -3][..], -1),
@@ -395,7 +437,7 @@ fn stages_in_the_order_x_y_z_and_a_slope_last() {
         (3, [160, 96, 128], &[0, -2, -1, -1, 3, -1, 0, 0], -1),
         (5, [96, 192, 64], &[3, -3, -1, 1, 0, 1, -3, -3], 0),
     ] {
-        check_stages(degree, None, at, values, answer);
+        check_stages(degree, Dose, at, values, answer);
     }
     for (degree, axis, at, values, answer) in [
         (3, 0, [32, 160, 0], &[0, -1, 1, -2][..], -1),
@@ -409,26 +451,37 @@ fn stages_in_the_order_x_y_z_and_a_slope_last() {
         (5, 1, [64, 96, 192], &[-1, -1, -3, -1, -3, 0, 3, -2], 8),
         (5, 2, [192, 32, 128], &[-2, 2, -3, -3, 3, 1, 3, -3], 0),
     ] {
-        check_stages(degree, Some(axis), at, values, answer);
+        check_stages(degree, Slope(axis), at, values, answer);
+    }
+    for (axis, at, values, answer) in [
+        (0, [224, 96, 0], &[-3, 1, 2, 3][..], -15),
+        (1, [64, 96, 0], &[-1, 1, 1, -1], 5),
+        (0, [160, 96, 32], &[0, -2, -3, -3, 1, 3, 3, 1], 4),
+        (1, [64, 96, 128], &[3, 0, -1, 3, 2, -2, -1, 0], -11),
+        (2, [96, 224, 32], &[-1, -3, 3, 1, -2, -3, 2, 0], -4),
+    ] {
+        check_stages(5, Curvature(axis), at, values, answer);
     }
 }
 
 #[test]
 fn distances_from_the_exact_value() {
     let ratio = Rational::ratio;
-    for (axes, dose, slope) in [
-        (1, ratio(1, 2), ratio(1, 2)),
-        (2, ratio(37, 64), ratio(13, 16)),
-        (3, ratio(173, 256), ratio(77, 64)),
+    for (axes, distances) in [
+        (1, [ratio(1, 2), ratio(1, 2), ratio(1, 2)]),
+        (2, [ratio(37, 64), ratio(13, 16), ratio(3, 2)]),
+        (3, [ratio(173, 256), ratio(77, 64), ratio(11, 4)]),
     ] {
-        assert_eq!(distance_bound(axes, false), dose);
-        assert_eq!(distance_bound(axes, true), slope);
+        assert_eq!(
+            [0, 1, 2].map(|order| distance_bound(axes, order)),
+            distances
+        );
     }
     // One half is attained on one axis.
     let (line, at) = (cube(1, 3, 2), Position([128, 0, 0]));
     let records = estimated(line, &[0, 1], 4).expect("samples");
-    check(line, &records, at, None, Ok(1));
+    check(line, &records, at, Dose, Ok(1));
     let line = plain_shape(line);
-    let point = model::query::checked_point(&line, &records, at, None).expect("a position");
+    let point = model::query::checked_point(&line, &records, at, Dose).expect("a position");
     assert_eq!(model::stages::exact(&line, &records, &point), ratio(1, 2));
 }

@@ -4,13 +4,14 @@
 
 mod common;
 mod model;
+mod queries;
 mod ramps;
 mod texts;
 
 use common::*;
 use lukhtari::*;
 use model::query::{checked_point, last_step, Where};
-use model::Rational;
+use model::{Rational, Want};
 use ramps::{run_ramp, Ramp};
 use std::env;
 use texts::damaged;
@@ -20,6 +21,7 @@ use texts::damaged;
 enum Kind {
     Dose,
     Slope,
+    Curvature,
 }
 
 fn setting(name: &str, default: u64) -> u64 {
@@ -31,8 +33,8 @@ fn setting(name: &str, default: u64) -> u64 {
 
 // Makes this combination's share of the calls.
 fn run(degree: u32, axes: u32, kind: Kind) {
-    let share = setting("LUKHTARI_CALLS", 240_000).div_ceil(12);
-    let combination = (10 * degree + 2 * axes) as u64 + (kind == Kind::Slope) as u64;
+    let share = setting("LUKHTARI_CALLS", 300_000).div_ceil(15);
+    let combination = (10 * degree + 3 * axes) as u64 + kind as u64;
     let mut seed = setting("LUKHTARI_SEED", 1) << 40 | combination << 32;
     let mut made = 0;
     while made < share {
@@ -55,11 +57,16 @@ fn run_table(random: &mut Random, seed: u64, (degree, axes, kind): (u32, u32, Ki
         Ok(records) if from_samples => records,
         _ => random.records(shape),
     };
-    let mut query = Query::new(shape, records, Where::Position([0; 3]), None);
+    let mut query = Query::new(shape, records, Where::Position([0; 3]), Want::Dose);
     let queries = 24;
     for _ in 0..queries {
-        query.at = random_point(random, shape);
-        query.slope = (kind == Kind::Slope).then(|| random.below(axes as u64) as u32);
+        query.at = random_point(random, shape, kind);
+        let axis = random.below(axes as u64) as u32;
+        query.want = match kind {
+            Kind::Dose => Want::Dose,
+            Kind::Slope => Want::Slope(axis),
+            Kind::Curvature => Want::Curvature(axis),
+        };
         if random.chance(8) {
             let _ = ask(&faulty(random, &query), seed);
         } else {
@@ -102,8 +109,8 @@ fn imported(random: &mut Random, seed: u64, shape: Shape) -> Vec<i32> {
     typed
 }
 
-// A point in the table: by position, by cell or by float.
-fn random_point(random: &mut Random, shape: Shape) -> Where {
+// A point in the table: by position, by cell or, unless a curvature is asked for, by float.
+fn random_point(random: &mut Random, shape: Shape, kind: Kind) -> Where {
     let plain = plain_shape(shape);
     let mut step = |axis| {
         let last = last_step(&plain, axis);
@@ -112,7 +119,8 @@ fn random_point(random: &mut Random, shape: Shape) -> Where {
         random.pick(&[node, last, inside, inside])
     };
     let steps = [0, 1, 2].map(&mut step);
-    match random.below(3) {
+    let ways = if kind == Kind::Curvature { 2 } else { 3 };
+    match random.below(ways) {
         0 => Where::Position(steps.map(|step| step as i32)),
         1 => {
             let (mut cell, mut u) = ([0; 3], [0; 3]);
@@ -142,7 +150,7 @@ fn faulty(random: &mut Random, query: &Query) -> Query {
             1 => query.shape.degree = random.below(8) as u32,
             2 => query.shape.counts[axis] = random.below(67) as u32,
             3 => query.records.push(0),
-            4 if query.slope.is_some() => query.slope = Some(random.below(5) as u32),
+            4 => query.want = other_want(random, query.at),
             5 => {
                 let index = random.below(query.records.len() as u64) as usize;
                 query.records[index] = random.next() as i32;
@@ -151,6 +159,15 @@ fn faulty(random: &mut Random, query: &Query) -> Query {
         }
     }
     query
+}
+
+// A slope or, unless it is asked for by float, a curvature, along any axis, used or not.
+fn other_want(random: &mut Random, at: Where) -> Want {
+    let axis = random.below(5) as u32;
+    match at {
+        Where::Float(_) => Want::Slope(axis),
+        _ => random.pick(&[Want::Slope(axis), Want::Curvature(axis)]),
+    }
 }
 
 // Moves the point along an axis, mostly out of the table.
@@ -173,16 +190,13 @@ fn ask(query: &Query, seed: u64) -> model::Answer<i32> {
             float as i32
         })
     };
-    let got = match (query.at, query.slope) {
-        (Where::Position(p), None) => dose(shape, records, p),
-        (Where::Position(p), Some(axis)) => slope(shape, records, p, axis),
-        (Where::Cell(cell, u), None) => dose_in_cell(shape, records, cell, u),
-        (Where::Cell(cell, u), Some(axis)) => slope_in_cell(shape, records, cell, u, axis),
-        (Where::Float(p), None) => whole(dose_float(shape, records, p)),
-        (Where::Float(p), Some(axis)) => whole(slope_float(shape, records, p, axis)),
+    let got = match (query.at, query.want) {
+        (Where::Float(p), Want::Dose) => whole(dose_float(shape, records, p)),
+        (Where::Float(p), Want::Slope(axis)) => whole(slope_float(shape, records, p, axis)),
+        (at, want) => queries::answer(shape, records, at, want),
     };
-    let expected = model::query::query(&plain_shape(shape), records, query.at, query.slope);
-    let context = (shape, query.at, query.slope);
+    let expected = model::query::query(&plain_shape(shape), records, query.at, query.want);
+    let context = (shape, query.at, query.want);
     assert_eq!(plain(got), expected, "seed {seed}: {context:?}");
     expected
 }
@@ -190,10 +204,10 @@ fn ask(query: &Query, seed: u64) -> model::Answer<i32> {
 // The answer is within the promised distance of the exact interpolant.
 fn check_distance(query: &Query, answer: i32, seed: u64) {
     let shape = plain_shape(query.shape);
-    let point = checked_point(&shape, &query.records, query.at, query.slope);
+    let point = checked_point(&shape, &query.records, query.at, query.want);
     let exact = model::stages::exact(&shape, &query.records, &point.expect("accepted query"));
     let distance = (Rational::whole(answer as i64) - exact).abs();
-    let bound = distance_bound(query.shape.axes, query.slope.is_some());
+    let bound = distance_bound(query.shape.axes, query.want.order());
     assert!(distance <= bound, "seed {seed}: {distance:?}");
 }
 
@@ -312,4 +326,19 @@ fn quintic_slope_on_2_axes() {
 #[test]
 fn quintic_slope_on_3_axes() {
     run(5, 3, Kind::Slope);
+}
+
+#[test]
+fn quintic_curvature_on_1_axis() {
+    run(5, 1, Kind::Curvature);
+}
+
+#[test]
+fn quintic_curvature_on_2_axes() {
+    run(5, 2, Kind::Curvature);
+}
+
+#[test]
+fn quintic_curvature_on_3_axes() {
+    run(5, 3, Kind::Curvature);
 }

@@ -7,6 +7,7 @@ use common::*;
 use lukhtari::{dose_float, ffi, slope_float, Shape};
 use model::query::{last_step, query_float, Where};
 use model::Answer;
+use model::Want::{self, Dose, Slope};
 
 // Bit patterns at the edges of the format.
 const SPECIAL: [u32; 30] = [
@@ -42,8 +43,8 @@ const SPECIAL: [u32; 30] = [
     0xFFFF_FFFF,
 ];
 
-fn float_query(shape: Shape, records: Vec<i32>, at: [f32; 3], slope: Option<u32>) -> Query {
-    Query::new(shape, records, Where::Float(at), slope)
+fn float_query(shape: Shape, records: Vec<i32>, at: [f32; 3], want: Want) -> Query {
+    Query::new(shape, records, Where::Float(at), want)
 }
 
 fn position(query: &Query) -> [f32; 3] {
@@ -61,9 +62,10 @@ fn set(query: &mut Query, axis: usize, to: f32) {
 
 fn call(query: &Query) -> Result<f32, lukhtari::Refusal> {
     let (shape, records, at) = (query.shape, &query.records[..], position(query));
-    match query.slope {
-        None => dose_float(shape, records, at),
-        Some(axis) => slope_float(shape, records, at, axis),
+    match query.want {
+        Dose => dose_float(shape, records, at),
+        Slope(axis) => slope_float(shape, records, at, axis),
+        _ => panic!("no call by float"),
     }
 }
 
@@ -74,9 +76,10 @@ fn raw(query: &Query) -> ffi::Real {
     let at = ffi::FloatPosition { x, y, z };
     // SAFETY: pointer and length are those of the records.
     unsafe {
-        match query.slope {
-            None => ffi::lukhtari_dose_float(shape, records, len, at),
-            Some(axis) => ffi::lukhtari_slope_float(shape, records, len, at, axis),
+        match query.want {
+            Dose => ffi::lukhtari_dose_float(shape, records, len, at),
+            Slope(axis) => ffi::lukhtari_slope_float(shape, records, len, at, axis),
+            _ => panic!("no call by float"),
         }
     }
 }
@@ -86,7 +89,7 @@ fn raw(query: &Query) -> ffi::Real {
 fn run(query: &Query) -> Answer<()> {
     let got = plain(call(query)).map(f32::to_bits);
     let shape = plain_shape(query.shape);
-    let expected = query_float(&shape, &query.records, position(query), query.slope);
+    let expected = query_float(&shape, &query.records, position(query), query.want);
     assert_eq!(
         got,
         expected.map(f32::to_bits),
@@ -112,7 +115,7 @@ fn run(query: &Query) -> Answer<()> {
 fn line(degree: u32, count: u32) -> Query {
     let shape = shape(1, degree, [count, 1, 1]);
     let mut random = Random::new(count as u64);
-    float_query(shape, random.records(shape), [0.0; 3], None)
+    float_query(shape, random.records(shape), [0.0; 3], Dose)
 }
 
 // A float and its neighbours.
@@ -125,7 +128,7 @@ fn worked_examples() {
     let shape = shape(1, 3, [2, 1, 1]);
     let ask = |bits: u32| {
         let at = [f32::from_bits(bits), 0.0, 0.0];
-        let query = float_query(shape, vec![0, 200, 100, 200], at, None);
+        let query = float_query(shape, vec![0, 200, 100, 200], at, Dose);
         run(&query).map(|_| call(&query).unwrap())
     };
     assert_eq!(ask(0.25f32.to_bits()), Ok(25.0));
@@ -134,7 +137,7 @@ fn worked_examples() {
     // Steps 1 and 0 of a steep line.
     let steep = |bits: u32| {
         let at = [f32::from_bits(bits), 0.0, 0.0];
-        call(&float_query(shape, vec![0, 32768, 32768, 32768], at, None))
+        call(&float_query(shape, vec![0, 32768, 32768, 32768], at, Dose))
     };
     assert_eq!(steep(0x3B00_0000), Ok(65.0));
     assert_eq!(steep(0x3AFF_FFFF), Ok(0.0));
@@ -147,8 +150,8 @@ fn special_bits_on_each_axis() {
         let records = Random::new(1).records(shape);
         for axis in 0..3 {
             for bits in SPECIAL {
-                for slope in [None, Some(axes - 1)] {
-                    let mut query = float_query(shape, records.clone(), [0.0; 3], slope);
+                for want in [Dose, Slope(axes - 1)] {
+                    let mut query = float_query(shape, records.clone(), [0.0; 3], want);
                     set(&mut query, axis, f32::from_bits(bits));
                     let answer = run(&query);
                     if !f32::from_bits(bits).is_finite() {
@@ -168,7 +171,7 @@ fn special_bits_on_two_axes() {
         for (first, second) in [(0, 1), (0, 2), (1, 2)] {
             for one in SPECIAL {
                 for two in SPECIAL {
-                    let mut query = float_query(shape, records.clone(), [0.0; 3], None);
+                    let mut query = float_query(shape, records.clone(), [0.0; 3], Dose);
                     set(&mut query, first, f32::from_bits(one));
                     set(&mut query, second, f32::from_bits(two));
                     let _ = run(&query);
@@ -212,7 +215,7 @@ fn floats_near_every_step() {
 fn ends_of_the_table() {
     for (axes, degree) in KINDS {
         let shape = cube(axes, degree, 4);
-        let mut query = float_query(shape, Random::new(2).records(shape), [0.0; 3], None);
+        let mut query = float_query(shape, Random::new(2).records(shape), [0.0; 3], Dose);
         for axis in 0..3 {
             let used = axis < axes as usize;
             let last = if used { 3.0f32 } else { 0.0 };
@@ -238,9 +241,9 @@ fn zero_is_plus_zero() {
     for (axes, degree) in KINDS {
         let shape = cube(axes, degree, 2);
         let mut random = Random::new(3);
-        for slope in [None, Some(0)] {
+        for want in [Dose, Slope(0)] {
             for at in [[0.0; 3], [-0.0; 3]] {
-                let query = float_query(shape, vec![0; shape.entries()], at, slope);
+                let query = float_query(shape, vec![0; shape.entries()], at, want);
                 assert_eq!(call(&query).map(f32::to_bits), Ok(0));
             }
             // Small negative exact values that round to 0.
@@ -248,7 +251,7 @@ fn zero_is_plus_zero() {
                 .map(|_| -(random.below(2) as i32))
                 .collect();
             let x = random.below(257) as f32 / 256.0;
-            let _ = run(&float_query(shape, samples, [x, 0.0, 0.0], slope));
+            let _ = run(&float_query(shape, samples, [x, 0.0, 0.0], want));
         }
     }
 }
@@ -261,8 +264,8 @@ fn random_floats() {
             let shape = random.shape(axes, degree, 5);
             let records = random.records(shape);
             let at = [0, 1, 2].map(|axis| random_float(&mut random, shape, axis));
-            let slope = random.pick(&[None, Some(0), Some(axes - 1)]);
-            let _ = run(&float_query(shape, records, at, slope));
+            let want = random.pick(&[Dose, Slope(0), Slope(axes - 1)]);
+            let _ = run(&float_query(shape, records, at, want));
         }
     }
 }
@@ -288,8 +291,8 @@ fn large_answers() {
                 records[index] = random.pick(&[limit, -limit]);
             }
             let at = [0, 1, 2].map(|axis| if axis < axes { 0.5 } else { 0.0 });
-            for slope in (0..axes).map(Some).chain([None]) {
-                let query = float_query(shape, records.clone(), at, slope);
+            for want in dose_and_slopes(axes) {
+                let query = float_query(shape, records.clone(), at, want);
                 assert_eq!(run(&query), Ok(()));
             }
         }
@@ -300,10 +303,10 @@ fn large_answers() {
 fn wrong_shapes_are_refused() {
     for (axes, degree) in KINDS {
         let right = cube(axes, degree, 2);
-        for slope in [None, Some(0)] {
+        for want in [Dose, Slope(0)] {
             for (shape, number, place) in wrong_shapes(axes, degree) {
                 let records = vec![7; right.entries()];
-                let query = float_query(shape, records, [0.0; 3], slope);
+                let query = float_query(shape, records, [0.0; 3], want);
                 assert_eq!(run(&query), refused(number, place), "{shape:?}");
             }
         }
@@ -314,11 +317,11 @@ fn wrong_shapes_are_refused() {
 fn faults_in_order() {
     for (axes, degree) in KINDS {
         let shape = cube(axes, degree, 3);
-        for slope in [None, Some(0)] {
+        for want in [Dose, Slope(0)] {
             let mut faults = shape_faults(|query: &mut Query| &mut query.shape, axes);
             faults.push(fault(4, 0, |query: &mut Query| query.records.push(0)));
-            if slope.is_some() {
-                faults.push(fault(12, 0, |query: &mut Query| query.slope = Some(3)));
+            if want.order() == 1 {
+                faults.push(fault(12, 0, |query: &mut Query| query.want = Slope(3)));
             }
             for axis in 0..3 {
                 for (number, float) in [(10, f32::NAN), (11, 2.5), (11, -1.0), (11, f32::MAX)] {
@@ -330,7 +333,7 @@ fn faults_in_order() {
             faults.push(fault(5, 1, |query: &mut Query| query.records[1] = i32::MAX));
             let make = move |query: &mut Query| query.records[last] = i32::MIN;
             faults.push(fault(5, last as u64, make));
-            let query = float_query(shape, vec![7; shape.entries()], [0.0; 3], slope);
+            let query = float_query(shape, vec![7; shape.entries()], [0.0; 3], want);
             check_faults(&query, &faults, run);
         }
     }
@@ -342,7 +345,7 @@ fn entries_beyond_their_limit() {
         let shape = cube(axes, degree, 2);
         for (index, limit) in corner_entries(shape, [0; 3]) {
             for beyond in [limit + 1, -limit - 1] {
-                let mut query = float_query(shape, vec![7; shape.entries()], [0.0; 3], None);
+                let mut query = float_query(shape, vec![7; shape.entries()], [0.0; 3], Dose);
                 query.records[index] = beyond;
                 assert_eq!(run(&query), refused(5, index as u64));
             }

@@ -3,6 +3,7 @@
 mod common;
 mod estimated;
 mod model;
+mod queries;
 
 use common::*;
 use estimated::*;
@@ -11,6 +12,7 @@ use model::query::Where;
 use model::shape::indices;
 use model::stages::{exact, Point};
 use model::Rational;
+use model::Want::{self, Curvature, Dose, Slope};
 
 // The numbers k0 to k7 of k0 + k1 x + k2 y + k3 xy + k4 z + k5 xz + k6 yz + k7 xyz.
 type Numbers = [i64; 8];
@@ -23,13 +25,16 @@ struct Straight {
 }
 
 // The sum at a point given in parts of a cell, times parts^3; or its derivative along an axis.
-fn sum(numbers: &Numbers, at: [i64; 3], parts: i64, along: Option<u32>) -> i64 {
+fn sum(numbers: &Numbers, at: [i64; 3], parts: i64, want: Want) -> i64 {
+    let order = |axis: usize| match want.axis() == Some(axis as u32) {
+        true => want.order(),
+        false => 0,
+    };
     let term = |number: usize| {
-        let factor = |axis: usize| match (number >> axis & 1 == 1, along == Some(axis as u32)) {
-            (true, true) => parts,
-            (true, false) => at[axis],
-            (false, true) => 0,
-            (false, false) => parts,
+        let factor = |axis: usize| match (number >> axis & 1, order(axis)) {
+            (1, 0) => at[axis],
+            (1, 1) | (0, 0) => parts,
+            _ => 0,
         };
         numbers[number] * factor(0) * factor(1) * factor(2)
     };
@@ -37,16 +42,17 @@ fn sum(numbers: &Numbers, at: [i64; 3], parts: i64, along: Option<u32>) -> i64 {
 }
 
 // The sum at a point given in cells, or its derivative along an axis, written out.
-fn expression(numbers: &Numbers, [x, y, z]: [Rational; 3], along: Option<u32>) -> Rational {
+fn expression(numbers: &Numbers, [x, y, z]: [Rational; 3], want: Want) -> Rational {
     let [k0, k1, k2, k3, k4, k5, k6, k7] = numbers.map(Rational::whole);
-    match along {
-        None => {
+    match want {
+        Dose => {
             let plane = k0 + k1 * x + k2 * y + k3 * x * y;
             plane + k4 * z + k5 * x * z + k6 * y * z + k7 * x * y * z
         }
-        Some(0) => k1 + k3 * y + k5 * z + k7 * y * z,
-        Some(1) => k2 + k3 * x + k6 * z + k7 * x * z,
-        _ => k4 + k5 * x + k6 * y + k7 * x * y,
+        Slope(0) => k1 + k3 * y + k5 * z + k7 * y * z,
+        Slope(1) => k2 + k3 * x + k6 * z + k7 * x * z,
+        Slope(_) => k4 + k5 * x + k6 * y + k7 * x * y,
+        Curvature(_) => Rational::ZERO,
     }
 }
 
@@ -78,7 +84,7 @@ fn random_numbers(random: &mut Random, shape: Shape, step: i64) -> Numbers {
 
 impl Straight {
     fn new(shape: Shape, numbers: Numbers) -> Straight {
-        let sample = |node: [usize; 3]| sum(&numbers, node.map(|i| i as i64), 1, None) as i32;
+        let sample = |node: [usize; 3]| sum(&numbers, node.map(|i| i as i64), 1, Dose) as i32;
         let nodes = indices(plain_shape(shape).sides());
         let samples: Vec<i32> = nodes.into_iter().map(sample).collect();
         let table = Estimated::new(shape, &samples);
@@ -109,10 +115,10 @@ impl Straight {
     }
 
     // The library's answer and the sum times 256^3.
-    fn ask(&self, cell: [u32; 3], u: [u32; 3], along: Option<u32>) -> (i32, i64) {
-        let answer = self.table.ask(Where::Cell(cell, u), along);
+    fn ask(&self, cell: [u32; 3], u: [u32; 3], want: Want) -> (i32, i64) {
+        let answer = self.table.ask(Where::Cell(cell, u), want);
         let at = [0, 1, 2].map(|axis| 256 * cell[axis] as i64 + u[axis] as i64);
-        let sum = sum(&self.numbers, at, 256, along);
+        let sum = sum(&self.numbers, at, 256, want);
         (answer.expect("accepted query"), sum)
     }
 }
@@ -164,12 +170,11 @@ fn the_exact_interpolant_is_the_expression() {
             let records = records.expect("accepted table");
             for _ in 0..6 {
                 let at = shared_point(&mut random, shape);
-                for along in kinds(axes) {
-                    let expected = expression(&straight.numbers, in_cells(at), along);
+                for want in wants(shape) {
+                    let expected = expression(&straight.numbers, in_cells(at), want);
                     for (cell, u) in cells_at(shape, at) {
-                        let slope = along.map(|axis| axis as usize);
-                        let value = exact(&plain, &records, &Point { cell, u, slope });
-                        assert_eq!(value, expected, "{shape:?} {at:?} {along:?}");
+                        let value = exact(&plain, &records, &Point { cell, u, want });
+                        assert_eq!(value, expected, "{shape:?} {at:?} {want:?}");
                     }
                 }
             }
@@ -187,8 +192,8 @@ fn a_saddle() {
         assert_eq!(saddle.samples, samples);
         // At x = 5/4, y = 1/2, z = 3/4 it is 161, and its derivative along y is 22.
         let at = Where::Position([320, 128, 192]);
-        assert_eq!(saddle.table.ask(at, None), Ok(161));
-        assert_eq!(saddle.table.ask(at, Some(1)), Ok(22));
+        assert_eq!(saddle.table.ask(at, Dose), Ok(161));
+        assert_eq!(saddle.table.ask(at, Slope(1)), Ok(22));
     }
 }
 
@@ -199,17 +204,18 @@ fn a_slope_is_the_difference_over_a_cell() {
     for _ in 0..500 {
         let numbers: Numbers = [0; 8].map(|_: i64| random.range(-4096, 4096));
         let at = [0; 3].map(|_: u32| random.below(1024) as u32);
-        let here = expression(&numbers, in_cells(at), None);
+        let here = expression(&numbers, in_cells(at), Dose);
         let parts = at.map(|step| step as i64);
-        assert_eq!(here, Rational::ratio(sum(&numbers, parts, 256, None), CUBE));
+        assert_eq!(here, Rational::ratio(sum(&numbers, parts, 256, Dose), CUBE));
         for axis in 0..3 {
             let mut next = at;
             next[axis] += 256;
-            let along = Some(axis as u32);
-            let slope = expression(&numbers, in_cells(next), None) - here;
-            assert_eq!(expression(&numbers, in_cells(at), along), slope);
-            let sum = sum(&numbers, parts, 256, along);
-            assert_eq!(slope, Rational::ratio(sum, CUBE));
+            let want = Slope(axis as u32);
+            let slope = expression(&numbers, in_cells(next), Dose) - here;
+            assert_eq!(expression(&numbers, in_cells(at), want), slope);
+            let along = sum(&numbers, parts, 256, want);
+            assert_eq!(slope, Rational::ratio(along, CUBE));
+            assert_eq!(sum(&numbers, parts, 256, Curvature(axis as u32)), 0);
         }
     }
 }
@@ -223,24 +229,15 @@ fn every_answer_is_near_the_expression() {
             let shape = straight.table.shape;
             for _ in 0..10 {
                 let at = shared_point(&mut random, shape);
-                let mut places = vec![
-                    Where::Position(at.map(|step| step as i32)),
-                    Where::Float(at.map(|step| step as f32 / 256.0)),
-                ];
-                places.extend(
-                    cells_at(shape, at)
-                        .iter()
-                        .map(|&(cell, u)| Where::Cell(cell, u)),
-                );
-                for along in kinds(axes) {
-                    let expected = expression(&straight.numbers, in_cells(at), along);
-                    for &place in &places {
-                        let answer = straight.table.ask(place, along).expect("accepted query");
+                for want in wants(shape) {
+                    let expected = expression(&straight.numbers, in_cells(at), want);
+                    for place in places(shape, at, want) {
+                        let answer = straight.table.ask(place, want).expect("accepted query");
                         let distance = (Rational::whole(answer as i64) - expected).abs();
-                        let bound = distance_bound(axes, along.is_some());
+                        let bound = distance_bound(axes, want.order());
                         assert!(
                             distance <= bound,
-                            "{shape:?} {place:?} {along:?}: {distance:?}"
+                            "{shape:?} {place:?} {want:?}: {distance:?}"
                         );
                     }
                 }
@@ -249,8 +246,21 @@ fn every_answer_is_near_the_expression() {
     }
 }
 
-// The fraction of doses, or of slopes, at random steps that are the sum rounded once, halves up.
-fn nearest(random: &mut Random, axes: u32, degree: u32, slope: bool) -> f64 {
+// The ways to name a point: by position, by each cell that contains it, and by float where a call
+// takes it.
+fn places(shape: Shape, at: [u32; 3], want: Want) -> Vec<Where> {
+    let mut all = vec![Where::Position(at.map(|step| step as i32))];
+    let cells = cells_at(shape, at);
+    all.extend(cells.into_iter().map(|(cell, u)| Where::Cell(cell, u)));
+    if want.order() < 2 {
+        all.push(Where::Float(at.map(|step| step as f32 / 256.0)));
+    }
+    all
+}
+
+// The fraction of answers at random steps that are the sum, or its derivative of this order,
+// rounded once, halves up.
+fn nearest(random: &mut Random, axes: u32, degree: u32, order: u32) -> f64 {
     let (mut asked, mut equal) = (0, 0);
     for _ in 0..200 {
         let straight = Straight::random(random, axes, degree);
@@ -258,8 +268,9 @@ fn nearest(random: &mut Random, axes: u32, degree: u32, slope: bool) -> f64 {
             let cell = random.pick(&cells(straight.table.shape));
             let mut u = [0; 3];
             u[..axes as usize].fill_with(|| random.below(257) as u32);
-            let along = slope.then(|| random.below(axes as u64) as u32);
-            let (answer, sum) = straight.ask(cell, u, along);
+            let axis = random.below(axes as u64) as u32;
+            let want = [Dose, Slope(axis), Curvature(axis)][order as usize];
+            let (answer, sum) = straight.ask(cell, u, want);
             asked += 1;
             equal += u32::from(answer as i64 == rounded(sum));
         }
@@ -272,14 +283,16 @@ fn most_answers_are_the_nearest_whole_number() {
     // All on one axis. On more axes the eighths of the stages before move a few to the next one.
     let mut random = Random::new(5);
     for (axes, degree) in KINDS {
-        for slope in [false, true] {
-            let part = nearest(&mut random, axes, degree, slope);
-            let kind = if slope { "slopes" } else { "doses" };
+        let orders = if degree == 3 { 0..2 } else { 0..3 };
+        for order in orders {
+            let part = nearest(&mut random, axes, degree, order);
+            let kind = ["doses", "slopes", "curvatures"][order as usize];
             println!("nearest whole number, {kind}, degree {degree}, axes {axes}: {part:.4}");
-            let least = match (axes, slope) {
+            let least = match (axes, order) {
                 (1, _) => 1.0,
-                (_, false) => 0.95,
-                (_, true) => 0.92,
+                (_, 0) => 0.95,
+                (_, 1) => 0.92,
+                (_, _) => 0.9,
             };
             assert!(
                 part >= least,
@@ -304,8 +317,8 @@ fn check_all(straight: &Straight, steps: &[u32]) {
     for cell in cells(shape) {
         for at in indices(sides) {
             let u = at.map(|index| steps[index]);
-            for along in kinds(shape.axes) {
-                let (answer, sum) = straight.ask(cell, u, along);
+            for want in wants(shape) {
+                let (answer, sum) = straight.ask(cell, u, want);
                 let numbers = straight.numbers;
                 assert_eq!(answer as i64, rounded(sum), "{numbers:?} {cell:?} {u:?}");
             }
@@ -360,9 +373,9 @@ fn blocks_at_every_step_of_an_axis() {
                 let mut u = [0; 3].map(|_: u32| random.below(257) as u32);
                 u[axis] = step;
                 for cell in cells(shape) {
-                    for along in kinds(3) {
-                        let (answer, sum) = straight.ask(cell, u, along);
-                        assert_eq!(answer as i64, rounded(sum), "{cell:?} {u:?} {along:?}");
+                    for want in wants(shape) {
+                        let (answer, sum) = straight.ask(cell, u, want);
+                        assert_eq!(answer as i64, rounded(sum), "{cell:?} {u:?} {want:?}");
                     }
                 }
             }

@@ -202,8 +202,8 @@ fn conversion() {
     }
 }
 
-// The refusals of the six queries, where the position or the step in cell 0 is `at` on the x axis.
-fn queries(shape: Shape, records: usize, at: i32, axis: u32) -> [u32; 6] {
+// The refusals of all queries, where the position or the step in cell 0 is `at` on the x axis.
+fn queries(shape: Shape, records: usize, at: i32, axis: u32) -> [u32; 8] {
     let p = Position { at: [at, 0, 0] };
     let index = |x: i32| Index {
         at: [x as u32, 0, 0],
@@ -221,18 +221,38 @@ fn queries(shape: Shape, records: usize, at: i32, axis: u32) -> [u32; 6] {
             lukhtari_slope(shape, r, records, p, axis).number,
             lukhtari_slope_in_cell(shape, r, records, cell, u, axis).number,
             lukhtari_slope_float(shape, r, records, f, axis).number,
+            lukhtari_curvature(shape, r, records, p, axis).number,
+            lukhtari_curvature_in_cell(shape, r, records, cell, u, axis).number,
         ]
     }
 }
 
 #[test]
-fn doses_and_slopes() {
+fn doses_slopes_and_curvatures() {
     for (axes, degree) in KINDS {
         let shape = cube(axes, degree, 64);
         let entries = shape.entries();
-        assert_eq!(queries(shape, LONG, 0, 0), [4; 6]);
-        assert_eq!(queries(shape, entries, -1, 0), [11; 6]);
-        assert_eq!(queries(shape, entries, -1, axes)[3..], [12; 3]);
+        assert_eq!(queries(shape, LONG, 0, 0), [4; 8]);
+        assert_eq!(queries(shape, entries, -1, axes)[3..], [12; 5]);
+        let outside = queries(shape, entries, -1, 0);
+        let curved = if degree == 3 { 21 } else { 11 };
+        assert_eq!(outside[..6], [11; 6]);
+        assert_eq!(outside[6..], [curved; 2]);
+    }
+    // 21 also where the point is in the table.
+    let shape = cube(3, 3, 64);
+    assert_eq!(curvatures(shape, shape.entries()), [21; 2]);
+}
+
+// The refusals of both curvatures at the first node.
+fn curvatures(shape: Shape, records: usize) -> [u32; 2] {
+    let (p, i) = (Position { at: [0; 3] }, Index { at: [0; 3] });
+    // SAFETY: nothing is read.
+    unsafe {
+        [
+            lukhtari_curvature(shape, nowhere(), records, p, 0).number,
+            lukhtari_curvature_in_cell(shape, nowhere(), records, i, i, 0).number,
+        ]
     }
 }
 
@@ -245,13 +265,14 @@ fn cells_and_floats() {
         let (x, y, z) = (f32::NAN, 0.0, 0.0);
         let f = FloatPosition { x, y, z };
         // SAFETY: nothing is read.
-        let (cell, float) = unsafe {
-            (
-                lukhtari_dose_in_cell(shape, r, entries, cell, u),
-                lukhtari_dose_float(shape, r, entries, f),
-            )
+        let numbers = unsafe {
+            [
+                lukhtari_dose_in_cell(shape, r, entries, cell, u).number,
+                lukhtari_dose_float(shape, r, entries, f).number,
+                lukhtari_curvature_in_cell(shape, r, entries, cell, u, 0).number,
+            ]
         };
-        assert_eq!((cell.number, float.number), (14, 10));
+        assert_eq!(numbers, [14, 10, if degree == 3 { 21 } else { 14 }]);
     }
 }
 
@@ -264,8 +285,8 @@ fn reading() {
     }
 }
 
-// The refusals of the six queries with no records.
-fn queries_of_null(shape: Shape) -> [u32; 6] {
+// The refusals of all queries with no records.
+fn queries_of_null(shape: Shape) -> [u32; 8] {
     let (p, i) = (Position { at: [0; 3] }, Index { at: [0; 3] });
     let (x, y, z) = (0.0, 0.0, 0.0);
     let f = FloatPosition { x, y, z };
@@ -278,6 +299,8 @@ fn queries_of_null(shape: Shape) -> [u32; 6] {
             lukhtari_slope(shape, null(), 0, p, 0).number,
             lukhtari_slope_in_cell(shape, null(), 0, i, i, 0).number,
             lukhtari_slope_float(shape, null(), 0, f, 0).number,
+            lukhtari_curvature(shape, null(), 0, p, 0).number,
+            lukhtari_curvature_in_cell(shape, null(), 0, i, i, 0).number,
         ]
     }
 }
@@ -298,7 +321,7 @@ fn null_with_length_0_for_tables() {
             ]
         };
         assert_eq!(estimates, [4, 4, 9]);
-        assert_eq!(queries_of_null(shape), [4; 6]);
+        assert_eq!(queries_of_null(shape), [4; 8]);
     }
 }
 

@@ -1,4 +1,4 @@
-//! Doses and slopes by position and by cell: answers against the model.
+//! Doses, slopes and curvatures by position and by cell: answers against the model.
 
 mod common;
 mod model;
@@ -8,6 +8,7 @@ use common::*;
 use lukhtari::Shape;
 use model::query::{last_step, Where};
 use model::shape::indices;
+use model::Want::{self, Curvature, Dose, Slope};
 use queries::*;
 
 // Records estimated by the model.
@@ -21,15 +22,12 @@ fn estimated_from(shape: Shape, samples: &[i32]) -> Vec<i32> {
     records.expect("accepted table")
 }
 
-// Dose and all slopes at a point.
+// All answers at a point.
 fn run_all(query: &mut Query) {
-    query.slope = None;
-    let dose = run(query).expect("accepted query");
-    assert!(dose.abs() < 1 << 24);
-    for axis in 0..query.shape.axes {
-        query.slope = Some(axis);
-        let slope = run(query).expect("accepted query");
-        assert!(slope.abs() < 1 << 24);
+    for want in wants(query.shape) {
+        query.want = want;
+        let answer = run(query).expect("accepted query");
+        assert!(answer.abs() < 1 << 24);
     }
 }
 
@@ -55,31 +53,31 @@ fn grid(steps: [&[u32]; 3], axes: u32) -> Vec<[u32; 3]> {
 
 #[test]
 fn worked_examples() {
-    let ask = |degree, samples: [i32; 2], p, slope| {
+    let ask = |degree, samples: [i32; 2], p, want| {
         let shape = shape(1, degree, [2, 1, 1]);
         let records = estimated_from(shape, &samples);
         run(&Query::new(
             shape,
             records,
             Where::Position([p, 0, 0]),
-            slope,
+            want,
         ))
     };
     for degree in [3, 5] {
-        assert_eq!(ask(degree, [0, 100], 128, None), Ok(50));
-        assert_eq!(ask(degree, [0, 100], 256, None), Ok(100));
-        assert_eq!(ask(degree, [0, 100], 257, None), refused(11, 0));
-        assert_eq!(ask(degree, [0, 100], 64, None), Ok(25));
+        assert_eq!(ask(degree, [0, 100], 128, Dose), Ok(50));
+        assert_eq!(ask(degree, [0, 100], 256, Dose), Ok(100));
+        assert_eq!(ask(degree, [0, 100], 257, Dose), refused(11, 0));
+        assert_eq!(ask(degree, [0, 100], 64, Dose), Ok(25));
         for p in [0, 64, 128, 256] {
-            assert_eq!(ask(degree, [0, 100], p, Some(0)), Ok(100));
+            assert_eq!(ask(degree, [0, 100], p, Slope(0)), Ok(100));
         }
     }
-    assert_eq!(ask(3, [0, 1], 128, None), Ok(1));
-    assert_eq!(ask(3, [0, -1], 128, None), Ok(0));
-    assert_eq!(ask(3, [0, -1], 192, None), Ok(-1));
+    assert_eq!(ask(3, [0, 1], 128, Dose), Ok(1));
+    assert_eq!(ask(3, [0, -1], 128, Dose), Ok(0));
+    assert_eq!(ask(3, [0, -1], 192, Dose), Ok(-1));
     let square = shape(2, 3, [2, 2, 1]);
     let records = estimated_from(square, &[0, 100, 0, 100]);
-    let query = Query::new(square, records, Where::Position([64, 0, 0]), None);
+    let query = Query::new(square, records, Where::Position([64, 0, 0]), Dose);
     assert_eq!(run(&query), Ok(25));
 }
 
@@ -90,7 +88,7 @@ fn all_steps_of_lines() {
         for count in [2, 3, 5] {
             let shape = shape(1, degree, [count, 1, 1]);
             let records = estimated(&mut random, shape);
-            let mut query = Query::new(shape, records, Where::Position([0; 3]), None);
+            let mut query = Query::new(shape, records, Where::Position([0; 3]), Dose);
             for p in 0..=last_step(&plain_shape(shape), 0) {
                 query.at = Where::Position([p as i32, 0, 0]);
                 run_all(&mut query);
@@ -110,7 +108,7 @@ fn all_steps_of_one_axis_of_more() {
         for axis in 0..axes as usize {
             let mut steps = [&chosen[axis..axis + 1]; 3];
             steps[axis] = &every;
-            let mut query = Query::new(shape, random.records(shape), Where::Position([0; 3]), None);
+            let mut query = Query::new(shape, random.records(shape), Where::Position([0; 3]), Dose);
             for point in grid(steps, axes) {
                 query.at = Where::Position(point.map(|step| step as i32));
                 run_all(&mut query);
@@ -126,7 +124,7 @@ fn all_points_of_a_square() {
     for degree in [3, 5] {
         let shape = cube(2, degree, 2);
         let records = estimated(&mut random, shape);
-        let mut query = Query::new(shape, records, Where::Position([0; 3]), None);
+        let mut query = Query::new(shape, records, Where::Position([0; 3]), Dose);
         for point in grid([&some, &some, &[]], 2) {
             query.at = Where::Cell([0; 3], point);
             run_all(&mut query);
@@ -142,7 +140,7 @@ fn corners_edges_and_faces() {
     for (axes, degree) in KINDS {
         let shape = cube(axes, degree, 3);
         let records = estimated(&mut random, shape);
-        let mut query = Query::new(shape, records, Where::Position([0; 3]), None);
+        let mut query = Query::new(shape, records, Where::Position([0; 3]), Dose);
         for cell in cells(shape) {
             let coarse = axes == 3 && cell != [1, 0, 1];
             let steps = if coarse { &[0, 129, 256][..] } else { steps };
@@ -164,7 +162,7 @@ fn a_node_gives_its_sample() {
         let nodes = indices(shape.counts.map(|count| count as usize));
         for (node, &sample) in nodes.into_iter().zip(&samples) {
             let at = Where::Position(node.map(|index| 256 * index as i32));
-            let query = Query::new(shape, records.clone(), at, None);
+            let query = Query::new(shape, records.clone(), at, Dose);
             assert_eq!(run(&query), Ok(sample));
         }
     }
@@ -187,8 +185,8 @@ fn a_position_is_its_cell_and_step() {
                 }
             });
             let p = [0, 1, 2].map(|axis| (256 * cell[axis] + u[axis]) as i32);
-            for slope in (0..axes).map(Some).chain([None]) {
-                let ask = |at| run(&Query::new(shape, records.clone(), at, slope));
+            for want in wants(shape) {
+                let ask = |at| run(&Query::new(shape, records.clone(), at, want));
                 assert_eq!(ask(Where::Position(p)), ask(Where::Cell(cell, u)));
             }
         }
@@ -211,16 +209,16 @@ fn cells_that_share_a_point_agree() {
             let mut high = low;
             (low.0[shared], low.1[shared]) = (0, 256);
             (high.0[shared], high.1[shared]) = (1, 0);
-            for slope in (0..axes).map(Some).chain([None]) {
+            for want in wants(shape) {
                 let ask = |(cell, u)| {
                     run(&Query::new(
                         shape,
                         records.clone(),
                         Where::Cell(cell, u),
-                        slope,
+                        want,
                     ))
                 };
-                assert_eq!(ask(low), ask(high), "{low:?} {slope:?}");
+                assert_eq!(ask(low), ask(high), "{low:?} {want:?}");
             }
         }
     }
@@ -244,7 +242,7 @@ fn extreme_records() {
                 shape,
                 records,
                 Where::Cell([0; 3], u),
-                None,
+                Dose,
             ));
         }
     }
@@ -252,29 +250,49 @@ fn extreme_records() {
 
 #[test]
 fn largest_answers() {
-    // Each entry at its limit with the sign that its own dose or slope has at the point.
+    // Each entry at its limit with the sign that its own answer has at the point.
     for (axes, degree) in KINDS {
         let shape = cube(axes, degree, 2);
-        for slope in (0..axes).map(Some).chain([None]) {
+        for want in wants(shape) {
             for step in [0, 64, 128, 200] {
                 let u = [0, 1, 2].map(|axis| if axis < axes { step } else { 0 });
-                let records = aligned_records(shape, u, slope);
+                let records = aligned_records(shape, u, want);
                 let at = Where::Cell([0; 3], u);
-                let answer = run(&Query::new(shape, records, at, slope));
+                let answer = run(&Query::new(shape, records, at, want));
                 assert!(answer.expect("accepted query") >= 32767);
             }
         }
     }
 }
 
-// Corner records at their limits that all pull one dose or slope up.
-fn aligned_records(shape: Shape, u: [u32; 3], slope: Option<u32>) -> Vec<i32> {
+#[test]
+fn largest_curvatures() {
+    // Steps at which the bases of a dose and of a curvature are largest; negated, the same below 0.
+    for (axes, largest) in [(1, 619_396), (2, 890_382), (3, 1_279_924)] {
+        let shape = cube(axes, 5, 2);
+        for axis in 0..axes {
+            for step in [57, 199] {
+                let mut u = [0, 1, 2].map(|axis| if axis < axes { 128 } else { 0 });
+                u[axis as usize] = step;
+                let mut records = aligned_records(shape, u, Curvature(axis));
+                for sign in [1, -1] {
+                    let at = Where::Cell([0; 3], u);
+                    let query = Query::new(shape, records.clone(), at, Curvature(axis));
+                    assert_eq!(run(&query), Ok(sign * largest));
+                    records.iter_mut().for_each(|entry| *entry = -*entry);
+                }
+            }
+        }
+    }
+}
+
+// Corner records at their limits that all pull one answer up.
+fn aligned_records(shape: Shape, u: [u32; 3], want: Want) -> Vec<i32> {
     let mut records = vec![0; shape.entries()];
-    let slope = slope.map(|axis| axis as usize);
     let point = model::stages::Point {
         cell: [0; 3],
         u,
-        slope,
+        want,
     };
     for (index, limit) in corner_entries(shape, [0; 3]) {
         let mut alone = vec![0; shape.entries()];
@@ -296,7 +314,7 @@ fn random_records() {
             let shape_here = plain_shape(shape);
             let step = |axis| random.range(0, last_step(&shape_here, axis)) as i32;
             let at = Where::Position([0, 1, 2].map(step));
-            run_all(&mut Query::new(shape, records, at, None));
+            run_all(&mut Query::new(shape, records, at, Dose));
         }
     }
 }
@@ -319,15 +337,17 @@ fn only_the_corner_records_count() {
             for (index, _) in corner_entries(shape, cell) {
                 others[index] = records[index];
             }
-            let ask = |records: &[i32]| {
-                run(&Query::new(
-                    shape,
-                    records.to_vec(),
-                    Where::Cell(cell, u),
-                    None,
-                ))
-            };
-            assert_eq!(ask(&others), ask(&records));
+            for want in wants(shape) {
+                let ask = |records: &[i32]| {
+                    run(&Query::new(
+                        shape,
+                        records.to_vec(),
+                        Where::Cell(cell, u),
+                        want,
+                    ))
+                };
+                assert_eq!(ask(&others), ask(&records));
+            }
         }
     }
 }
@@ -338,7 +358,7 @@ fn largest_table() {
     let shape = cube(3, 5, 64);
     let records = random.records(shape);
     for p in [[0; 3], [16128; 3], [16127, 8000, 255], [256, 16128, 1]] {
-        let mut query = Query::new(shape, records.clone(), Where::Position(p), None);
+        let mut query = Query::new(shape, records.clone(), Where::Position(p), Dose);
         run_all(&mut query);
         query.at = Where::Position([p[0], p[1], 16129]);
         assert_eq!(run(&query), refused(11, 2));

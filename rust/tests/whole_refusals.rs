@@ -1,4 +1,4 @@
-//! Doses and slopes by position and by cell: refusals.
+//! Doses, slopes and curvatures by position and by cell: refusals.
 
 mod common;
 mod model;
@@ -8,6 +8,7 @@ use common::*;
 use lukhtari::Shape;
 use model::query::{last_step, Where};
 use model::Answer;
+use model::Want::{self, Curvature, Dose, Slope};
 use queries::*;
 
 // The outcome; a refused result has value 0 and any other has place 0.
@@ -28,13 +29,13 @@ fn run_checked(query: &Query) -> Answer<()> {
     outcome(&answer)
 }
 
-// Accepted queries of each kind: by position or cell, dose or slope.
+// Accepted queries of each kind: by position or cell, for all that the shape has.
 fn kinds(shape: Shape) -> Vec<Query> {
     let records = vec![7; shape.entries()];
     let mut all = Vec::new();
     for at in [Where::Position([0; 3]), Where::Cell([0; 3], [0; 3])] {
-        for slope in [None, Some(0), Some(shape.axes - 1)] {
-            all.push(Query::new(shape, records.clone(), at, slope));
+        for want in wants(shape) {
+            all.push(Query::new(shape, records.clone(), at, want));
         }
     }
     all
@@ -87,13 +88,36 @@ fn wrong_lengths() {
 }
 
 #[test]
-fn slope_axes() {
+fn axes_of_slopes_and_curvatures() {
     for (axes, degree) in KINDS {
         for mut query in kinds(cube(axes, degree, 3)) {
             for axis in [0, 1, 2, 3, 4, 256, u32::MAX] {
-                query.slope = Some(axis);
                 let expected = if axis < axes { Ok(()) } else { refused(12, 0) };
+                query.want = Slope(axis);
                 assert_eq!(run_checked(&query), expected);
+                // An axis that is not used is 12 in both degrees.
+                query.want = Curvature(axis);
+                let curved = if degree == 3 { refused(21, 0) } else { Ok(()) };
+                assert_eq!(run_checked(&query), expected.and(curved));
+            }
+        }
+    }
+}
+
+#[test]
+fn cubic_tables_have_no_curvature() {
+    for axes in 1..=3 {
+        for count in [2, 3, 64] {
+            let shape = match (axes, count) {
+                (3, 64) => shape(3, 3, [64, 2, 2]),
+                _ => cube(axes, 3, count),
+            };
+            for mut query in kinds(shape) {
+                query.want = Curvature(axes - 1);
+                assert_eq!(run_checked(&query), refused(21, 0));
+                query.shape.degree = 5;
+                query.records.resize(query.shape.entries(), 7);
+                assert_eq!(run_checked(&query), Ok(()));
             }
         }
     }
@@ -107,7 +131,7 @@ fn positions_outside() {
             for axis in 0..3 {
                 let last = last_step(&plain_shape(shape), axis) as i32;
                 let at = Where::Position([0; 3]);
-                let mut query = Query::new(shape, vec![7; shape.entries()], at, None);
+                let mut query = Query::new(shape, vec![7; shape.entries()], at, Dose);
                 for p in [0, last] {
                     set_position(&mut query, axis, p);
                     assert_eq!(run_checked(&query), Ok(()));
@@ -128,7 +152,7 @@ fn cells_outside() {
         for axis in 0..3 {
             let last = if axis < axes as usize { 2 } else { 0 };
             let at = Where::Cell([0; 3], [0; 3]);
-            let mut query = Query::new(shape, vec![7; shape.entries()], at, None);
+            let mut query = Query::new(shape, vec![7; shape.entries()], at, Dose);
             for cell in [0, last] {
                 set_cell(&mut query, axis, cell);
                 assert_eq!(run_checked(&query), Ok(()));
@@ -148,7 +172,7 @@ fn steps_outside_the_cell() {
         for axis in 0..3 {
             let last = if axis < axes as usize { 256 } else { 0 };
             let at = Where::Cell([0; 3], [0; 3]);
-            let mut query = Query::new(shape, vec![7; shape.entries()], at, Some(0));
+            let mut query = Query::new(shape, vec![7; shape.entries()], at, Slope(0));
             for u in [0, last] {
                 set_u(&mut query, axis, u);
                 assert_eq!(run_checked(&query), Ok(()));
@@ -170,7 +194,7 @@ fn entries_beyond_their_limit() {
         let entries = corner_entries(shape, cell);
         for at in [Where::Position(position), Where::Cell(cell, [0; 3])] {
             for &(index, limit) in &entries {
-                let mut query = Query::new(shape, vec![7; shape.entries()], at, None);
+                let mut query = Query::new(shape, vec![7; shape.entries()], at, Dose);
                 for within in [limit, -limit] {
                     query.records[index] = within;
                     assert_eq!(run_checked(&query), Ok(()));
@@ -192,7 +216,7 @@ fn entries_beyond_their_limit_in_corner_order() {
         for cell in cells(shape) {
             let entries = corner_entries(shape, cell);
             let at = Where::Cell(cell, [0; 3]);
-            let mut query = Query::new(shape, vec![7; shape.entries()], at, None);
+            let mut query = Query::new(shape, vec![7; shape.entries()], at, Dose);
             let mut first = entries.len();
             for _ in 0..3 {
                 let number = random.below(entries.len() as u64) as usize;
@@ -205,14 +229,27 @@ fn entries_beyond_their_limit_in_corner_order() {
 }
 
 // Faults that queries by position and by cell share, before those of the point.
-fn first_faults(axes: u32, slope: bool) -> Vec<Fault<Query>> {
+fn first_faults(axes: u32, want: Want) -> Vec<Fault<Query>> {
     let mut faults = shape_faults(|query: &mut Query| &mut query.shape, axes);
     faults.push(fault(4, 0, |query: &mut Query| query.records.push(0)));
-    if slope {
-        let make = |query: &mut Query| query.slope = Some(3);
-        faults.push(fault(12, 0, make));
+    let unused = match want {
+        Dose => None,
+        Slope(_) => Some(Slope(3)),
+        Curvature(_) => Some(Curvature(3)),
+    };
+    if let Some(want) = unused {
+        faults.push(fault(12, 0, move |query: &mut Query| query.want = want));
+    }
+    if want.order() == 2 {
+        faults.push(fault(21, 0, make_cubic));
     }
     faults
+}
+
+// A cubic table with as many records as it needs.
+fn make_cubic(query: &mut Query) {
+    query.shape.degree = 3;
+    query.records.resize(query.shape.entries(), 7);
 }
 
 // Two entries beyond their limits in the first cell, the earlier first.
@@ -230,8 +267,8 @@ fn last_faults(shape: Shape) -> Vec<Fault<Query>> {
 fn faults_in_order_by_position() {
     for (axes, degree) in KINDS {
         let shape = cube(axes, degree, 3);
-        for slope in [None, Some(0)] {
-            let mut faults = first_faults(axes, slope.is_some());
+        for want in wants(shape) {
+            let mut faults = first_faults(axes, want);
             for axis in 0..3 {
                 // Beyond the last node, and below 0.
                 for p in [513, -1] {
@@ -241,7 +278,7 @@ fn faults_in_order_by_position() {
             }
             faults.extend(last_faults(shape));
             let at = Where::Position([0; 3]);
-            let query = Query::new(shape, vec![7; shape.entries()], at, slope);
+            let query = Query::new(shape, vec![7; shape.entries()], at, want);
             check_faults(&query, &faults, run_checked);
         }
     }
@@ -251,8 +288,8 @@ fn faults_in_order_by_position() {
 fn faults_in_order_by_cell() {
     for (axes, degree) in KINDS {
         let shape = cube(axes, degree, 3);
-        for slope in [None, Some(axes - 1)] {
-            let mut faults = first_faults(axes, slope.is_some());
+        for want in wants(shape) {
+            let mut faults = first_faults(axes, want);
             for axis in 0..3 {
                 let make = move |query: &mut Query| set_cell(query, axis, 2);
                 faults.push(fault(14, axis as u64, make));
@@ -263,7 +300,7 @@ fn faults_in_order_by_cell() {
             }
             faults.extend(last_faults(shape));
             let at = Where::Cell([0; 3], [0; 3]);
-            let query = Query::new(shape, vec![7; shape.entries()], at, slope);
+            let query = Query::new(shape, vec![7; shape.entries()], at, want);
             check_faults(&query, &faults, run_checked);
         }
     }

@@ -1,5 +1,6 @@
 //! Refusals.
 
+use crate::inputs::Want;
 use lukhtari::{Refusal, Shape};
 
 pub type Answer<T> = Result<T, Refusal>;
@@ -42,14 +43,15 @@ pub fn nodes(shape: Shape) -> usize {
     x * y * z
 }
 
-// 1, 2, 3, 4, 12
-pub fn check_query(shape: Shape, records: &[i32], slope: Option<u32>) -> Answer<()> {
+// 1, 2, 3, 4, 12, 21
+pub fn check_query(shape: Shape, records: &[i32], want: Want) -> Answer<()> {
     check_shape(shape)?;
     if records.len() != nodes(shape) * record(shape) {
         return refuse(4, 0);
     }
-    match slope {
-        Some(axis) if axis >= shape.axes => refuse(12, 0),
+    match want {
+        Want::Slope(axis) | Want::Curvature(axis) if axis >= shape.axes => refuse(12, 0),
+        Want::Curvature(_) if shape.degree == 3 => refuse(21, 0),
         _ => Ok(()),
     }
 }

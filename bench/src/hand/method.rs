@@ -1,8 +1,9 @@
 //! The two ways to work off an axis: the stage as printed, and the table folded into the weights.
 
-// Numbers of a line: the low end's orders, then the high end's; S is degree + 1.
+// Numbers of a line: the low end's orders, then the high end's; S is degree + 1. Weights are those
+// of a derivative of an order.
 pub trait Method {
-    fn weights<const S: usize>(u: u32, slope: bool) -> [i64; S];
+    fn weights<const S: usize>(u: u32, order: u32) -> [i64; S];
     fn sum<const S: usize>(line: &[i64; S], weights: &[i64; S]) -> i64;
 }
 
@@ -14,11 +15,11 @@ pub struct Folded;
 
 impl Method for Printed {
     #[inline(always)]
-    fn weights<const S: usize>(u: u32, slope: bool) -> [i64; S] {
-        if slope {
-            slope_weights(u)
-        } else {
-            weights(u)
+    fn weights<const S: usize>(u: u32, order: u32) -> [i64; S] {
+        match order {
+            0 => weights(u),
+            1 => slope_weights(u),
+            _ => curvature_weights(u),
         }
     }
 
@@ -30,8 +31,8 @@ impl Method for Printed {
 
 impl Method for Folded {
     #[inline(always)]
-    fn weights<const S: usize>(u: u32, slope: bool) -> [i64; S] {
-        fold(Printed::weights(u, slope))
+    fn weights<const S: usize>(u: u32, order: u32) -> [i64; S] {
+        fold(Printed::weights(u, order))
     }
 
     #[inline(always)]
@@ -80,6 +81,25 @@ fn slope_weights<const S: usize>(u: u32) -> [i64; S] {
         }
         if left > 0 {
             weights[i] -= left as i64 * rest[left - 1] * step[i];
+        }
+    }
+    weights
+}
+
+#[inline(always)]
+fn curvature_weights<const S: usize>(u: u32) -> [i64; S] {
+    let (rest, step) = (powers::<S>(256 - u as i64), powers::<S>(u as i64));
+    let mut weights = [0; S];
+    for i in 0..S {
+        let left = S - 1 - i;
+        if i > 1 {
+            weights[i] += (i * (i - 1)) as i64 * rest[left] * step[i - 2];
+        }
+        if i > 0 && left > 0 {
+            weights[i] -= (2 * i * left) as i64 * rest[left - 1] * step[i - 1];
+        }
+        if left > 1 {
+            weights[i] += (left * (left - 1)) as i64 * rest[left - 2] * step[i];
         }
     }
     weights

@@ -1,4 +1,5 @@
-//! Doses and slopes in plain Rust: one copy of the code for both degrees and all numbers of axes.
+//! Doses, slopes and curvatures in plain Rust: one copy of the code for both degrees and all
+//! numbers of axes.
 //!
 //! A cell has 2m numbers along an axis, four or six: the low end's orders, then the high end's.
 
@@ -22,8 +23,8 @@ impl<X: Way> Form for Plain<X> {
 fn by_point<X: Way>(shape: Shape, records: &[i32], point: Point) -> Answer<i32> {
     let cell = Cell::new(shape, point.cell);
     cell.check(records)?;
-    // A slope's axis comes last.
-    let order = match (cell.axes, point.slope) {
+    // The axis of a slope or curvature comes last.
+    let order = match (cell.axes, point.want.axis()) {
         (2, Some(0)) => [1, 0, 2],
         (3, Some(0)) => [1, 2, 0],
         (3, Some(1)) => [0, 2, 1],
@@ -101,16 +102,16 @@ impl Cell {
             return UNUSED;
         }
         let last = place + 1 == self.axes;
-        let slope = last && point.slope.is_some();
+        let order = if last { point.want.order() } else { 0 };
         let count = 2 * self.m;
-        // The divisor is 2 256^d, or 2 256^(d-1) of a slope.
-        let divisor_bits = 1 + 8 * (count as u32 - 1 - u32::from(slope));
+        // The divisor is 2 256^d, 2 256^(d-1) of a slope, 2 256^(d-2) of a curvature.
+        let divisor_bits = 1 + 8 * (count as u32 - 1 - order);
         let from_eighths = 3 * u32::from(place > 0);
         let to_eighths = 3 * u32::from(!last);
         Stage {
             count,
             offsets: self.offsets(axis),
-            weights: X::weights(count, point.u[axis], slope),
+            weights: X::weights(count, point.u[axis], order),
             bits: divisor_bits + from_eighths - to_eighths,
         }
     }
@@ -173,16 +174,16 @@ impl Stage {
 
 // The two ways to work off an axis; arrays are filled up to a count of four or six.
 pub trait Way {
-    fn weights(count: usize, u: u32, slope: bool) -> [i64; 6];
+    fn weights(count: usize, u: u32, order: u32) -> [i64; 6];
     fn sum(count: usize, numbers: &[i64; 6], weights: &[i64; 6]) -> i64;
 }
 
 impl Way for Printed {
-    fn weights(count: usize, u: u32, slope: bool) -> [i64; 6] {
-        if slope {
-            slope_weights(count, u)
-        } else {
-            dose_weights(count, u)
+    fn weights(count: usize, u: u32, order: u32) -> [i64; 6] {
+        match order {
+            0 => dose_weights(count, u),
+            1 => slope_weights(count, u),
+            _ => curvature_weights(u),
         }
     }
 
@@ -202,8 +203,8 @@ impl Way for Printed {
 }
 
 impl Way for Folded {
-    fn weights(count: usize, u: u32, slope: bool) -> [i64; 6] {
-        fold(count, Printed::weights(count, u, slope))
+    fn weights(count: usize, u: u32, order: u32) -> [i64; 6] {
+        fold(count, Printed::weights(count, u, order))
     }
 
     // Each weight times its number.
@@ -240,6 +241,20 @@ fn slope_weights(count: usize, u: u32) -> [i64; 6] {
             5 * b2 * b2,
         ],
     }
+}
+
+// In degree 5, which alone has them.
+fn curvature_weights(u: u32) -> [i64; 6] {
+    let (a, b) = (256 - u as i64, u as i64);
+    let (a2, ab, b2) = (a * a, a * b, b * b);
+    [
+        20 * a2 * a,
+        a2 * (12 * b - 8 * a),
+        a * (2 * a2 - 12 * ab + 6 * b2),
+        b * (2 * b2 - 12 * ab + 6 * a2),
+        b2 * (12 * a - 8 * b),
+        20 * b2 * b,
+    ]
 }
 
 // The table of one axis folded into the weights.

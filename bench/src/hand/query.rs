@@ -1,7 +1,9 @@
-//! Doses and slopes: the calls, over the way in which the answer at a point is worked out.
+//! Doses, slopes and curvatures: the calls, over the way in which the answer at a point is worked
+//! out.
 
 use super::checks::Answer;
 use super::point::{of_cell, of_float, of_position, Point};
+use crate::inputs::Want;
 use lukhtari::Shape;
 
 // The answer in an accepted cell.
@@ -13,9 +15,9 @@ pub fn by_position<F: Form>(
     shape: Shape,
     records: &[i32],
     position: [i32; 3],
-    slope: Option<u32>,
+    want: Want,
 ) -> Answer<i32> {
-    let point = of_position(shape, records, position, slope)?;
+    let point = of_position(shape, records, position, want)?;
     F::at(shape, records, point)
 }
 
@@ -24,9 +26,9 @@ pub fn by_cell<F: Form>(
     records: &[i32],
     cell: [u32; 3],
     u: [u32; 3],
-    slope: Option<u32>,
+    want: Want,
 ) -> Answer<i32> {
-    let point = of_cell(shape, records, cell, u, slope)?;
+    let point = of_cell(shape, records, cell, u, want)?;
     F::at(shape, records, point)
 }
 
@@ -34,8 +36,8 @@ pub fn by_float<F: Form>(
     shape: Shape,
     records: &[i32],
     position: [f32; 3],
-    slope: Option<u32>,
+    want: Want,
 ) -> Answer<f32> {
-    let point = of_float(shape, records, position, slope)?;
+    let point = of_float(shape, records, position, want)?;
     F::at(shape, records, point).map(|whole| whole as f32)
 }

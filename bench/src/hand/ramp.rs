@@ -5,6 +5,7 @@ use super::checks::*;
 use super::method::Folded;
 use super::point::Point;
 use super::stages::{cube_stages, line_stage, record, square_stages};
+use crate::inputs::Want;
 use lukhtari::Shape;
 
 const MOST: usize = 256;
@@ -20,7 +21,7 @@ pub fn ramp(
     if positions.len() > MOST {
         return refuse(20, 0);
     }
-    check_query(shape, records, None)?;
+    check_query(shape, records, Want::Dose)?;
     if answers.len() < positions.len() {
         return refuse(9, 0);
     }
@@ -83,8 +84,8 @@ impl List<'_> {
             let located = locate(self.shape, axis, position[axis] as i64);
             (cell[axis], u[axis]) = located.map_err(|refusal| refusal.number)?;
         }
-        let slope = None;
-        Ok(Point { cell, u, slope })
+        let want = Want::Dose;
+        Ok(Point { cell, u, want })
     }
 
     // The corner records of a cell, tested.

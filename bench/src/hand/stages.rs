@@ -1,4 +1,5 @@
-//! Doses and slopes specialised by degree and number of axes: the stages, straight from the corner records.
+//! Doses, slopes and curvatures specialised by degree and number of axes: the stages, straight from
+//! the corner records.
 //!
 //! S is degree + 1, the numbers of a line; R is the entries of a record.
 
@@ -64,10 +65,10 @@ fn round(sum: i64, bits: u32) -> i64 {
     (sum + (1 << (bits - 1))) >> bits
 }
 
-// Bits of the divisor 2 256^d of a stage, or 2 256^(d-1) of a slope's.
+// Bits of the divisor of a stage: 2 256^d, 2 256^(d-1) of a slope's, 2 256^(d-2) of a curvature's.
 #[inline(always)]
-fn divisor_bits<const S: usize>(slope: bool) -> u32 {
-    1 + 8 * (S as u32 - 1 - u32::from(slope))
+fn divisor_bits<const S: usize>(order: u32) -> u32 {
+    1 + 8 * (S as u32 - 1 - order)
 }
 
 // The numbers of the two ends from an entry on, with the axis's orders a stride apart.
@@ -97,10 +98,10 @@ pub fn line_stage<X: Method, const S: usize, const R: usize>(
     corners: [&[i32; R]; 2],
     point: Point,
 ) -> i32 {
-    let slope = point.slope.is_some();
-    let weights = X::weights::<S>(point.u[0], slope);
+    let order = point.want.order();
+    let weights = X::weights::<S>(point.u[0], order);
     let sum = X::sum(&ends(corners, 0, 1), &weights);
-    round(sum, divisor_bits::<S>(slope)) as i32
+    round(sum, divisor_bits::<S>(order)) as i32
 }
 
 fn square<X: Method, const S: usize, const R: usize>(
@@ -115,7 +116,7 @@ fn square<X: Method, const S: usize, const R: usize>(
         let offset = (corner & 1) + cx * (corner >> 1);
         corners[corner] = record::<S, R>(records, node + offset)?;
     }
-    Ok(match point.slope {
+    Ok(match point.want.axis() {
         Some(0) => square_stages::<X, S, R, 1, 0>(corners, point),
         _ => square_stages::<X, S, R, 0, 1>(corners, point),
     })
@@ -129,8 +130,8 @@ pub fn square_stages<X: Method, const S: usize, const R: usize, const P: usize, 
 ) -> i32 {
     let m = S / 2;
     let stride = [1, m];
-    let weights = X::weights::<S>(point.u[P], false);
-    let bits = divisor_bits::<S>(false);
+    let weights = X::weights::<S>(point.u[P], 0);
+    let bits = divisor_bits::<S>(0);
     let mut line = [0; S];
     for j in 0..S {
         let corner = (j / m) << Q;
@@ -138,9 +139,9 @@ pub fn square_stages<X: Method, const S: usize, const R: usize, const P: usize, 
         let numbers = ends(pair, j % m * stride[Q], stride[P]);
         line[j] = round(X::sum(&numbers, &weights), bits - 3);
     }
-    let slope = point.slope.is_some();
-    let weights = X::weights::<S>(point.u[Q], slope);
-    round(X::sum(&line, &weights), divisor_bits::<S>(slope) + 3) as i32
+    let order = point.want.order();
+    let weights = X::weights::<S>(point.u[Q], order);
+    round(X::sum(&line, &weights), divisor_bits::<S>(order) + 3) as i32
 }
 
 fn cube<X: Method, const S: usize, const R: usize>(
@@ -156,7 +157,7 @@ fn cube<X: Method, const S: usize, const R: usize>(
         let offset = (corner & 1) + cx * ((corner >> 1 & 1) + cy * (corner >> 2));
         corners[corner] = record::<S, R>(records, node + offset)?;
     }
-    Ok(match point.slope {
+    Ok(match point.want.axis() {
         Some(0) => cube_stages::<X, S, R, 1, 2, 0>(corners, point),
         Some(1) => cube_stages::<X, S, R, 0, 2, 1>(corners, point),
         _ => cube_stages::<X, S, R, 0, 1, 2>(corners, point),
@@ -178,8 +179,8 @@ pub fn cube_stages<
 ) -> i32 {
     let m = S / 2;
     let stride = [1, m, m * m];
-    let weights = [P, Q].map(|axis| X::weights::<S>(point.u[axis], false));
-    let bits = divisor_bits::<S>(false);
+    let weights = [P, Q].map(|axis| X::weights::<S>(point.u[axis], 0));
+    let bits = divisor_bits::<S>(0);
     let mut last = [0; S];
     for k in 0..S {
         let mut line = [0; S];
@@ -192,7 +193,7 @@ pub fn cube_stages<
         }
         last[k] = round(X::sum(&line, &weights[1]), bits);
     }
-    let slope = point.slope.is_some();
-    let weights = X::weights::<S>(point.u[T], slope);
-    round(X::sum(&last, &weights), divisor_bits::<S>(slope) + 3) as i32
+    let order = point.want.order();
+    let weights = X::weights::<S>(point.u[T], order);
+    round(X::sum(&last, &weights), divisor_bits::<S>(order) + 3) as i32
 }

@@ -7,22 +7,23 @@ use Prim.Native.Nat.{ℕ, _*_, _≤_, _<_}
 use lib.Dec.{ltb, eqb, lit<}
 use lib.ListN.{length, take}
 use lib.IntN.{ℤ}
-use borrow.Author.Tests.{ltb-true, lt-ltb, eq-eqb}
+use borrow.Author.Tests.{lt-ltb, eq-eqb}
 use Rattle.arith.specs.Int.{roundHalfUp}
 use Rattle.arith.proofs.Order.{pos-inj}
 use Rattle.arith.proofs.Round.{half-up-sound}
 use Rattle.lattice.specs.declared.Shape.{Shape}
 use Rattle.lattice.specs.Outcome.{Outcome, Check, done, refused, refuseUnless, first}
-use Rattle.lattice.specs.Shape.{size, shapeOutcome, Shaped}
+use Rattle.lattice.specs.Shape.{orders, size, shapeOutcome, Shaped}
 use Rattle.lattice.specs.Axes.{Place}
-use Rattle.lattice.proofs.OutcomeLaws.{first-done, first-passed, first-after, refused-first, done-same, refuse-done, passes}
+use Rattle.lattice.proofs.OutcomeLaws.{first-done, first-passed, first-after, refused-first, done-same, passes}
 use Rattle.lattice.proofs.ShapeLaws.{orders-range}
 use Rattle.estimate.specs.Estimate.{Estimable, tableRecords, recordsOf, estimateOutcome, estimateWrites}
 use Rattle.estimate.proofs.CallLaws.{estimated, records-length}
 use Rattle.hermite.specs.Hermite.{steps}
-use Rattle.evaluate.specs.Evaluate.{Want, dose, slopeAlong, lastAxis, exactSum, exactDivisor, answer, askAt}
+use Rattle.hermite.specs.Stage.{Smooth}
+use Rattle.evaluate.specs.Evaluate.{Want, dose, derivativeAlong, orderWanted, lastAxis, exactSum, exactDivisor, answer, askAt}
 use Rattle.query.specs.Queries.{wantOutcome, askedOutcome, reading}
-use Rattle.query.proofs.QueryLaws.{last-used, asked-parts, asked-passes}
+use Rattle.query.proofs.QueryLaws.{want-parts, last-used, want-smooth, asked-parts, asked-passes}
 use Rattle.float_query.specs.Answers.{FloatValue, asDose, asSlope, inFloat}
 use Rattle.claims.specs.Third.{Query, queried, cellRead, stepRead, Reads, AcceptedTable, bothCalls, asked, allowedDistance, WithinDistance, Distance, Agreement, recounted, Locality, Askable, NoGap, Claimed, ThirdDemand}
 use Rattle.claims.specs.Straight.{askOf}
@@ -33,25 +34,31 @@ use Rattle.estimated.proofs.Estimated.{lent, reading-is}
 use Rattle.claims.proofs.Block.{block-local}
 use Rattle.claims.proofs.Gates.{gate, by-gate, gated, gate-passes, gate-same, step-same}
 
--- ---- a slope along a used axis
+-- ---- a derivative of a permitted order along a used axis
 
 askable : (s : Shape) (want : Want) → wantOutcome s want ≡ done tt → Askable s want
 unfolding wantOutcome Askable
 askable s dose h = tt
-askable s (slopeAlong l) h = ltb-true l (s .axes) (refuse-done (ltb l (s .axes)) 12 0 h)
+askable s (derivativeAlong order l) h = want-parts s order l h
 
 want-passes : (s : Shape) (want : Want) → Askable s want → wantOutcome s want ≡ done tt
 unfolding wantOutcome Askable
 want-passes s dose h = refl
-want-passes s (slopeAlong l) h = passes (ltb l (s .axes)) 12 0 (lt-ltb l (s .axes) h)
+want-passes s (derivativeAlong order l) h =
+    first-passed (refuseUnless (ltb l (s .axes)) 12 0) (refuseUnless (ltb order (orders s)) 21 0)
+    (passes (ltb l (s .axes)) 12 0 (lt-ltb l (s .axes) (h .0)))
+    ∙ passes (ltb order (orders s)) 21 0 (lt-ltb order (orders s) (h .1))
 
 want-same : (s : Shape) (counts : List ℕ) (want : Want) → wantOutcome s want ≡ wantOutcome (recounted s counts) want
 unfolding wantOutcome
 want-same s counts dose = refl
-want-same s counts (slopeAlong l) = refl
+want-same s counts (derivativeAlong order l) = refl
 
 used-last : (s : Shape) (want : Want) → 1 ≤ s .axes → Askable s want → lastAxis (s .axes) want < s .axes
 used-last s want l h = last-used s want l (want-passes s want h)
+
+pub permitted : (s : Shape) (want : Want) → Askable s want → Smooth (orderWanted want) (orders s)
+permitted s want h = want-smooth s want (want-passes s want h)
 
 asked-known : (s : Shape) (rs : List ℤ) (want : Want) → askedOutcome s rs want ≡ done tt → Askable s want
 asked-known s rs want h = askable s want (asked-parts s rs want h .1)
@@ -74,7 +81,7 @@ module _ (s : Shape) (xs old : List ℤ) (taken : AcceptedTable s xs old) where
       first-passed (estimateOutcome s xs (length old)) (queried s _ want q) taken
       ∙ ap (λ (rs : List ℤ). queried s rs want q) (lent s xs old taken) ∙ by-gate s (recordsOf s xs) want q
 
-  -- of the tests before the query's own, the slope axis alone can be refused
+  -- of the tests before the query's own, the derivative's axis and order alone can be refused
   asked-is : (want : Want) → askedOutcome s (recordsOf s xs) want ≡ wantOutcome s want
   unfolding askedOutcome
   asked-is want =
@@ -97,7 +104,7 @@ module _ (s : Shape) (xs old : List ℤ) (taken : AcceptedTable s xs old) where
       both-is want q ∙ first-passed (askedOutcome s (recordsOf s xs) want) (first (gate s q) (readHere s xs want q)) (askable-passes want a)
       ∙ first-passed (gate s q) (readHere s xs want q) h ∙ read-is want q a h
 
--- the facts behind a dose or slope that is taken: neither call is refused
+-- the facts behind a dose or derivative that is taken: neither call is refused
 pub record Taken (s : Shape) (xs old : List ℤ) (want : Want) (q : Query) (v : ℤ) : Type 0 where
   pub table : AcceptedTable s xs old
   pub can : Askable s want
@@ -120,6 +127,7 @@ pub proper : (s : Shape) (want : Want) (N cell u : Place) → Shaped s → Askab
 proper s want N cell u ok a stepped inside = record {
   m-low = orders-range (s .degree) .0;
   m-high = orders-range (s .degree) .1;
+  smooth = permitted s want a;
   n-high = ok .axes-high;
   some = stepped;
   last = used-last s want (ok .axes-low) a;
@@ -142,7 +150,7 @@ module _ (s : Shape) (xs old : List ℤ) (want : Want) (q : Query) where
   pub third-distance : Distance s xs want q (bothCalls s xs old want q)
   unfolding askAt
   third-distance v h =
-      subst (λ z. WithinDistance (allowedDistance want (s .axes)) z (exactSum (asked s want q) (tableRecords s xs))
+      subst (λ z. WithinDistance (allowedDistance (orderWanted want) (s .axes)) z (exactSum (asked s want q) (tableRecords s xs))
       (exactDivisor (asked s want q)))
       (sym (taken s xs old want q v h .is)) (distance roundHalfUp half-up-sound (asked s want q) (is-proper v h) (tableRecords s xs))
 
@@ -210,7 +218,7 @@ outcomeOf (refused n p) = refused n p
 outcome-of : (want : Want) (o : Outcome ℤ) → outcomeOf (inFloat want o) ≡ o
 unfolding outcomeOf
 outcome-of dose (done v) = refl
-outcome-of (slopeAlong l) (done v) = refl
+outcome-of (derivativeAlong order l) (done v) = refl
 outcome-of want (refused n p) = refl
 
 same-held : (want : Want) (o p : Outcome ℤ) → inFloat want o ≡ inFloat want p → o ≡ p

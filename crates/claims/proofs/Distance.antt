@@ -20,15 +20,17 @@ use Rattle.hermite.specs.Stage.{Smooth}
 use Rattle.hermite.proofs.HermiteLaws.{stage-linear}
 use Rattle.hermite.proofs.Reach.{reach, gain, reach-gain}
 use Rattle.hermite.proofs.Sizes.{divisor-some}
-use Rattle.evaluate.specs.Evaluate.{Want, dose, slopeAlong, Ask, orderOn, lastAxis, divisorOn, exactSum, exactDivisor, stageOn, toEighth, toUnit, inEighths, before, answerBy}
-use Rattle.evaluate.proofs.AnswerLaws.{order-before, order-slope, order-smooth, each-before}
+use Rattle.evaluate.specs.Evaluate.{Ask, orderWanted, orderOn, lastAxis, divisorOn, exactSum, exactDivisor, stageOn, toEighth, toUnit, inEighths, before, answerBy}
+use Rattle.evaluate.proofs.AnswerLaws.{order-before, order-on-last, order-smooth, each-before}
 use Rattle.claims.specs.Third.{Fraction, allowedDistance, WithinDistance}
 use Rattle.claims.proofs.Exact.{exact-last}
 
--- a question of one of the two degrees, on up to three axes, the last one worked off among them, at steps of the cell
+-- a question of one of the two degrees and an order that it permits, on up to three axes, the last one worked off among them, at steps of
+-- the cell
 pub record Proper (q : Ask) : Type 0 where
   pub m-low : 2 ≤ q .m
   pub m-high : q .m ≤ 3
+  pub smooth : Smooth (orderWanted (q .want)) (q .m)
   pub n-high : q .n ≤ 3
   pub some : (a : ℕ) → 0 < q .N a
   pub last : lastAxis (q .n) (q .want) < q .n
@@ -143,7 +145,8 @@ module _ (round : Rounding) (sound : Sound round) (q : Ask) (ok : Proper q) (g :
       next (4 ^ length ls) (4 ^ suc (length ls)) (divisor k (q .m) (q .N a)) (scale ls) (error (length ls)) (gain k)
       (natAbs (got (a ∷ ls) p *ℤ pos (scale (a ∷ ls)) -ℤ pos 8 *ℤ exact (a ∷ ls) p)) (pow-suc 4 (length ls)) (ap gain (h .0 .0))
       (stage-near round sound k (q .m) (q .N a) (q .cell a) (q .step a) (divisor k (q .m) (q .N a)) (scale ls) (4 ^ length ls)
-      (error (length ls)) (order-smooth (q .want) a (q .m)) (ok .m-low) (ok .m-high) (h .0 .1) (divisor-some k (q .m) (q .N a) (ok .some a))
+      (error (length ls)) (order-smooth (q .want) a (q .m) (ok .smooth)) (ok .m-low) (ok .m-high) (h .0 .1)
+      (divisor-some k (q .m) (q .N a) (ok .some a))
       (λ t. got ls (put a t p)) (λ t. exact ls (put a t p)) (λ t. stages-near ls (h .1) (put a t p)) (p a))
     where
       k : ℕ
@@ -165,7 +168,7 @@ module _ (round : Rounding) (sound : Sound round) (q : Ask) (ok : Proper q) (g :
       finish (4 ^ length (before q)) D P (error (length (before q))) (gain k) (exactDivisor q) v X (exactSum q g)
       (times-order (last-first (q .n) l (ok .last)) (divisorOn q)) (exact-last q l (ok .last) g)
       (stage-near round sound k (q .m) (q .N l) (q .cell l) (q .step l) (8 * D) P (4 ^ length (before q)) (error (length (before q)))
-      (order-smooth (q .want) l (q .m)) (ok .m-low) (ok .m-high) (ok .inside l (ok .last))
+      (order-smooth (q .want) l (q .m) (ok .smooth)) (ok .m-low) (ok .m-high) (ok .inside l (ok .last))
       (more D (divisor-some k (q .m) (q .N l) (ok .some l)))
       (λ t. got (before q) (put l t origin)) (λ t. exact (before q) (put l t origin))
       (λ t. stages-near (before q) plain (put l t origin)) 0)
@@ -203,31 +206,23 @@ module _ (round : Rounding) (sound : Sound round) (q : Ask) (ok : Proper q) (g :
 
 -- ---- the distances
 
--- the last stage of a dose multiplies errors by at most 5/4, that of a slope by at most 5
-lastGain : Want → ℕ
-lastGain dose = 5
-lastGain (slopeAlong l) = 20
+abbrev Sums : ℕ → ℕ → Type 0
+Sums k n = (v x : ℤ) (C : ℕ) → 64 * 4 ^ (n - 1) * natAbs (v *ℤ pos C -ℤ x) ≤ (32 * 4 ^ (n - 1) + gain k * error (n - 1)) * C
+    → WithinDistance (allowedDistance k n) v x C
 
-last-gain : (n : ℕ) (w : Want) → gain (orderOn w (lastAxis n w)) ≡ lastGain w
-unfolding orderOn lastAxis gain lastGain
-last-gain n dose = refl
-last-gain n (slopeAlong l) = ap gain (order-slope l n)
-
-abbrev Sums : Want → ℕ → Type 0
-Sums w n = (v x : ℤ) (C : ℕ) → 64 * 4 ^ (n - 1) * natAbs (v *ℤ pos C -ℤ x) ≤ (32 * 4 ^ (n - 1) + lastGain w * error (n - 1)) * C
-    → WithinDistance (allowedDistance w n) v x C
-
-distances : (w : Want) (n : ℕ) → 1 ≤ n → n ≤ 3 → Sums w n
-unfolding allowedDistance lastGain error
-distances dose = by-n (Sums dose) (λ v x C h. omega arith) (λ v x C h. omega arith) (λ v x C h. omega arith)
-distances (slopeAlong l) = by-n (Sums (slopeAlong l)) (λ v x C h. omega arith) (λ v x C h. omega arith) (λ v x C h. omega arith)
+distances : (k n : ℕ) → 1 ≤ n → n ≤ 3 → Sums k n
+unfolding allowedDistance gain error
+distances zero = by-n (Sums 0) (λ v x C h. omega arith) (λ v x C h. omega arith) (λ v x C h. omega arith)
+distances (suc zero) = by-n (Sums 1) (λ v x C h. omega arith) (λ v x C h. omega arith) (λ v x C h. omega arith)
+distances (suc (suc k)) = by-n (Sums (suc (suc k))) (λ v x C h. omega arith) (λ v x C h. omega arith) (λ v x C h. omega arith)
 
 pub distance : (round : Rounding) → Sound round → (q : Ask) → Proper q → (g : Field)
-    → WithinDistance (allowedDistance (q .want) (q .n)) (answerBy round q g) (exactSum q g) (exactDivisor q)
+    → WithinDistance (allowedDistance (orderWanted (q .want)) (q .n)) (answerBy round q g) (exactSum q g) (exactDivisor q)
 unfolding before
 distance round sound q ok g =
-    distances (q .want) (q .n) (let h = ok .last in omega arith) (ok .n-high) (answerBy round q g) (exactSum q g) (exactDivisor q)
-    (rw (sym stages, sym (last-gain (q .n) (q .want))) (answer-near round sound q ok g))
+    distances (orderWanted (q .want)) (q .n) (let h = ok .last in omega arith) (ok .n-high) (answerBy round q g) (exactSum q g)
+    (exactDivisor q)
+    (rw (sym stages, sym (order-on-last (q .want) (q .n))) (answer-near round sound q ok g))
   where
     stages : length (before q) ≡ q .n - 1
     stages = let e = sym (length-axes (q .n)) ∙ length-order (last-first (q .n) (lastAxis (q .n) (q .want)) (ok .last)) in omega arith

@@ -23,7 +23,7 @@ use Rattle.table_file.specs.File.{sectionOne, sectionTwo, fileOf, complete, cou
 use Rattle.estimate.specs.Estimate.{left, right, byOrder, estimate, records, tableRecords, recordsOf, estimateLimit, estimateOutcome, estimateWrites}
 use Rattle.coefficients.specs.Coefficients.{requestOutcome, coefficientList, coefficientsOutcome}
 use Rattle.corners.specs.Corners.{numbersOutcome, coefficientsField, doubledEntry, entryAllowed, possibleOutcome, entryList, backOutcome}
-use Rattle.evaluate.specs.Evaluate.{dose, orderOn, lastAxis, weightOn, sumOver, exactSum, divisorOn, exactDivisor, stageOn, toEighth, toUnit, inEighths, before, answerBy, askAt}
+use Rattle.evaluate.specs.Evaluate.{dose, orderWanted, orderOn, lastAxis, weightOn, sumOver, exactSum, divisorOn, exactDivisor, stageOn, toEighth, toUnit, inEighths, before, answerBy, askAt}
 use Rattle.query.specs.Queries.{wantOutcome, askedOutcome, reading, stepsOutcome, testedOutcome, byCell, positionAt, positionOutcome, cellOf, positionCell, positionStep, byPosition}
 use Rattle.claims.specs.Third.{atPosition, queried, pointOf, cellRead, stepRead, bothCalls, _over_, allowedDistance, WithinDistance}
 use Rattle.claims.specs.Examples.{Row, recordsFrom, coefficientsOf, coefficientsFrom, backInto, firstStage, exactly, answerTo, table, AllRows}
@@ -38,10 +38,10 @@ unfolding answerFrom notZero sparse among numbered limits leftOver distances onl
     signedOf unsignedOf
     placeAt byCell testedOutcome stepsOutcome recordsFrom coefficientsOf coefficientsFrom backInto firstStage exactly answerTo bothCalls
     queried cellRead stepRead byPosition positionStep positionCell cellOf positionOutcome positionAt reading askAt askedOutcome wantOutcome
-    answerBy before inEighths toUnit toEighth stageOn exactDivisor divisorOn exactSum sumOver weightOn lastAxis orderOn estimateWrites
-    estimateOutcome estimateLimit recordsOf tableRecords records estimate byOrder right left coefficientsOutcome requestOutcome
-    numbersOutcome coefficientList backOutcome possibleOutcome entryAllowed entryList doubledEntry coefficientsField cornerNumbers
-    coefficients
+    answerBy before inEighths toUnit toEighth stageOn exactDivisor divisorOn exactSum sumOver weightOn lastAxis orderOn orderWanted
+    estimateWrites estimateOutcome estimateLimit recordsOf tableRecords records estimate byOrder right left coefficientsOutcome
+    requestOutcome numbersOutcome coefficientList backOutcome possibleOutcome entryAllowed entryList doubledEntry coefficientsField
+    cornerNumbers coefficients
     cellOutcome cornersOutcome entryOutcome cornerEntries cornerPlace stageSum divisor weightAt weight forward backward solved share
     mirrored multiplier limitOutcome entryLimit totalOrder entryPlace recordsField entryIndex entryNumber samplesField nodeNumber without
     axes sweep put shapeOutcome countsOutcome countAllowed degreeOutcome axesOutcome size entries nodes ordersOf count digit span number

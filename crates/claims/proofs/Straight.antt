@@ -1,5 +1,5 @@
--- Straight data: the exact interpolant is the expression, axis after axis; with the distance of the third demand, every dose and slope is
--- near it.
+-- Straight data: the exact interpolant is the expression, axis after axis; with the distance of the third demand, every dose and
+-- derivative is near it.
 use mathlib.Core.Path.{_≡_, refl, sym, ap, ap₂, subst, _∙_, fun-ext}
 use mathlib.Core.List.{List, [], _∷_}
 use Prim.Native.Nat.{ℕ, zero, suc, _+_, _*_, _-_, _≤_, _<_}
@@ -33,14 +33,14 @@ use Rattle.cell.specs.Cell.{Accepted}
 use Rattle.estimate.specs.Estimate.{estimate, records, tableRecords}
 use Rattle.estimate.proofs.EstimateLaws.{estimate-linear}
 use Rattle.estimate.proofs.Straight.{estimate-line}
-use Rattle.evaluate.specs.Evaluate.{Want, dose, slopeAlong, Ask, orderOn, stageOn, divisorOn, exactSum, exactDivisor, answerBy, answer, askAt}
+use Rattle.evaluate.specs.Evaluate.{Want, dose, derivativeAlong, orderWanted, Ask, orderOn, stageOn, divisorOn, exactSum, exactDivisor, answerBy, answer, askAt}
 use Rattle.evaluate.proofs.AnswerLaws.{order-smooth}
 use Rattle.query.specs.Queries.{Position}
 use Rattle.claims.specs.Third.{WithinDistance, allowedDistance, pointOf, cellRead, stepRead, Reads, asked, Askable}
-use Rattle.claims.specs.Straight.{Expression, valueOf, valueAt, derivative, wantedOf, Straight, askOf, ExactlyStraight, NearlyStraight}
+use Rattle.claims.specs.Straight.{Expression, valueOf, valueAt, derivative, derivativeOf, wantedOf, Straight, askOf, ExactlyStraight, NearlyStraight}
 use Rattle.claims.proofs.General.{rejoined}
 use Rattle.claims.proofs.Distance.{distance, same-fraction}
-use Rattle.claims.proofs.Demand.{known, Taken, taken, third-reads, proper}
+use Rattle.claims.proofs.Demand.{permitted, known, Taken, taken, third-reads, proper}
 use Rattle.claims.proofs.Exact.{exact-stages}
 
 -- ---- the expression
@@ -66,35 +66,46 @@ module _ (e : Expression) where
       (λ n x v t. ring! (pos v ∷ pos t ∷ numbers n x)
       (record { left = search quotes depth 60 fits 8000; right = search quotes depth 60 fits 8000 }) tt)
 
-  -- the derivative is the expression with unit 0 and coordinate N on its axis
-  abbrev Derived : ℕ → Type 0
-  Derived l = (N x : Place) → let k = orderOn (slopeAlong l) in
-      Value (λ a. unitOf (k a) (N a)) (λ a. coordinateOf (k a) (N a) (x a)) ≡ valueAt (derivative l e) N (λ a. pos (x a))
+  -- at the units and coordinates of a derivative of order k along axis l it is that derivative
+  IsDerivative : ℕ → ℕ → Type 0
+  IsDerivative k l = (N x : Place) → let order = orderOn (derivativeAlong k l) in
+      Value (λ a. unitOf (order a) (N a)) (λ a. coordinateOf (order a) (N a) (x a)) ≡ valueAt (derivativeOf k l e) N (λ a. pos (x a))
 
-  derivative-is : (l : ℕ) → l < 3 → Derived l
-  unfolding orderOn pick unitOf coordinateOf derivative valueOf
+  -- the first has unit 0 and coordinate N on its axis, the second unit 0 and coordinate 0
+  derivative-is : (k : ℕ) → k < 3 → (l : ℕ) → l < 3 → IsDerivative k l
+  unfolding IsDerivative orderOn pick unitOf coordinateOf derivativeOf derivative valueOf
   derivative-is =
-      by-3 Derived
+      by-3 (λ k. (l : ℕ) → l < 3 → IsDerivative k l)
+      (by-3 (IsDerivative 0) (λ N x. refl) (λ N x. refl) (λ N x. refl))
+      (by-3 (IsDerivative 1)
       (λ N x. ring! (numbers N x) (record { left = search quotes depth 60 fits 8000; right = search quotes depth 60 fits 8000 }) tt)
       (λ N x. ring! (numbers N x) (record { left = search quotes depth 60 fits 8000; right = search quotes depth 60 fits 8000 }) tt)
+      (λ N x. ring! (numbers N x) (record { left = search quotes depth 60 fits 8000; right = search quotes depth 60 fits 8000 }) tt))
+      (by-3 (IsDerivative 2)
       (λ N x. ring! (numbers N x) (record { left = search quotes depth 60 fits 8000; right = search quotes depth 60 fits 8000 }) tt)
+      (λ N x. ring! (numbers N x) (record { left = search quotes depth 60 fits 8000; right = search quotes depth 60 fits 8000 }) tt)
+      (λ N x. ring! (numbers N x) (record { left = search quotes depth 60 fits 8000; right = search quotes depth 60 fits 8000 }) tt))
 
 -- what is wanted: the units and coordinates by the order of the derivative on each axis
 wanted-is : (s : Shape) (want : Want) → s .axes ≤ 3 → Askable s want → (e : Expression) (N x : Place)
     → Value e (λ a. unitOf (orderOn want a) (N a)) (λ a. coordinateOf (orderOn want a) (N a) (x a))
     ≡ valueAt (wantedOf want e) N (λ a. pos (x a))
-unfolding Askable wantedOf orderOn unitOf coordinateOf
+unfolding Askable wantedOf orderOn unitOf coordinateOf IsDerivative
 wanted-is s dose n3 can e N x = refl
-wanted-is s (slopeAlong l) n3 can e N x = derivative-is e l (omega arith) N x
+wanted-is s (derivativeAlong order l) n3 can e N x =
+    let used : l < s .axes = can .0 in
+    let smooth : order < orders s = can .1 in
+    let most = orders-range (s .degree) .1 in
+    derivative-is e order (omega arith) l (omega arith) N x
 
 -- no derivative on an unused axis
 order-unused : (s : Shape) (want : Want) → Askable s want → (a : ℕ) → s .axes ≤ a → orderOn want a ≡ 0
 unfolding Askable orderOn
 order-unused s dose can a h = refl
-order-unused s (slopeAlong l) can a h = pick-false (eqb a l) 1 0 (ne-eqb a l apart)
+order-unused s (derivativeAlong order l) can a h = pick-false (eqb a l) order 0 (ne-eqb a l apart)
   where
     apart : a ≡ l → ⊥
-    apart e = omega arith
+    apart e = omega (arith, can .0)
 
 -- ---- the exact interpolant
 
@@ -131,8 +142,8 @@ module _ (s : Shape) (xs : List ℤ) (e : Expression) (want : Want) (N cell u x 
         ap (λ (f : ℕ → ℤ). stageOn q a f j) (fun-ext (λ i. linear-multiple (estimate-linear m (count s a)) z y i))
         ∙ linear-multiple (stage-linear (order a) m (N a) (cell a) (u a)) z (estimate m (count s a) y) j;
     is = λ A B y j line.
-        stage-line (order a) m (N a) (cell a) (u a) (order-smooth want a m) (orders-range (s .degree) .0) (orders-range (s .degree) .1)
-        (inside a l) A B (estimate m (count s a) y)
+        stage-line (order a) m (N a) (cell a) (u a) (order-smooth want a m (permitted s want can)) (orders-range (s .degree) .0)
+        (orders-range (s .degree) .1) (inside a l) A B (estimate m (count s a) y)
         (λ i o h k. estimate-line (count s a) y A B (two (cell a) (count s a) (here .used a l))
         (λ i h. line i (λ l. h, λ k. absurd (not-both l k))) m i o (in-table (cell a) (count s a) i (here .used a l) k)) j
         ∙ ap (λ (i : ℕ). pos (divisorOn q a) *ℤ (pos (unit a) *ℤ A +ℤ pos (coordinateOf (order a) (N a) i) *ℤ B)) (sym (point a l));
@@ -201,11 +212,11 @@ module _ (s : Shape) (xs : List ℤ) (e : Expression) (want : Want) (N cell u x 
 
   -- whatever the rounding, the answer is near it
   pub near-at : (round : Rounding) → Sound round → Shaped s → ((a : ℕ) → 0 < N a)
-      → WithinDistance (allowedDistance want (s .axes)) (answerBy round q (tableRecords s xs))
+      → WithinDistance (allowedDistance (orderWanted want) (s .axes)) (answerBy round q (tableRecords s xs))
       (valueAt (wantedOf want e) N (λ a. pos (x a))) (N 0 * N 1 * N 2)
   unfolding exactDivisor divisorOn
   near-at round sound ok stepped =
-      same-fraction (allowedDistance want (s .axes)) (answerBy round q (tableRecords s xs)) exact
+      same-fraction (allowedDistance (orderWanted want) (s .axes)) (answerBy round q (tableRecords s xs)) exact
       (valueAt (wantedOf want e) N (λ a. pos (x a))) (exactDivisor q) (N 0 * N 1 * N 2)
       (times-some (axes (s .axes)) (divisorOn q) (λ a. divisor-some (order a) m (N a) (stepped a))) exact-at
       (distance round sound q (proper s want N cell u ok can stepped inside) (tableRecords s xs))
@@ -220,9 +231,10 @@ exactly-straight s xs e want N cell u ok straight can here inside =
 pub nearly-straight : NearlyStraight
 unfolding askAt
 nearly-straight s xs old e want q v straight h =
-    subst (λ z. WithinDistance (allowedDistance want (s .axes)) z (valueAt (wantedOf want e) (λ a. steps) (pointOf q))
-    (steps * steps * steps)) (sym (t .is))
-    (subst (λ (p : Position). WithinDistance (allowedDistance want (s .axes)) (answer (asked s want q) (tableRecords s xs))
+    subst (λ z. WithinDistance (allowedDistance (orderWanted want) (s .axes)) z (valueAt (wantedOf want e) (λ a. steps) (pointOf q))
+    (steps * steps * steps))
+    (sym (t .is))
+    (subst (λ (p : Position). WithinDistance (allowedDistance (orderWanted want) (s .axes)) (answer (asked s want q) (tableRecords s xs))
     (valueAt (wantedOf want e) (λ a. steps) p) (steps * steps * steps))
     (fun-ext (λ a. back a (decLt a (s .axes))))
     (near-at s xs e want (λ a. steps) (cellRead s q) (stepRead s q) (λ a. natAbs (pointOf q a)) (ok .axes-high) straight (t .can)

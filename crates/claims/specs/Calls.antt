@@ -29,7 +29,7 @@ queryOf (Position p) = atPosition (stepsIn p)
 queryOf (Cell c u) = inCell (indicesIn c) (indicesIn u)
 queryOf (Floats p) = atFloats (floatsAt p)
 
--- what each case says, for a dose or a slope
+-- what each case says, for a dose or a derivative
 abbrev pub outcomeOfReply : Want → Reply → Outcome FloatValue
 outcomeOfReply want (Whole r) = inFloat want (outcomeOfReading r)
 outcomeOfReply want (Float r) = outcomeOfFloat r

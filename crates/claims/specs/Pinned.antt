@@ -1,6 +1,6 @@
 -- Further rows: where a theorem would hold of more than one reading of document 01, a computed row fixes the reading.
 -- Refusal numbers, places and order; borders; the order of nodes, entries, coefficients and corners on two and three axes; limits;
--- the order of the stages; the cell of a shared node; the distances.
+-- the order of the stages; the cell of a shared node; curvatures; the distances.
 use mathlib.Core.List.{List, [], _∷_, _++_}
 use Prim.Native.Nat.{ℕ, suc, _+_, _*_, _-_}
 use lib.Dec.{eqb}
@@ -14,7 +14,7 @@ use Rattle.lattice.specs.Shape.{shapeOf, size}
 use Rattle.lattice.specs.Digits.{digit}
 use Rattle.lattice.specs.Records.{entryLimit}
 use Rattle.estimate.specs.Estimate.{tableRecords, estimateOutcome}
-use Rattle.evaluate.specs.Evaluate.{Want, dose, slopeAlong, exactSum, exactDivisor}
+use Rattle.evaluate.specs.Evaluate.{Want, dose, slopeAlong, curvatureAlong, orderWanted, exactSum, exactDivisor}
 use Rattle.table_file.specs.File.{readCheck, fileOf, header}
 use Rattle.claims.specs.Third.{Query, atPosition, inCell, queried, allowedDistance, asked}
 use Rattle.claims.specs.Examples.{Table, listed, Row, _gives_, _refusedAs_atPlace_, recordsFrom, coefficientsOf, backFrom, backInto, pair, at-x}
@@ -56,21 +56,28 @@ limits m count = tabulate count (λ i. pos (entryLimit m 3 (λ a. digit (λ b. m
 unfoldable pub leftOver : Table → Want → List ℤ → ℤ → ℤ
 leftOver t want p v =
     let q = asked (t .shape) want (atPosition p) in
-    let f = allowedDistance want (t .shape .axes) in
+    let f = allowedDistance (orderWanted want) (t .shape .axes) in
     let y = exactDivisor q in
     pos (f .top * y - f .bottom * natAbs (v *ℤ pos y -ℤ exactSum q (tableRecords (t .shape) (t .samples))))
 
 -- the distances allowed on one, two and three axes
-unfoldable pub distances : Want → List ℤ
-distances want =
-    pos (allowedDistance want 1 .top) ∷ pos (allowedDistance want 1 .bottom) ∷ pos (allowedDistance want 2 .top) ∷ pos
-    (allowedDistance want 2 .bottom)
-    ∷ pos (allowedDistance want 3 .top) ∷ pos (allowedDistance want 3 .bottom) ∷ []
+unfoldable pub distances : ℕ → List ℤ
+distances order =
+    pos (allowedDistance order 1 .top) ∷ pos (allowedDistance order 1 .bottom) ∷ pos (allowedDistance order 2 .top)
+    ∷ pos (allowedDistance order 2 .bottom)
+    ∷ pos (allowedDistance order 3 .top) ∷ pos (allowedDistance order 3 .bottom) ∷ []
 
 -- ---- tables
 
 abbrev pub threeNodes : Shape
 threeNodes = shapeOf 1 3 (3 ∷ 1 ∷ 1 ∷ [])
+
+abbrev pub quintic : Shape
+quintic = shapeOf 1 5 (2 ∷ 1 ∷ 1 ∷ [])
+
+-- two records, no two entries alike
+abbrev pub curved : List ℤ
+curved = pos 3 ∷ pos 5 ∷ pos 16 ∷ pos 100 ∷ negsuc 7 ∷ pos 10 ∷ []
 
 abbrev pub plane : Shape
 plane = shapeOf 2 3 (2 ∷ 2 ∷ 1 ∷ [])
@@ -128,6 +135,11 @@ refusals =
     -- 15 before 9; the place of 13 is 0 wherever the entry stands
     ∷ (backInto 0 1 3 (pos 0 ∷ []) refusedAs 15 atPlace 0)
     ∷ (backFrom 1 3 (pos 0 ∷ pos 0 ∷ pos 65537 ∷ pos 0 ∷ []) refusedAs 13 atPlace 0)
+    -- 12 before 21, 21 before 14: no curvature in degree 3
+    ∷ (answerFrom plane (only plane 0 (pos 32769)) (curvatureAlong 2) (inCell (1 ∷ 0 ∷ 0 ∷ []) (0 ∷ 0 ∷ 0 ∷ []))
+    refusedAs 12 atPlace 0)
+    ∷ (answerFrom plane (only plane 0 (pos 32769)) (curvatureAlong 1) (inCell (1 ∷ 0 ∷ 0 ∷ []) (0 ∷ 0 ∷ 0 ∷ []))
+    refusedAs 21 atPlace 0)
     -- 12 before 14, 14 before 11, 11 before 5
     ∷ (answerFrom plane (only plane 0 (pos 32769)) (slopeAlong 2) (inCell (1 ∷ 0 ∷ 0 ∷ []) (0 ∷ 0 ∷ 0 ∷ []))
     refusedAs 12 atPlace 0)
@@ -172,16 +184,21 @@ numbers =
     (atPoint (pos 160) (pos 96) (pos 128)) gives negsuc 0 ∷ [])
     ∷ (answerFrom cube (flat (negsuc 0 ∷ pos 1 ∷ negsuc 0 ∷ negsuc 0 ∷ pos 0 ∷ pos 0 ∷ negsuc 1 ∷ negsuc 1 ∷ []))
     (slopeAlong 1) (atPoint (pos 32) (pos 96) (pos 128)) gives negsuc 1 ∷ [])
+    -- curvatures in degree 5: at both nodes their own S, between them all numbers of both
+    ∷ (answerFrom quintic curved (curvatureAlong 0) (atPosition (at-x 0)) gives pos 16 ∷ [])
+    ∷ (answerFrom quintic curved (curvatureAlong 0) (atPosition (at-x 64)) gives pos 540 ∷ [])
+    ∷ (answerFrom quintic curved (curvatureAlong 0) (atPosition (at-x 256)) gives pos 10 ∷ [])
     -- coefficients, x index fastest, of twice the slope along y of corner (1, 0), and of corner (1, 0, 0); and back
     ∷ (sparse (coefficientsOf plane (only plane 6 (pos 1))) gives pos 6 ∷ pos 6 ∷ pos 7 ∷ pos 2 ∷ [])
     ∷ (sparse (coefficientsOf cube (only cube 10 (pos 1)))
     gives pos 6 ∷ pos 12 ∷ pos 7 ∷ pos 4 ∷ pos 22 ∷ pos 36 ∷ pos 23 ∷ pos 12 ∷ [])
     ∷ (sparse (backFrom 3 3 (numbered 64 (6 ∷ 12 ∷ 7 ∷ 4 ∷ 22 ∷ 36 ∷ 23 ∷ 12 ∷ []))) gives pos 10 ∷ pos 1 ∷ [])
     -- one half is attained on one axis; the distances allowed
-    ∷ (done (leftOver (pair 3 (pos 0) (pos 1)) dose (at-x 128) (pos 1) ∷ distances dose ++ distances (slopeAlong 0))
+    ∷ (done (leftOver (pair 3 (pos 0) (pos 1)) dose (at-x 128) (pos 1) ∷ distances 0 ++ distances 1 ++ distances 2)
     gives pos 0
     ∷ pos 1 ∷ pos 2 ∷ pos 37 ∷ pos 64 ∷ pos 173 ∷ pos 256
-    ∷ pos 1 ∷ pos 2 ∷ pos 13 ∷ pos 16 ∷ pos 77 ∷ pos 64 ∷ [])
+    ∷ pos 1 ∷ pos 2 ∷ pos 13 ∷ pos 16 ∷ pos 77 ∷ pos 64
+    ∷ pos 1 ∷ pos 2 ∷ pos 3 ∷ pos 2 ∷ pos 11 ∷ pos 4 ∷ [])
     ∷ []
 
 unfoldable pub pins : List Row

@@ -1,6 +1,6 @@
 -- Straight data, request U4 of document 02: where the samples are a sum of a constant and multiples of x, y, z, xy, xz, yz and xyz, x, y
--- and z being node indices, the exact interpolant is that expression everywhere in the table, and for a slope its partial derivative. So
--- every dose and slope is within the known distance of it.
+-- and z being node indices, the exact interpolant is that expression everywhere in the table, and for a slope its partial derivative; its
+-- curvature is 0. So every dose, slope and curvature is within the known distance of it.
 use mathlib.Core.Path.{_≡_}
 use mathlib.Core.List.{List, [], _∷_}
 use Prim.Native.Nat.{ℕ, zero, suc, _+_, _*_, _≤_, _<_}
@@ -13,7 +13,7 @@ use Rattle.lattice.specs.Records.{samplesField}
 use Rattle.hermite.specs.Hermite.{steps}
 use Rattle.cell.specs.Cell.{Accepted}
 use Rattle.estimate.specs.Estimate.{tableRecords}
-use Rattle.evaluate.specs.Evaluate.{Want, dose, slopeAlong, Ask, exactSum, exactDivisor}
+use Rattle.evaluate.specs.Evaluate.{Want, dose, derivativeAlong, slopeAlong, orderWanted, Ask, exactSum, exactDivisor}
 use Rattle.query.specs.Queries.{Position}
 use Rattle.claims.specs.Third.{Query, pointOf, bothCalls, Askable, allowedDistance, WithinDistance}
 use Rattle.claims.specs.Examples.{Table, answerTo, Row, _gives_}
@@ -51,10 +51,15 @@ derivative (suc zero) e =
 derivative (suc (suc a)) e =
     record { one = e .z; x = e .xz; y = e .yz; z = pos 0; xy = e .xyz; xz = pos 0; yz = pos 0; xyz = pos 0 }
 
--- what is wanted of it: itself for a dose, its derivative for a slope
+-- and of any order
+unfoldable pub derivativeOf : (order axis : ℕ) → Expression → Expression
+derivativeOf zero l e = e
+derivativeOf (suc order) l e = derivative l (derivativeOf order l e)
+
+-- what is wanted of it: itself for a dose, its derivative of that order for a derivative
 unfoldable pub wantedOf : Want → Expression → Expression
 wantedOf dose e = e
-wantedOf (slopeAlong l) e = derivative l e
+wantedOf (derivativeAlong order l) e = derivativeOf order l e
 
 -- the samples are the expression at every node of the table
 abbrev pub Straight : Shape → List ℤ → Expression → Type 0
@@ -75,12 +80,13 @@ ExactlyStraight =
     → exactSum (askOf s want N cell u) (tableRecords s xs) *ℤ pos (N 0 * N 1 * N 2)
     ≡ valueAt (wantedOf want e) N (λ a. pos (N a * cell a + u a)) *ℤ pos (exactDivisor (askOf s want N cell u))
 
--- every dose and slope that the two calls give is within the distance of the third demand of it
+-- every dose and derivative that the two calls give is within the distance of the third demand of it
 abbrev pub NearlyStraight : Type 0
 NearlyStraight =
     (s : Shape) (xs old : List ℤ) (e : Expression) (want : Want) (q : Query) (v : ℤ)
     → Straight s xs e → bothCalls s xs old want q ≡ done v
-    → WithinDistance (allowedDistance want (s .axes)) v (valueAt (wantedOf want e) (λ a. steps) (pointOf q)) (steps * steps * steps)
+    → WithinDistance (allowedDistance (orderWanted want) (s .axes)) v (valueAt (wantedOf want e) (λ a. steps) (pointOf q))
+    (steps * steps * steps)
 
 -- ---- an example
 

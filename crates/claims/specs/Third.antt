@@ -11,13 +11,14 @@ use lib.IntN.{ℤ, pos, natAbs, _-ℤ_, _*ℤ_}
 use lib.Signed.{_≤ℤ_}
 use Rattle.lattice.specs.declared.Shape.{Shape}
 use Rattle.lattice.specs.Outcome.{Outcome, done, first}
-use Rattle.lattice.specs.Shape.{shapeOf, count, size}
+use Rattle.lattice.specs.Shape.{shapeOf, count, orders, size}
 use Rattle.lattice.specs.Axes.{Place, OnUsed}
 use Rattle.lattice.specs.Records.{samplesField}
 use Rattle.hermite.specs.Hermite.{steps}
+use Rattle.hermite.specs.Stage.{Smooth}
 use Rattle.cell.specs.Cell.{placeAt, Accepted}
 use Rattle.estimate.specs.Estimate.{tableRecords, estimateOutcome, estimateWrites}
-use Rattle.evaluate.specs.Evaluate.{Want, dose, slopeAlong, Ask, exactSum, exactDivisor, askAt}
+use Rattle.evaluate.specs.Evaluate.{Want, dose, derivativeAlong, orderWanted, Ask, exactSum, exactDivisor, askAt}
 use Rattle.query.specs.Queries.{Position, positionAt, positionCell, positionStep, byCell, byPosition}
 use Rattle.float_query.specs.Floats.{stepsOf, byFloat}
 
@@ -84,16 +85,17 @@ infix 7 _over_
 abbrev pub _over_ : ℕ → ℕ → Fraction
 a over b = record { top = a; bottom = b }
 
--- the distance allowed on one, two, three axes; in 256ths 128, 148, 173 for a dose and 128, 208, 308 for a slope
-unfoldable pub allowedDistance : Want → ℕ → Fraction
-allowedDistance dose zero = 0 over 1
-allowedDistance dose (suc zero) = 1 over 2
-allowedDistance dose (suc (suc zero)) = 37 over 64
-allowedDistance dose (suc (suc (suc n))) = 173 over 256
-allowedDistance (slopeAlong l) zero = 0 over 1
-allowedDistance (slopeAlong l) (suc zero) = 1 over 2
-allowedDistance (slopeAlong l) (suc (suc zero)) = 13 over 16
-allowedDistance (slopeAlong l) (suc (suc (suc n))) = 77 over 64
+-- the distance allowed by the order of the derivative, on one, two, three axes; in 256ths 128, 148, 173 for a dose, 128, 208, 308 for a
+-- slope and 128, 384, 704 for a curvature
+unfoldable pub allowedDistance : ℕ → ℕ → Fraction
+allowedDistance order zero = 0 over 1
+allowedDistance order (suc zero) = 1 over 2
+allowedDistance zero (suc (suc zero)) = 37 over 64
+allowedDistance zero (suc (suc (suc n))) = 173 over 256
+allowedDistance (suc zero) (suc (suc zero)) = 13 over 16
+allowedDistance (suc zero) (suc (suc (suc n))) = 77 over 64
+allowedDistance (suc (suc order)) (suc (suc zero)) = 3 over 2
+allowedDistance (suc (suc order)) (suc (suc (suc n))) = 11 over 4
 
 -- v is within the distance f of x / y, multiplied out
 abbrev pub WithinDistance : Fraction → ℤ → ℤ → ℕ → Type 0
@@ -107,7 +109,8 @@ asked s want q = askAt s want (cellRead s q) (stepRead s q)
 -- under Estimates give
 abbrev pub Distance : Shape → List ℤ → Want → Query → Outcome ℤ → Type 0
 Distance s xs want q given =
-    (v : ℤ) → given ≡ done v → WithinDistance (allowedDistance want (s .axes)) v (exactSum (asked s want q) (tableRecords s xs))
+    (v : ℤ) → given ≡ done v
+    → WithinDistance (allowedDistance (orderWanted want) (s .axes)) v (exactSum (asked s want q) (tableRecords s xs))
     (exactDivisor (asked s want q))
 
 -- ---- agreement
@@ -151,10 +154,10 @@ Locality s xs old want q given =
 
 -- ---- no gap
 
--- a dose, or a slope along a used axis
+-- a dose, or a derivative along a used axis of an order to which cells join smoothly
 unfoldable pub Askable : Shape → Want → Type 0
 Askable s dose = Unit {0}
-Askable s (slopeAlong l) = l < s .axes
+Askable s (derivativeAlong order l) = (l < s .axes) × Smooth order (orders s)
 
 -- a step of the table, or an accepted cell with u from 0 to 256
 unfoldable pub Inside : Shape → Query → Type 0

@@ -19,43 +19,40 @@ use Rattle.hermite.specs.Hermite.{stageSum}
 use Rattle.hermite.specs.Stage.{Smooth}
 use Rattle.hermite.proofs.HermiteLaws.{stage-moved}
 use Rattle.cell.specs.Cell.{AtEnds, InCorners}
-use Rattle.evaluate.specs.Evaluate.{Want, dose, slopeAlong, Ask, orderOn, lastAxis, divisorOn, stageOn, toEighth, toUnit, inEighths, before, answerBy}
-use Rattle.evaluate.specs.Wants.{wantOf, orderOf}
+use Rattle.evaluate.specs.Evaluate.{Want, dose, derivativeAlong, Ask, orderWanted, orderOn, lastAxis, divisorOn, stageOn, toEighth, toUnit, inEighths, before, answerBy}
+use Rattle.evaluate.specs.Wants.{wantOf}
 
 -- on an axis before the last no derivative is taken
 pub order-before : (w : Want) (a n : ℕ) → (a ≡ lastAxis n w → ⊥) → orderOn w a ≡ 0
 unfolding orderOn lastAxis
 order-before dose a n h = refl
-order-before (slopeAlong l) a n h = pick-false (eqb a l) 1 0 (ne-eqb a l h)
+order-before (derivativeAlong order l) a n h = pick-false (eqb a l) order 0 (ne-eqb a l h)
 
--- on a slope's axis the first
-pub order-slope : (l n : ℕ) → orderOn (slopeAlong l) (lastAxis n (slopeAlong l)) ≡ 1
-unfolding orderOn lastAxis
-order-slope l n = pick-true (eqb l l) 1 0 (eq-eqb l l refl)
+-- on the last it is that which is wanted
+pub order-on-last : (w : Want) (n : ℕ) → orderOn w (lastAxis n w) ≡ orderWanted w
+unfolding orderOn orderWanted lastAxis
+order-on-last dose n = refl
+order-on-last (derivativeAlong order l) n = pick-true (eqb l l) order 0 (eq-eqb l l refl)
 
 -- and so it is by the order that the code is given
-pub order-last : (order a n : ℕ) → orderOf order ≡ orderOn (wantOf order a) (lastAxis n (wantOf order a))
-unfolding orderOn
-order-last zero a n = refl
-order-last (suc order) a n = sym (order-slope a n)
+pub order-last : (order a n : ℕ) → order ≡ orderOn (wantOf order a) (lastAxis n (wantOf order a))
+unfolding orderWanted
+order-last zero a n = sym (order-on-last (wantOf 0 a) n)
+order-last (suc order) a n = sym (order-on-last (wantOf (suc order) a) n)
 
--- any order but 0 is that of a slope
-pub order-some : (order : ℕ) → (order ≡ 0 → ⊥) → orderOf order ≡ 1
-order-some zero h = absurd (h refl)
-order-some (suc order) h = refl
-
-pub want-some : (order a : ℕ) → (order ≡ 0 → ⊥) → wantOf order a ≡ slopeAlong a
+-- any order but 0 is that of a derivative
+pub want-some : (order a : ℕ) → (order ≡ 0 → ⊥) → wantOf order a ≡ derivativeAlong order a
 want-some zero a h = absurd (h refl)
 want-some (suc order) a h = refl
 
-pub order-smooth : (w : Want) (a m : ℕ) → Smooth (orderOn w a) m
-unfolding orderOn pick
-order-smooth dose a m = lit≤ tt
-order-smooth (slopeAlong l) a m = one (eqb a l)
+pub order-smooth : (w : Want) (a m : ℕ) → Smooth (orderWanted w) m → Smooth (orderOn w a) m
+unfolding orderOn orderWanted pick
+order-smooth dose a m h = h
+order-smooth (derivativeAlong order l) a m h = one (eqb a l)
   where
-    one : (b : Bool) → pick b 1 0 ≤ 1
-    one true = lit≤ tt
-    one false = lit≤ tt
+    one : (b : Bool) → Smooth (pick b order 0) m
+    one true = h
+    one false = omega (arith, h)
 
 -- ---- the axes before the last
 

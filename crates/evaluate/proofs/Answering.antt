@@ -1,6 +1,5 @@
--- The stages of a cell that a query has tested, worked off axis by axis, a slope's axis last: they read the records only, no sum of theirs
--- leaves 64 bits, and they give
--- the answer of the definition.
+-- The stages of a cell that a query has tested, worked off axis by axis, a derivative's axis last: they read the records only, no sum of
+-- theirs leaves 64 bits, and they give the answer of the definition.
 use mathlib.Core.Path.{_≡_, refl, sym, ap, ap₂, subst, _∙_, fun-ext}
 use mathlib.Core.List.{List, [], _∷_}
 use Prim.Native.Nat.{ℕ, suc, _+_, _*_, _-_, _%_, _^_, _≤_, _<_}
@@ -202,7 +201,7 @@ module _ {round : Rounding} (sound : Sound round) (s : Shape) (rs : List ℤ) (c
       (corners-within s rs cell (ready .corners) ok here (λ a. p a - m * cell a) (n .0))
 
   abbrev pub PlainHere : ℕ → Type 0
-  PlainHere = Plain round sound q m2 m3 some (recordsField s rs) limited
+  PlainHere = Plain round sound q (ready .smooth) m2 m3 some (recordsField s rs) limited
 
   -- one more stage, of axis a
   module _ (a to k : ℕ) (ls : List ℕ) (x : Axis) (xs : List Axis) (hx : Holds s want step (counts ls) to a k x)
@@ -224,7 +223,7 @@ module _ {round : Rounding} (sound : Sound round) (s : Shape) (rs : List ℤ) (c
         counted (counts ls) (natAbs (after round m xs (at rs) (place t + offset s a u))) (cap (length ls)) (capOf ls) (2 ^ order)
         (2 ^ (u % m)) (hx .some)
         (le-trans (le-of-eq (sym (ap natAbs value ∙ abs-mul (pos (counts ls)) (after round m xs (at rs) (place t + offset s a u)))))
-        (reads-size round sound q m2 m3 some (recordsField s rs) limited ls d plains a fresh used (placed s cell t)
+        (reads-size round sound q (ready .smooth) m2 m3 some (recordsField s rs) limited ls d plains a fresh used (placed s cell t)
         (placed-corners s cell t here (left .numbers)) u l))
         (cap-is ls)
       where
@@ -296,7 +295,8 @@ module _ {round : Rounding} (sound : Sound round) (s : Shape) (rs : List ℤ) (c
   plain : Each PlainHere prior
   unfolding askAt
   plain =
-      plain-before round sound q m2 m3 some (recordsField s rs) limited (ready .last) (ready .steps-low) (ready .here .unused)
+      plain-before round sound q (ready .smooth) m2 m3 some (recordsField s rs) limited (ready .last) (ready .steps-low)
+      (ready .here .unused)
 
   module _ (order : ℕ) (order-is : order ≡ orderOn want (lastAxis (s .axes) want)) (b : Strides) (vs : List Strides)
       (last-is : IsAxis s step (lastAxis (s .axes) want) b) (are : AreAxes s step prior vs) where
@@ -324,7 +324,7 @@ module _ {round : Rounding} (sound : Sound round) (s : Shape) (rs : List ℤ) (c
         subst (λ (m : ℕ). Workable round m order b vs (length rs) (at rs) (l .base)) (sym (ready .laid .orders-are))
         (subst (λ (p : ℕ). Workable round m order b vs (length rs) (at rs) p) (index-base s ok cell here ∙ sym (ready .laid .base-is))
         (record {
-          smooth = subst (λ (i : ℕ). Smooth i m) (sym order-is) (order-smooth want (lastAxis (s .axes) want) m);
+          smooth = subst (λ (i : ℕ). Smooth i m) (sym order-is) (order-smooth want (lastAxis (s .axes) want) m (ready .smooth));
           m-low = m2;
           m-high = m3;
           steps-in = (
@@ -356,8 +356,8 @@ module _ {round : Rounding} (sound : Sound round) (s : Shape) (rs : List ℤ) (c
   pub answer-fits : natAbs (answerBy round (askAt s want cell step) (recordsField s rs)) < 2 ^ 24
   unfolding askAt
   answer-fits =
-      answer-below round sound q m2 m3 some (recordsField s rs) limited (ready .last) (ready .steps-low) (ready .here .unused)
-      (ready .shape .axes-high)
+      answer-below round sound q (ready .smooth) m2 m3 some (recordsField s rs) limited (ready .last) (ready .steps-low)
+      (ready .here .unused) (ready .shape .axes-high)
 
   -- n axes, of which a is the last
   module _ (n a : ℕ) (en : s .axes ≡ n) (ea : lastAxis (s .axes) want ≡ a) (order : ℕ)

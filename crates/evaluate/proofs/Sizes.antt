@@ -20,7 +20,8 @@ use Rattle.lattice.specs.Records.{totalOrder, entryLimit}
 use Rattle.lattice.proofs.Along.{put-at, put-off, put-swap, Each, Fresh, Distinct, last-first, length-order, length-axes}
 use Rattle.hermite.proofs.Sizes.{eighth-size, unit-size}
 use Rattle.cell.specs.Cell.{AtEnds, InCorners}
-use Rattle.evaluate.specs.Evaluate.{Ask, orderOn, lastAxis, divisorOn, stageOn, toEighth, toUnit, inEighths, before, answerBy, answer}
+use Rattle.hermite.specs.Stage.{Smooth}
+use Rattle.evaluate.specs.Evaluate.{Ask, orderWanted, orderOn, lastAxis, divisorOn, stageOn, toEighth, toUnit, inEighths, before, answerBy, answer}
 use Rattle.evaluate.proofs.AnswerLaws.{order-before, order-smooth, each-before, distinct-before, fresh-before, answer-anywhere}
 
 -- ---- orders that are 0 on the axes worked off
@@ -108,7 +109,8 @@ corners-put {m} {n} {cell} a t p l k h =
         (subst (AtEnds m (cell a)) (sym (put-at a (m * cell a + t) p)) here)
     one b i (no e) = subst (AtEnds m (cell b)) (sym (put-off a (m * cell a + t) b p e)) (h .used b i)
 
-module _ (round : Rounding) (sound : Sound round) (q : Ask) (m2 : 2 ≤ q .m) (m3 : q .m ≤ 3) (some : (a : ℕ) → 0 < q .N a) (g : Field)
+module _ (round : Rounding) (sound : Sound round) (q : Ask) (smooth : Smooth (orderWanted (q .want)) (q .m)) (m2 : 2 ≤ q .m) (m3 : q .m ≤ 3)
+    (some : (a : ℕ) → 0 < q .N a) (g : Field)
     (limited : (p : Place) → InCorners (q .m) (q .n) (q .cell) p → natAbs (g p) ≤ entryLimit (q .m) (q .n) p) where
   -- the bound at a place after the stages of a list
   abbrev pub bound : List ℕ → Place → ℕ
@@ -152,7 +154,7 @@ module _ (round : Rounding) (sound : Sound round) (q : Ask) (m2 : 2 ≤ q .m) (m
       le-trans
       (eighth-size (orderOn (q .want) a) (q .m) (q .N a) (q .cell a) (q .step a) (λ t. got ls (put a t p)) (bound ls (put a 0 p))
       (reads ls a p (d .0) (e .0 .used) h (stages-size ls (d .1) (e .1)))
-      round sound (order-smooth (q .want) a (q .m)) m2 m3 (some a) (e .0 .step) (p a) (e .0 .plain))
+      round sound (order-smooth (q .want) a (q .m) smooth) m2 m3 (some a) (e .0 .step) (p a) (e .0 .plain))
       (le-of-eq (regroup (cap (length ls)) (2 ^ totalOrder (q .m) (q .n) (noughts ls (put a 0 p)))))
     where
       regroup : (c w : ℕ) → 2 * (c * w) ≡ 2 * c * w
@@ -190,15 +192,15 @@ module _ (round : Rounding) (sound : Sound round) (q : Ask) (m2 : 2 ≤ q .m) (m
     unfolding before
     stages-before = sym (length-axes (q .n)) ∙ length-order (last-first (q .n) l last)
 
-    -- twice the bound after the stages before the last, in units
-    answer-size : natAbs (answerBy round q g) ≤ 2 * bound (before q) (put l 0 corner)
+    -- nine times the bound after the stages before the last, in units
+    answer-size : natAbs (answerBy round q g) ≤ 9 * bound (before q) (put l 0 corner)
     unfolding toUnit stageOn divisorOn
     answer-size =
         le-trans (le-of-eq (ap natAbs (answer-anywhere round q g corner corner-none)))
         (unit-size (orderOn (q .want) l) (q .m) (q .N l) (q .cell l) (q .step l) (λ t. got (before q) (put l t corner))
         (bound (before q) (put l 0 corner))
         (reads-size (before q) (distinct-before q) plain-before l (fresh-before q) last corner corner-in) round sound
-        (order-smooth (q .want) l (q .m)) m2 m3 (some l) (steps-in l last) (corner l))
+        (order-smooth (q .want) l (q .m) smooth) m2 m3 (some l) (steps-in l last) (corner l))
 
     no-order : totalOrder (q .m) (q .n) (noughts (before q) (put l 0 corner)) ≡ 0
     unfolding noughts
@@ -213,12 +215,12 @@ module _ (round : Rounding) (sound : Sound round) (q : Ask) (m2 : 2 ≤ q .m) (m
         below [] h = tt
         below (a ∷ ls) h = (h .0 .used, below ls (h .1))
 
-    few : (k : ℕ) → k < 3 → 2 * (cap k * 2 ^ 0) < 2 ^ 24
+    few : (k : ℕ) → k < 3 → 9 * (cap k * 2 ^ 0) < 2 ^ 24
     unfolding cap
-    few = by-3 (λ k. 2 * (cap k * 2 ^ 0) < 2 ^ 24) (lit≤ tt) (lit≤ tt) (lit≤ tt)
+    few = by-3 (λ k. 9 * (cap k * 2 ^ 0) < 2 ^ 24) (lit≤ tt) (lit≤ tt) (lit≤ tt)
 
     pub answer-below : q .n ≤ 3 → natAbs (answerBy round q g) < 2 ^ 24
     answer-below n3 =
         lt-of-le-of-lt answer-size
-        (subst (λ (i : ℕ). 2 * (cap (length (before q)) * 2 ^ i) < 2 ^ 24) (sym no-order)
+        (subst (λ (i : ℕ). 9 * (cap (length (before q)) * 2 ^ i) < 2 ^ 24) (sym no-order)
         (few (length (before q)) (subst (λ (i : ℕ). i ≤ 3) stages-before n3)))

@@ -1,4 +1,4 @@
--- A dose or a slope at step u of a cell: the exact value, and the rounded stages.
+-- A dose, a slope or a curvature at step u of a cell: the exact value, and the rounded stages.
 use Prim.Native.Nat.{ℕ, _*_, _-_}
 use mathlib.Core.List.{List}
 use lib.Dec.{eqb}
@@ -12,20 +12,32 @@ use Rattle.lattice.specs.Axes.{Place, Field, Rule, origin, along, sweep, axes, 
 use Rattle.hermite.specs.Hermite.{steps, weightAt, divisor, stageSum}
 use Rattle.cell.specs.Coefficients.{coefficients}
 
--- what is asked for: a dose, or a slope along an axis
+-- what is asked for: a dose, or a derivative of some order along an axis
 pub data Want : Type 0 where
   dose : Want
-  slopeAlong : ℕ → Want
+  derivativeAlong : (order axis : ℕ) → Want
 
--- the order of the derivative on an axis
+-- a slope is the derivative of order 1, a curvature that of order 2
+abbrev pub slopeAlong : ℕ → Want
+slopeAlong l = derivativeAlong 1 l
+
+abbrev pub curvatureAlong : ℕ → Want
+curvatureAlong l = derivativeAlong 2 l
+
+-- the order of the derivative
+unfoldable pub orderWanted : Want → ℕ
+orderWanted dose = 0
+orderWanted (derivativeAlong order l) = order
+
+-- and on each axis
 unfoldable pub orderOn : Want → ℕ → ℕ
 orderOn dose a = 0
-orderOn (slopeAlong l) a = pick (eqb a l) 1 0
+orderOn (derivativeAlong order l) a = pick (eqb a l) order 0
 
 -- the axis that is worked off last
 unfoldable pub lastAxis : ℕ → Want → ℕ
 lastAxis n dose = n - 1
-lastAxis n (slopeAlong l) = l
+lastAxis n (derivativeAlong order l) = l
 
 -- m, the number of axes, what is asked for, and on each axis the number N of steps, the cell and the in-cell step
 pub record Ask : Type 0 where

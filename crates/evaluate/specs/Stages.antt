@@ -11,7 +11,7 @@ use Rattle.arith.specs.Choice.{pick}
 use Rattle.lattice.specs.declared.Shape.{Shape}
 use Rattle.lattice.specs.Buffer.{at}
 use Rattle.lattice.specs.Outcome.{done}
-use Rattle.lattice.specs.Shape.{size, Shaped}
+use Rattle.lattice.specs.Shape.{orders, size, Shaped}
 use Rattle.lattice.specs.Axes.{Place}
 use Rattle.hermite.specs.Hermite.{steps}
 use Rattle.hermite.specs.declared.Ends.{Ends}
@@ -20,7 +20,7 @@ use Rattle.cell.specs.declared.Layout.{Layout}
 use Rattle.cell.specs.Cell.{Accepted, Laid, cornersOutcome}
 use Rattle.evaluate.specs.declared.Axis.{Axis}
 use Rattle.evaluate.specs.declared.Strides.{Strides}
-use Rattle.evaluate.specs.Evaluate.{Want, lastAxis}
+use Rattle.evaluate.specs.Evaluate.{Want, orderWanted, lastAxis}
 
 -- the number of order o of an end whose numbers stand from index p on, 0 from order m on
 unfoldable pub numbersAt : ℕ → (ℕ → ℤ) → ℕ → ℕ → ℕ → ℤ
@@ -136,4 +136,5 @@ pub record Ready (s : Shape) (rs : List ℤ) (cell step : Place) (want : Want) (
   pub laid : Laid s cell l
   pub steps-low : (a : ℕ) → a < s .axes → step a ≤ steps
   pub last : lastAxis (s .axes) want < s .axes
+  pub smooth : Smooth (orderWanted want) (orders s)
   pub corners : cornersOutcome s rs cell ≡ done tt

@@ -1,4 +1,4 @@
-// The stages of a dose or a slope in a cell, straight from the records.
+// The stages of a dose, a slope or a curvature in a cell, straight from the records.
 ghost use mathlib.Core.Path.{_≡_};
 ghost use mathlib.Core.Bool.{true, false};
 ghost use mathlib.Core.List.{[], _∷_};
@@ -11,14 +11,14 @@ ghost use Rattle.hermite.specs.Hermite.{steps};
 ghost use Rattle.hermite.specs.Stage.{Smooth};
 ghost use Rattle.cell.specs.Cell.{placeAt};
 ghost use Rattle.evaluate.specs.Evaluate.{answer, askAt, lastAxis};
-ghost use Rattle.evaluate.specs.Wants.{wantOf, orderOf};
+ghost use Rattle.evaluate.specs.Wants.{wantOf};
 ghost use Rattle.evaluate.specs.Stages.{IsEnd, AreEnds, AtBoth, worked, after, placeOf, also, stridesOf, ofAxis, beside, Made, Prepared, AllPrepared, Safe, Workable, WorkedOff, Ready};
 use cell::Layout;
 use hermite::Basis;
 use hermite::Ends;
 use lattice::Shape;
 
-// The order of the derivative and its axis; a query for a dose has order 0 and no slope axis.
+// The order of the derivative and its axis; a query for a dose has order 0 and no axis of its own.
 pub struct Derivative {
     pub order: u32,
     pub axis: u32,
@@ -263,8 +263,8 @@ pub fn one_axis(m: usize, order: u32, a: Strides, records: &[i32], p: usize) -> 
 
 // The same, with m and the order constants of the call.
 fn one_axis_by_kind(m: usize, order: u32, a: Strides, records: &[i32], p: usize) -> i64
-    requires { ⌜ Workable roundHalfUp m (orderOf order) a [] (length (now records)) (at (now records)) p ⌝ }
-    ensures { λ r. ⌜ WorkedOff roundHalfUp m (orderOf order) a [] (at (now (records .entry))) p r ⌝ }
+    requires { ⌜ Workable roundHalfUp m order a [] (length (now records)) (at (now records)) p ⌝ }
+    ensures { λ r. ⌜ WorkedOff roundHalfUp m order a [] (at (now (records .entry))) p r ⌝ }
 {
     if m == 2 {
         if order == 0 {
@@ -275,18 +275,24 @@ fn one_axis_by_kind(m: usize, order: u32, a: Strides, records: &[i32], p: usize)
     if order == 0 {
         return one_axis(3, 0, a, records, p);
     }
+    if order == 2 {
+        return one_axis(3, 2, a, records, p);
+    }
     one_axis(3, 1, a, records, p)
 }
 
 // The last stage of more than one, the order a constant of the call.
 fn last_stage(m: usize, order: u32, c: Strides) -> Axis
-    requires { ⌜ (2 ≤ m) × (m ≤ 3) × (c .step ≤ steps) ⌝ }
-    ensures { λ r. ⌜ Made m (orderOf order) true false c r ⌝ }
+    requires { ⌜ Smooth order m × (2 ≤ m) × (m ≤ 3) × (c .step ≤ steps) ⌝ }
+    ensures { λ r. ⌜ Made m order true false c r ⌝ }
 {
     if order == 0 {
         return axis_of(m, 0, true, false, c.step, c.node, c.order);
     }
-    axis_of(m, 1, true, false, c.step, c.node, c.order)
+    if order == 1 {
+        return axis_of(m, 1, true, false, c.step, c.node, c.order);
+    }
+    axis_of(3, 2, true, false, c.step, c.node, c.order)
 }
 
 // The stages of two or three axes: a, b where there are three, and c.
@@ -300,8 +306,8 @@ fn more_axes(
     records: &[i32],
     p: usize,
 ) -> i64
-    requires { ⌜ Workable roundHalfUp m (orderOf order) c (also three b (a ∷ [])) (length (now records)) (at (now records)) p ⌝ }
-    ensures { λ r. ⌜ WorkedOff roundHalfUp m (orderOf order) c (also three b (a ∷ [])) (at (now (records .entry))) p r ⌝ }
+    requires { ⌜ Workable roundHalfUp m order c (also three b (a ∷ [])) (length (now records)) (at (now records)) p ⌝ }
+    ensures { λ r. ⌜ WorkedOff roundHalfUp m order c (also three b (a ∷ [])) (at (now (records .entry))) p r ⌝ }
 {
     let z = last_stage(m, order, c);
     let x = axis_of(m, 0, false, true, a.step, a.node, a.order);
@@ -372,7 +378,7 @@ fn strides_of(m: usize, step: [u32; 3], l: Layout, axis: u32) -> Strides
     }
 }
 
-// The dose or slope at a step of a cell of one axis.
+// The dose or derivative at a step of a cell of one axis.
 pub fn on_line(
     s: Shape,
     records: &[i32],
@@ -391,7 +397,7 @@ pub fn on_line(
     one_axis_by_kind(m, order, x, records, l.base) as i32
 }
 
-// The dose or slope at a step of a cell of two or three axes: the stages x, y, z, a slope's axis last.
+// The dose or derivative at a step of a cell of two or three axes: the stages x, y, z, a derivative's axis last.
 pub fn on_lattice(
     s: Shape,
     records: &[i32],

@@ -30,7 +30,7 @@ use Rattle.cell.specs.Cell.{cornerEntries, cornerPlace, entryOutcome, cornersOu
 use Rattle.floats.specs.declared.FloatStep.{FloatStep}
 use Rattle.floats.specs.Step.{step, clamped}
 use Rattle.floats.proofs.StepLaws.{within, clamped-within, clamped-same}
-use Rattle.evaluate.specs.Evaluate.{Want, dose, slopeAlong}
+use Rattle.evaluate.specs.Evaluate.{Want, dose, derivativeAlong}
 use Rattle.query.specs.Queries.{Position, wantOutcome, askedOutcome, reading, positionAt, positionOutcome, positionCell, positionStep, byPosition}
 use Rattle.query.proofs.QueryLaws.{asked-parts}
 use Rattle.float_query.specs.Floats.{stepsOf, floatOutcome, byFloat, heldStep, finiteOn, withTen}
@@ -61,9 +61,10 @@ module _ (fin : ℕ → Bool) where
   kept-want : (s : Shape) (want : Want) → withTen fin (wantOutcome s want) ≡ wantOutcome s want
   unfolding wantOutcome withTen
   kept-want s dose = refl
-  kept-want s (slopeAlong l) = kept-test (ltb l (s .axes)) 12 0 refl
+  kept-want s (derivativeAlong order l) =
+      kept-first _ _ (kept-test (ltb l (s .axes)) 12 0 refl) (kept-test (ltb order (orders s)) 21 0 refl)
 
-  -- 1, 2, 3, 4 and 12
+  -- 1, 2, 3, 4, 12 and 21
   kept-asked : (s : Shape) (rs : List ℤ) (want : Want) → withTen fin (askedOutcome s rs want) ≡ askedOutcome s rs want
   unfolding askedOutcome shapeOutcome axesOutcome degreeOutcome countsOutcome
   kept-asked s rs want =

@@ -19,7 +19,7 @@ use Rattle.hermite.specs.Hermite.{steps}
 use Rattle.floats.specs.Step.{numerator}
 use Rattle.floats.proofs.StepLaws.{step-nearest}
 use Rattle.floats.proofs.WholeLaws.{whole-exact}
-use Rattle.evaluate.specs.Evaluate.{Want, dose, slopeAlong}
+use Rattle.evaluate.specs.Evaluate.{Want, dose, derivativeAlong}
 use Rattle.query.specs.Queries.{askedOutcome, reading, positionOutcome, positionCell, positionStep, byPosition}
 use Rattle.float_query.specs.declared.FloatReading.{FloatReading}
 use Rattle.float_query.specs.declared.FloatReading.the-variants.{Dose, Slope, Refused}
@@ -56,7 +56,7 @@ number (refused n p) = none
 number-is : (want : Want) (v : ℤ) → number (done (floatValue want v)) ≡ some v
 unfolding number
 number-is dose v = refl
-number-is (slopeAlong l) v = refl
+number-is (derivativeAlong order l) v = refl
 
 pub float-exact : (want : Want) (r : FloatReading) (v : ℤ) → outcomeOfFloat r ≡ inFloat want (done v) → Exactly r v
 unfolding number

@@ -4,7 +4,7 @@ use mathlib.Core.Option.{Option, some}
 use lib.IntN.{ℤ}
 use Rattle.lattice.specs.Outcome.{Outcome, done, refused}
 use Rattle.floats.specs.Whole.{wholeOf}
-use Rattle.evaluate.specs.Evaluate.{Want, dose, slopeAlong}
+use Rattle.evaluate.specs.Evaluate.{Want, dose, derivativeAlong}
 use Rattle.float_query.specs.declared.FloatReading.{FloatReading}
 use Rattle.float_query.specs.declared.FloatReading.the-variants.{Dose, Slope, Refused}
 
@@ -18,10 +18,10 @@ outcomeOfFloat (Dose x) = done (asDose (wholeOf x))
 outcomeOfFloat (Slope x) = done (asSlope (wholeOf x))
 outcomeOfFloat (Refused r) = refused (r .number) (r .place)
 
--- a whole-number answer, to be held in a float
+-- a whole-number answer, to be held in a float; of the derivatives only slopes are asked for by float
 abbrev pub floatValue : Want → ℤ → FloatValue
 floatValue dose v = asDose (some v)
-floatValue (slopeAlong l) v = asSlope (some v)
+floatValue (derivativeAlong order l) v = asSlope (some v)
 
 abbrev pub inFloat : Want → Outcome ℤ → Outcome FloatValue
 inFloat want (done v) = done (floatValue want v)

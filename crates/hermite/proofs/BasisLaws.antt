@@ -24,12 +24,14 @@ use Rattle.hermite.proofs.WeightLaws.{weight-size}
 
 -- as the code writes the two cases
 module _ (x : List ℤ) (p q r : ℤ) (order : ℕ) where
-  pub mirror-even : order ≡ 0 → p ≡ at x 0 → q ≡ pos 0 -ℤ at x 1 → r ≡ at x 2 → (o : ℕ) → o < 3
+  pub mirror-even : order < 3 → (order ≡ 1 → ⊥) → p ≡ at x 0 → q ≡ pos 0 -ℤ at x 1 → r ≡ at x 2 → (o : ℕ) → o < 3
       → at (p ∷ q ∷ r ∷ []) o ≡ mirrored (o + order) (at x o)
   unfolding mirrored
-  mirror-even e a b c o l =
-      by-3 (λ o. at (p ∷ q ∷ r ∷ []) o ≡ mirrored (o + 0) (at x o)) a (b ∙ +ℤ-idl (negℤ (at x 1))) c o l
-      ∙ ap (λ (i : ℕ). mirrored (o + i) (at x o)) (sym e)
+  mirror-even h n a b c =
+      by-3 (λ k. (k ≡ 1 → ⊥) → (o : ℕ) → o < 3 → at (p ∷ q ∷ r ∷ []) o ≡ mirrored (o + k) (at x o))
+      (λ n. by-3 (λ o. at (p ∷ q ∷ r ∷ []) o ≡ mirrored (o + 0) (at x o)) a (b ∙ +ℤ-idl (negℤ (at x 1))) c)
+      (λ n. absurd (n refl))
+      (λ n. by-3 (λ o. at (p ∷ q ∷ r ∷ []) o ≡ mirrored (o + 2) (at x o)) a (b ∙ +ℤ-idl (negℤ (at x 1))) c) order h n
 
   pub mirror-odd : order ≡ 1 → p ≡ pos 0 -ℤ at x 0 → q ≡ at x 1 → r ≡ pos 0 -ℤ at x 2 → (o : ℕ) → o < 3
       → at (p ∷ q ∷ r ∷ []) o ≡ mirrored (o + order) (at x o)
@@ -129,9 +131,9 @@ three f a b c = omega arith
 pub part-size : (k m : ℕ) → Smooth k m → 2 ≤ m → m ≤ 3 → (a b : ℤ) → natAbs a ≤ 256 → natAbs b ≤ 256 → (o : ℕ) → o < 3
     → natAbs (sum 3 (λ i. multiplier m i o *ℤ weight k a b (2 * m - 1) i)) ≤ 2 ^ 62
 part-size k m smooth m2 m3 a b ha hb o l =
-    le-trans (abs-weighted 3 (λ i. multiplier m i o) (weight k a b (2 * m - 1)) (2 ^ 43)
-    (weight-size k smooth (2 * m - 1) a b (omega arith) (omega arith) ha hb))
-    (le-trans (mul-le-mul-right (2 ^ 43) (three (λ i. natAbs (multiplier m i o)) (few 0 (lit< tt)) (few 1 (lit< tt)) (few 2 (lit< tt))))
+    le-trans (abs-weighted 3 (λ i. multiplier m i o) (weight k a b (2 * m - 1)) (2 ^ 46)
+    (weight-size k (omega (arith, smooth)) (2 * m - 1) a b (omega arith) ha hb))
+    (le-trans (mul-le-mul-right (2 ^ 46) (three (λ i. natAbs (multiplier m i o)) (few 0 (lit< tt)) (few 1 (lit< tt)) (few 2 (lit< tt))))
     (lit≤ tt))
   where
     few : (k : ℕ) → k < 3 → natAbs (multiplier m k o) ≤ 20

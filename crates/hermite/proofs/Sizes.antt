@@ -18,22 +18,23 @@ pub divisor-some : (k m N : ℕ) → 0 < N → 0 < divisor k m N
 unfolding divisor
 divisor-some k m N h = let e = one-le-pow (2 * m - 1 - k) N h in omega arith
 
--- a sum within C·B, divided by D and rounded, is at most twice B where D is at least half of C
-rounded-bound : (r s D C B : ℕ) → s ≤ C * B → 2 * (r * D) ≤ 2 * s + D → C ≤ 2 * D → 0 < D → r ≤ 2 * B
-rounded-bound r s D C B sum h c o = go (decLe r (2 * B))
+-- a sum within C·B, divided by D and rounded, is at most f times B where C is at most f times D
+rounded-bound : (f r s D C B : ℕ) → s ≤ C * B → 2 * (r * D) ≤ 2 * s + D → C ≤ f * D → 0 < D → r ≤ f * B
+rounded-bound f r s D C B sum h c o = go (decLe r (f * B))
   where
-    go : Dec (r ≤ 2 * B) → r ≤ 2 * B
+    go : Dec (r ≤ f * B) → r ≤ f * B
     go (yes l) = l
     go (no n) =
-        let more : suc (2 * B) ≤ r = omega arith in
+        let more : suc (f * B) ≤ r = omega arith in
         let f = mul-le-mul-right D more in
         let g = mul-le-mul-right B c in
         absurd (omega arith)
 
-growth-most : (k D C : ℕ) → 5 * C ≤ growth k * D → C ≤ 2 * (8 * D)
+growth-most : (k D C : ℕ) → 5 * C ≤ growth k * D → C ≤ 9 * (8 * D)
 unfolding growth
 growth-most zero D C h = omega arith
-growth-most (suc k) D C h = omega arith
+growth-most (suc zero) D C h = omega arith
+growth-most (suc (suc k)) D C h = omega arith
 
 module _ (k m N c u : ℕ) (x : ℕ → ℤ) (B : ℕ) (small : (t : ℕ) → t < 2 * m → natAbs (x (m * c + t)) ≤ B * 2 ^ (t % m)) where
   -- the sum of the sizes, which no sum on the way exceeds
@@ -53,9 +54,9 @@ module _ (k m N c u : ℕ) (x : ℕ → ℤ) (B : ℕ) (small : (t : ℕ) → t 
     some-divisor : 0 < divisor k m N
     some-divisor = divisor-some k m N some
 
-    rounded-size : (D : ℕ) → 0 < D → coarse k m N u ≤ 2 * D → natAbs (round (stageSum k m N c u x j) D) ≤ 2 * B
-    rounded-size D o g =
-        rounded-bound (natAbs (round (stageSum k m N c u x j) D)) (natAbs (stageSum k m N c u x j)) D (coarse k m N u) B (stage-size j)
+    rounded-size : (f D : ℕ) → 0 < D → coarse k m N u ≤ f * D → natAbs (round (stageSum k m N c u x j) D) ≤ f * B
+    rounded-size f D o g =
+        rounded-bound f (natAbs (round (stageSum k m N c u x j) D)) (natAbs (stageSum k m N c u x j)) D (coarse k m N u) B (stage-size j)
         (sound-size sound (stageSum k m N c u x j) D o) g o
 
     -- a dose's stage to eighths of eighths
@@ -63,8 +64,9 @@ module _ (k m N c u : ℕ) (x : ℕ → ℤ) (B : ℕ) (small : (t : ℕ) → t 
     unfolding growth
     eighth-size e =
         let g = subst (λ (i : ℕ). 5 * coarse k m N u ≤ growth i * divisor k m N) e most in
-        rounded-size (divisor k m N) some-divisor (omega arith)
+        rounded-size 2 (divisor k m N) some-divisor (omega arith)
 
     -- a stage to units of eighths
-    pub unit-size : natAbs (round (stageSum k m N c u x j) (8 * divisor k m N)) ≤ 2 * B
-    unit-size = rounded-size (8 * divisor k m N) (let o = some-divisor in omega arith) (growth-most k (divisor k m N) (coarse k m N u) most)
+    pub unit-size : natAbs (round (stageSum k m N c u x j) (8 * divisor k m N)) ≤ 9 * B
+    unit-size =
+        rounded-size 9 (8 * divisor k m N) (let o = some-divisor in omega arith) (growth-most k (divisor k m N) (coarse k m N u) most)

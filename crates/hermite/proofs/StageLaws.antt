@@ -14,7 +14,7 @@ use mir.Syntax.{w64}
 use mir.Val.{SFits}
 use mir.Facts.{toZ-ofZ}
 use Rattle.arith.proofs.Abs.{abs-add, sfits-abs}
-use Rattle.arith.proofs.Choices.{pick-true, pick-false, on-pick, by-m}
+use Rattle.arith.proofs.Choices.{pick-true, pick-false, on-pick, by-order}
 use Rattle.arith.proofs.Sums.{sum-ext, total-ext, dot-sum, sum-three, total-three, total-ends}
 use Rattle.arith.specs.Choice.{pick}
 use Rattle.arith.specs.Int.{roundHalfUp}
@@ -57,11 +57,9 @@ folds-none {k} {m} {u} f o h l = (
 
 -- ---- a stage by its basis
 
-growth-small : (k m : ℕ) → Smooth k m → 2 ≤ m → m ≤ 3 → growth k * divisor k m steps ≤ 2 ^ 44
+growth-small : (m : ℕ) → 2 ≤ m → m ≤ 3 → (k : ℕ) → Smooth k m → growth k * divisor k m steps ≤ 2 ^ 44
 unfolding growth divisor
-growth-small zero m h = by-m (λ m. growth 0 * divisor 0 m steps ≤ 2 ^ 44) (lit≤ tt) (lit≤ tt) m
-growth-small (suc zero) m h = by-m (λ m. growth 1 * divisor 1 m steps ≤ 2 ^ 44) (lit≤ tt) (lit≤ tt) m
-growth-small (suc (suc k)) m h = absurd (omega arith)
+growth-small = by-order (λ m k. growth k * divisor k m steps ≤ 2 ^ 44) (lit≤ tt) (lit≤ tt) (lit≤ tt) (lit≤ tt) (lit≤ tt)
 
 -- numbers of two ends, which are the numbers y of a cell
 module _ {k m u : ℕ} {b : Basis} (f : Folds k m u b) (low high y : ℕ → ℤ)
@@ -107,7 +105,7 @@ module _ {k m u : ℕ} {b : Basis} (f : Folds k m u b) (low high y : ℕ → ℤ
     pub stage-fits : B ≤ 2 ^ 21 → load b low high ≤ 2 ^ 63 - 2 ^ 45
     stage-fits h =
         let c = mul-le-mul (le-trans (coarse-growth k m steps u (f .smooth) (f .m-low) (f .m-high) (f .step))
-        (growth-small k m (f .smooth) (f .m-low) (f .m-high))) h in
+        (growth-small m (f .m-low) (f .m-high) k (f .smooth))) h in
         let l = load-size in
         omega arith
 
@@ -147,7 +145,7 @@ shifted k m from to smooth m2 m3 =
     let f = few-eighths from in
     let t = few-eighths to in
     let n = 2 * m - 1 - k in
-    let less : 3 ≤ 8 * (2 * m - 1 - k) = omega arith in
+    let less : 3 ≤ 8 * (2 * m - 1 - k) = omega (arith, smooth) in
     record {
       low = omega arith;
       is =

@@ -1,6 +1,5 @@
 -- The table's rows; what a stage takes of an end as a polynomial in the distances; at step 0 and at step N a stage is a number of that end
--- alone: the value for a dose,
--- D for a slope. So a stage depends on the point and not on the cell.
+-- alone: the value for a dose, D for a slope, S for a curvature. So a stage depends on the point and not on the cell.
 use mathlib.Core.Path.{_≡_, refl, sym, ap, ap₂, subst, _∙_, fun-ext}
 use mathlib.Core.List.{[], _∷_}
 use Prim.Native.Nat.{ℕ, zero, suc, _+_, _*_, _-_, _≤_, _<_}

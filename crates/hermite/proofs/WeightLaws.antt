@@ -2,11 +2,11 @@
 use mathlib.Core.Path.{_≡_, sym, ap, ap₂, _∙_}
 use mathlib.Core.List.{[], _∷_}
 use Prim.Native.Nat.{ℕ, zero, suc, _+_, _*_, _-_, _^_, _≤_, _<_}
-use native.Mathlib.Nat.{le-trans, le-of-eq, mul-comm, pow-suc, pow-le-pow-right, sub-zero}
+use native.Mathlib.Nat.{le-trans, le-of-eq, mul-comm, mul-le-mul-right, pow-suc, pow-le-pow-right, sub-zero}
 use native.Mathlib.Omega.{arith}
 use lib.Dec.{lit≤, lit<}
 use lib.Pow.{pow-add}
-use lib.IntN.{ℤ, pos, _-ℤ_, _*ℤ_, natAbs, zero-*ℤ}
+use lib.IntN.{ℤ, pos, negsuc, _-ℤ_, _*ℤ_, natAbs, zero-*ℤ}
 use mir.Syntax.{w64}
 use mir.Val.{SFits}
 use mir.Facts.{toZ-ofZ}
@@ -17,7 +17,9 @@ use Rattle.arith.proofs.Laws.{*ℤ-assoc, pos-one-*ℤ}
 use Rattle.arith.proofs.Order.{subℕ-pos}
 use Rattle.arith.proofs.Quote.{quotes, ring! }
 use Rattle.lattice.specs.Buffer.{at}
+use Rattle.arith.specs.Sum.{sum}
 use Rattle.hermite.specs.Hermite.{weight}
+use Rattle.hermite.specs.Stage.{RowsOn}
 use Rattle.arith.proofs.Choices.{by-3}
 use Rattle.hermite.proofs.DotLaws.{held}
 
@@ -76,6 +78,17 @@ module _ (a b : ℤ) where
     third = ap (λ y. pos 2 *ℤ product m 1 -ℤ y *ℤ product m 2) (subℕ-pos (2 * m - 1) 2 (omega arith)) ∙ slope-weight m 2;
   }
 
+  -- of a curvature, in degree 5: three rows by the products of degree 3
+  pub curvature-weights : (x y z : ℤ) → x ≡ a *ℤ (a *ℤ a) → y ≡ a *ℤ (a *ℤ b) → z ≡ b *ℤ (a *ℤ b) → (r : ℕ → ℤ)
+      → RowsOn (at (pos 20 ∷ pos 0 ∷ pos 0 ∷ [])) (at (negsuc 7 ∷ pos 12 ∷ pos 0 ∷ [])) (at (pos 2 ∷ negsuc 11 ∷ pos 6 ∷ []))
+      (at (x ∷ y ∷ z ∷ [])) r
+      → (k : ℕ) → k < 3 → r k ≡ weight 2 a b 5 k
+  unfolding weight sum
+  curvature-weights x y z p q s r h =
+      by-3 (λ k. r k ≡ weight 2 a b 5 k) (h .first ∙ rw (p, q, s) (ring! (a ∷ b ∷ []) (search quotes depth 40) tt))
+      (h .second ∙ rw (p, q, s) (ring! (a ∷ b ∷ []) (search quotes depth 40) tt))
+      (h .third ∙ rw (p, q, s) (ring! (a ∷ b ∷ []) (search quotes depth 40) tt))
+
 -- three weights as an array, for the order of a branch
 pub weights-row : (order k : ℕ) → order ≡ k → (a b : ℤ) (d : ℕ) (x y z : ℤ) → x ≡ weight k a b d 0 → y ≡ weight k a b d 1
     → z ≡ weight k a b d 2
@@ -98,17 +111,22 @@ pub product-size : (m : ℕ) → 2 ≤ m → m ≤ 3 → (a b : ℤ) → natAbs 
     → natAbs (product a b m k) ≤ 2 ^ 40
 product-size m m2 m3 a b ha hb k l = le-trans (pair-size a b (2 * m - 2 - k) k ha hb (omega arith)) (lit≤ tt)
 
-pub weight-size : (k : ℕ) → k ≤ 1 → (d : ℕ) (a b : ℤ) → 2 ≤ d → d ≤ 5 → natAbs a ≤ 256 → natAbs b ≤ 256 → (i : ℕ) → i < 3
-    → natAbs (weight k a b d i) ≤ 2 ^ 43
-unfolding weight
-weight-size zero h d a b g l ha hb i p = le-trans (pair-size a b (d - i) i ha hb (omega arith)) (lit≤ tt)
-weight-size (suc zero) h d a b g l ha hb i p =
-    let up = abs-mul-le (pos i) (a ^ℤ (d - 1 - (i - 1)) *ℤ b ^ℤ (i - 1)) {A = 2} (omega arith)
-    (pair-size a b (d - 1 - (i - 1)) (i - 1) ha hb (omega arith)) in
-    let down = abs-mul-le (pos (d - i)) (a ^ℤ (d - 1 - i) *ℤ b ^ℤ i) {A = 5} (omega arith)
-    (pair-size a b (d - 1 - i) i ha hb (omega arith)) in
-    le-trans (abs-minus (pos i *ℤ (a ^ℤ (d - 1 - (i - 1)) *ℤ b ^ℤ (i - 1))) (pos (d - i) *ℤ (a ^ℤ (d - 1 - i) *ℤ b ^ℤ i))) (omega arith)
-weight-size (suc (suc k)) h d a b g l ha hb i p = absurd (omega arith)
+-- each derivative is at most seven times as large as the one before
+module _ (a b : ℤ) (ha : natAbs a ≤ 256) (hb : natAbs b ≤ 256) where
+  each-size : (k d : ℕ) → d ≤ 5 → (i : ℕ) → i < 3 → natAbs (weight k a b d i) ≤ 8 ^ k * 2 ^ 40
+  unfolding weight
+  each-size zero d l i p = le-trans (pair-size a b (d - i) i ha hb (omega arith)) (lit≤ tt)
+  each-size (suc k) d l i p =
+      let up = abs-mul-le (pos i) (weight k a b (d - 1) (i - 1)) {A = 2} (omega arith)
+      (each-size k (d - 1) (omega arith) (i - 1) (omega arith)) in
+      let down = abs-mul-le (pos (d - i)) (weight k a b (d - 1) i) {A = 5} (omega arith) (each-size k (d - 1) (omega arith) i p) in
+      let e = pow-suc 8 k in
+      le-trans (abs-minus (pos i *ℤ weight k a b (d - 1) (i - 1)) (pos (d - i) *ℤ weight k a b (d - 1) i)) (omega arith)
+
+pub weight-size : (k : ℕ) → k ≤ 2 → (d : ℕ) (a b : ℤ) → d ≤ 5 → natAbs a ≤ 256 → natAbs b ≤ 256 → (i : ℕ) → i < 3
+    → natAbs (weight k a b d i) ≤ 2 ^ 46
+weight-size k h d a b l ha hb i p =
+    le-trans (each-size a b ha hb k d l i p) (le-trans (mul-le-mul-right (2 ^ 40) (pow-le-pow-right {n = 8} (lit< tt) h)) (lit≤ tt))
 
 -- ---- of numbers as the machine holds them
 

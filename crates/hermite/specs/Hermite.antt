@@ -67,7 +67,8 @@ endRule back m x k = pick back (solved m x k) (sum m (λ o. multiplier m k o *�
 abbrev pub steps : ℕ
 steps = 256
 
--- weight i of degree d, where a = N − u and b = u, and its derivatives: order 0 for a dose, order 1 along the axis of a slope
+-- weight i of degree d, where a = N − u and b = u, and its derivatives: order 0 for a dose, order 1 along the axis of a slope, order 2
+-- along that of a curvature
 unfoldable pub weight : ℕ → ℤ → ℤ → ℕ → ℕ → ℤ
 weight zero a b d i = a ^ℤ (d - i) *ℤ b ^ℤ i
 weight (suc order) a b d i = pos i *ℤ weight order a b (d - 1) (i - 1) -ℤ pos (d - i) *ℤ weight order a b (d - 1) i
@@ -75,7 +76,7 @@ weight (suc order) a b d i = pos i *ℤ weight order a b (d - 1) (i - 1) -ℤ po
 unfoldable pub weightAt : ℕ → ℕ → ℕ → ℕ → ℕ → ℤ
 weightAt order m N u i = weight order (pos (N - u)) (pos u) (2 * m - 1) i
 
--- 2·N^d for a dose, 2·N^(d−1) for a slope
+-- 2·N^d for a dose, 2·N^(d−1) for a slope, 2·N^(d−2) for a curvature
 unfoldable pub divisor : ℕ → ℕ → ℕ → ℕ
 divisor order m N = 2 * N ^ (2 * m - 1 - order)
 

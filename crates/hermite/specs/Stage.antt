@@ -11,9 +11,9 @@ use Rattle.lattice.specs.Buffer.{at}
 use Rattle.hermite.specs.declared.Basis.{Basis}
 use Rattle.hermite.specs.Hermite.{steps, basis}
 
--- the derivatives that are asked for: of order 0 for a dose, of order 1 for a slope
+-- the derivatives that can be asked for: those to which cells join smoothly, up to order 1 in degree 3 and up to order 2 in degree 5
 abbrev pub Smooth : ℕ → ℕ → Type 0
-Smooth order m = order ≤ 1
+Smooth order m = order < m
 
 -- three rows by the same three numbers
 pub record RowsOn (a b c x r : ℕ → ℤ) : Type 0 where

@@ -57,11 +57,24 @@ fn products(m: usize, a: i64, b: i64) -> [i64; 3]
     [c * c, c * d, d * d]
 }
 
-// The first three weights of a dose, or of a slope for order 1, a and b being the distances 256 - u and u.
+// The first three weights of a curvature, in degree 5.
+fn curvature_weights(a: i64, b: i64) -> [i64; 3]
+    requires { ⌜ (natAbs a ≤ 256) × (natAbs b ≤ 256) ⌝ }
+    ensures { λ r. ⌜ ((k : ℕ) → k < 3 → at r k ≡ weight 2 a b 5 k) ⌝ }
+{
+    let c = a * a;
+    let d = a * b;
+    by_rows([20, 0, 0], [-8, 12, 0], [2, -12, 6], [a * c, a * d, b * d])
+}
+
+// The first three weights of a derivative, of a dose for order 0, a and b being the distances 256 - u and u.
 fn weights(order: u32, m: usize, a: i64, b: i64) -> [i64; 3]
     requires { ⌜ Smooth order m × (2 ≤ m) × (m ≤ 3) × (natAbs a ≤ 256) × (natAbs b ≤ 256) ⌝ }
     ensures { λ r. ⌜ ((k : ℕ) → k < 3 → at r k ≡ weight order a b (2 * m - 1) k) ⌝ }
 {
+    if order == 2 {
+        return curvature_weights(a, b);
+    }
     let p = products(m, a, b);
     let x = p[0];
     let y = p[1];
@@ -119,13 +132,13 @@ fn end_basis(order: u32, m: usize, a: i64, b: i64) -> [i64; 3]
 
 // Numbers of the high end: order 1 is subtracted, and a derivative of odd order changes its sign.
 fn mirror(order: u32, x: [i64; 3]) -> [i64; 3]
-    requires { ⌜ (order ≤ 1) × ((o : ℕ) → o < 3 → natAbs (at x o) ≤ 2 ^ 62) ⌝ }
+    requires { ⌜ (order < 3) × ((o : ℕ) → o < 3 → natAbs (at x o) ≤ 2 ^ 62) ⌝ }
     ensures { λ r. ⌜ ((o : ℕ) → o < 3 → at r o ≡ mirrored (o + order) (at x o)) ⌝ }
 {
-    if order == 0 {
-        return [x[0], 0 - x[1], x[2]];
+    if order == 1 {
+        return [0 - x[0], x[1], 0 - x[2]];
     }
-    [0 - x[0], x[1], 0 - x[2]]
+    [x[0], 0 - x[1], x[2]]
 }
 
 // What a stage takes of each number of the low and of the high end.

@@ -1,7 +1,7 @@
-// Doses and slopes in whole numbers, by position and by cell.
+// Doses, slopes and curvatures in whole numbers, by position and by cell.
 ghost use mathlib.Core.Path.{_≡_};
 ghost use Rattle.cell.specs.Cell.{placeAt};
-ghost use Rattle.evaluate.specs.Evaluate.{dose, slopeAlong};
+ghost use Rattle.evaluate.specs.Evaluate.{dose, slopeAlong, curvatureAlong};
 ghost use Rattle.query.specs.Queries.{byCell, positionAt, byPosition};
 ghost use Rattle.query.specs.Answers.{outcomeOfReading};
 ghost use Rattle.lukhtari.specs.Host.{wholeFrom};
@@ -65,6 +65,27 @@ pub extern "C" fn lukhtari_slope(
     whole_of(query::at_position(shape, records, q))
 }
 
+// Curvature along an axis at a table position.
+#[no_mangle]
+pub extern "C" fn lukhtari_curvature(
+    shape: Shape,
+    records: &[i32],
+    position: Position,
+    axis: u32,
+) -> Whole
+    ensures { λ r. ⌜ r ≡ wholeFrom (byPosition shape (now (records .entry)) (curvatureAlong axis) (positionAt (position .at))) ⌝ }
+{
+    let at = position.at;
+    let q = Query {
+        position: at,
+        derivative: Derivative {
+            order: 2,
+            axis: axis,
+        },
+    };
+    whole_of(query::at_position(shape, records, q))
+}
+
 // Dose at the steps u within a cell.
 #[no_mangle]
 pub extern "C" fn lukhtari_dose_in_cell(
@@ -103,6 +124,30 @@ pub extern "C" fn lukhtari_slope_in_cell(
         step: step,
         derivative: Derivative {
             order: 1,
+            axis: axis,
+        },
+    };
+    whole_of(query::in_cell(shape, records, q))
+}
+
+// Curvature along an axis at the steps u within a cell.
+#[no_mangle]
+pub extern "C" fn lukhtari_curvature_in_cell(
+    shape: Shape,
+    records: &[i32],
+    cell: Index,
+    u: Index,
+    axis: u32,
+) -> Whole
+    ensures { λ r. ⌜ r ≡ wholeFrom (byCell shape (now (records .entry)) (curvatureAlong axis) (placeAt (cell .at)) (placeAt (u .at))) ⌝ }
+{
+    let at = cell.at;
+    let step = u.at;
+    let q = CellQuery {
+        cell: at,
+        step: step,
+        derivative: Derivative {
+            order: 2,
             axis: axis,
         },
     };

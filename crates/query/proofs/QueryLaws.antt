@@ -20,21 +20,36 @@ use Rattle.lattice.specs.Outcome.{Outcome, Check, done, refused, refuseUnless, 
 use Rattle.lattice.specs.Shape.{count, orders, entries, size, shapeOutcome, Shaped}
 use Rattle.lattice.specs.Axes.{Place, OnUsed}
 use Rattle.lattice.specs.Records.{recordsField}
-use Rattle.lattice.proofs.ShapeLaws.{shaped}
+use Rattle.lattice.proofs.ShapeLaws.{orders-range, shaped}
 use Rattle.lattice.proofs.OutcomeLaws.{first-done, first-passed, refused-first, passed-done, done-same, refuse-done, passes, firstOf-each}
 use Rattle.hermite.specs.Hermite.{steps}
+use Rattle.hermite.specs.Stage.{Smooth}
 use Rattle.cell.specs.declared.Layout.{Layout}
 use Rattle.cell.specs.Cell.{placeAt, cellOutcome, cornersOutcome, Accepted, Laid, base, nodeStride}
 use Rattle.cell.proofs.CellLaws.{used-passed, all-passed, all-pass, accepted}
 use Rattle.evaluate.specs.Stages.{Ready}
 use Rattle.evaluate.proofs.Answering.{answer-fits}
-use Rattle.evaluate.specs.Evaluate.{Want, dose, slopeAlong, lastAxis, askAt, answer}
+use Rattle.evaluate.specs.Evaluate.{Want, dose, derivativeAlong, orderWanted, lastAxis, askAt, answer}
 use Rattle.query.specs.Queries.{wantOutcome, askedOutcome, testedOutcome, reading, stepsOutcome, byCell, Position, positionOutcome, cellOf}
+
+-- a derivative that is not refused 12 or 21
+pub want-parts : (s : Shape) (order a : ℕ) → wantOutcome s (derivativeAlong order a) ≡ done tt → (a < s .axes) × Smooth order (orders s)
+unfolding wantOutcome
+want-parts s order a h =
+    let f = first-done (refuseUnless (ltb a (s .axes)) 12 0) (refuseUnless (ltb order (orders s)) 21 0) tt h in (
+      ltb-true a (s .axes) (refuse-done (ltb a (s .axes)) 12 0 (f .0)),
+      ltb-true order (orders s) (refuse-done (ltb order (orders s)) 21 0 (f .1)),
+    )
 
 pub last-used : (s : Shape) (want : Want) → 1 ≤ s .axes → wantOutcome s want ≡ done tt → lastAxis (s .axes) want < s .axes
 unfolding wantOutcome lastAxis
 last-used s dose l h = omega arith
-last-used s (slopeAlong a) l h = ltb-true a (s .axes) (refuse-done (ltb a (s .axes)) 12 0 h)
+last-used s (derivativeAlong order a) l h = want-parts s order a h .0
+
+pub want-smooth : (s : Shape) (want : Want) → wantOutcome s want ≡ done tt → Smooth (orderWanted want) (orders s)
+unfolding wantOutcome orderWanted
+want-smooth s dose h = omega (arith, orders-range (s .degree) .0)
+want-smooth s (derivativeAlong order a) h = want-parts s order a h .1
 
 -- steps that are not refused 11, and back
 pub step-inside : (s : Shape) (step : Place) → Shaped s → stepsOutcome s step ≡ done tt → (a : ℕ) → a < s .axes → step a ≤ steps
@@ -60,7 +75,7 @@ pub record Asked (s : Shape) (rs : List ℤ) (want : Want) (cell step : Place) (
   pub corners : cornersOutcome s rs cell ≡ done tt
   pub is : answer (askAt s want cell step) (recordsField s rs) ≡ v
 
--- what 1, 2, 3, 4 and 12 say of a query that they do not refuse
+-- what 1, 2, 3, 4, 12 and 21 say of a query that they do not refuse
 pub record Common (s : Shape) (rs : List ℤ) (want : Want) : Type 0 where
   pub shape : shapeOutcome s ≡ done tt
   pub long : length rs ≡ size s
@@ -169,6 +184,7 @@ module _ (s : Shape) (rs : List ℤ) (want : Want) (cell : List ℕ) (step : Pla
         laid = laid;
         steps-low = step-inside s step (n .shape) (f .inside);
         last = last-used s want (n .shape .axes-low) (a .wanted);
+        smooth = want-smooth s want (a .wanted);
         corners = passed-done (cornersOutcome s rs (placeAt cell)) k;
       }
 

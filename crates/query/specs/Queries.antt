@@ -10,24 +10,24 @@ use Rattle.arith.specs.Choice.{pick}
 use Rattle.lattice.specs.declared.Shape.{Shape}
 use Rattle.lattice.specs.Outcome.{Outcome, Check, done, refuseUnless, first, firstOf, onAxes}
 use Rattle.lattice.specs.Buffer.{at}
-use Rattle.lattice.specs.Shape.{count, size, shapeOutcome}
+use Rattle.lattice.specs.Shape.{count, orders, size, shapeOutcome}
 use Rattle.lattice.specs.Axes.{Place}
 use Rattle.lattice.specs.Records.{recordsField}
 use Rattle.hermite.specs.Hermite.{steps}
 use Rattle.cell.specs.Cell.{cellOutcome, cornersOutcome}
-use Rattle.evaluate.specs.Evaluate.{Want, dose, slopeAlong, askAt, answer}
+use Rattle.evaluate.specs.Evaluate.{Want, dose, derivativeAlong, askAt, answer}
 
--- 12: slope axis not used
+-- 12: the derivative's axis is not used; then 21: its order is m or more, which order 2 is in degree 3
 unfoldable pub wantOutcome : Shape → Want → Check
 wantOutcome s dose = done tt
-wantOutcome s (slopeAlong l) = refuseUnless (ltb l (s .axes)) 12 0
+wantOutcome s (derivativeAlong order l) = first (refuseUnless (ltb l (s .axes)) 12 0) (refuseUnless (ltb order (orders s)) 21 0)
 
--- 1, 2, 3, 4, 12, common to all queries
+-- 1, 2, 3, 4, 12, 21, common to all queries
 unfoldable pub askedOutcome : Shape → List ℤ → Want → Check
 askedOutcome s rs want =
     first (shapeOutcome s) (first (refuseUnless (eqb (length rs) (size s)) 4 0) (wantOutcome s want))
 
--- 5 on the corners, then the dose or slope
+-- 5 on the corners, then the dose or derivative
 unfoldable pub reading : Shape → List ℤ → Want → Place → Place → Outcome ℤ
 reading s rs want cell step = first (cornersOutcome s rs cell) (done (answer (askAt s want cell step) (recordsField s rs)))
 

@@ -1,4 +1,4 @@
-// Doses and slopes by cell and in-cell step, and by table position.
+// Doses, slopes and curvatures by cell and in-cell step, and by table position.
 ghost use mathlib.Core.Path.{_≡_};
 ghost use mathlib.Core.Bool.{false};
 ghost use mathlib.Core.List.{List, [], _∷_};
@@ -12,9 +12,10 @@ ghost use Rattle.lattice.specs.Answers.{outcomeOf};
 ghost use Rattle.lattice.specs.Shape.{size, Shaped};
 ghost use Rattle.hermite.specs.Hermite.{steps};
 ghost use Rattle.cell.specs.Cell.{placeAt, cornersOutcome, Accepted, Laid};
+ghost use Rattle.evaluate.specs.Evaluate.{derivativeAlong};
 ghost use Rattle.evaluate.specs.Wants.{wanted, wantOf};
 ghost use Rattle.query.specs.Answers.{outcomeOfReading};
-ghost use Rattle.query.specs.Queries.{askedOutcome, testedOutcome, reading, stepsOutcome, byCell, positionAt, cellOf, byPosition};
+ghost use Rattle.query.specs.Queries.{wantOutcome, askedOutcome, testedOutcome, reading, stepsOutcome, byCell, positionAt, cellOf, byPosition};
 use cell::Layout;
 use evaluate::Derivative;
 use lattice::Check;
@@ -37,7 +38,17 @@ pub enum Reading {
     Refused(Refusal),
 }
 
-// Refusals 2, 3, 4 and 12 on n axes, of `given` records' entries.
+// Refusals 12 and 21 of a derivative on n axes.
+fn check_derivative(n: u32, s: Shape, order: u32, axis: u32) -> Check
+    requires { ⌜ n ≡ s .axes ⌝ }
+    ensures { λ r. ⌜ outcomeOf r ≡ wantOutcome s (derivativeAlong order axis) ⌝ }
+{
+    let m = lattice::orders(s.degree);
+    let used = lattice::refuse_unless(axis < n, 12, 0);
+    lattice::refuse_after(used, (order as usize) < m, 21, 0)
+}
+
+// Refusals 2, 3, 4, 12 and 21 on n axes, of `given` records' entries.
 fn check_asked(n: u32, s: Shape, given: usize, order: u32, axis: u32) -> Check
     requires { ⌜ (1 ≤ n) × (n ≤ 3) × (n ≡ s .axes) ⌝ }
     ensures { λ r. ⌜ ((rs : List ℤ) → length rs ≡ given → outcomeOf r ≡ askedOutcome s rs (wantOf order axis)) ⌝ }
@@ -53,7 +64,11 @@ fn check_asked(n: u32, s: Shape, given: usize, order: u32, axis: u32) -> Check
     if order == 0 {
         return Check::Done;
     }
-    lattice::refuse_unless(axis < n, 12, 0)
+    // Order 1 is below m in both degrees: one test less for a slope.
+    if order == 1 {
+        return lattice::refuse_unless(axis < n, 12, 0);
+    }
+    check_derivative(n, s, order, axis)
 }
 
 fn step_allowed(n: u32, step: u32, axis: u32) -> bool
@@ -72,7 +87,7 @@ pub fn check_steps(n: u32, s: Shape, u: u32, v: u32, w: u32) -> Check
     lattice::refuse_after(on_y, step_allowed(n, w, 2), 11, 2)
 }
 
-// Refusals 2, 3, 4, 12, 14 and 11 on n axes.
+// Refusals 2, 3, 4, 12, 21, 14 and 11 on n axes.
 fn check_query(
     n: u32,
     s: Shape,
@@ -100,7 +115,7 @@ fn check_query(
     check_steps(n, s, u, v, w)
 }
 
-// Refusals 1, 2, 3, 4, 12, 14 and 11; the number of axes is a constant where the tests are made.
+// Refusals 1, 2, 3, 4, 12, 21, 14 and 11; the number of axes is a constant where the tests are made.
 fn check_by_axes(
     s: Shape,
     given: usize,
@@ -142,7 +157,7 @@ fn beyond(s: Shape, records: &[i32], cell: [u32; 3], l: Layout) -> Reading
     }
 }
 
-// Refusal 5, or the dose or slope, of one axis.
+// Refusal 5, or the dose or derivative, of one axis.
 fn read_line(
     s: Shape,
     records: &[i32],
@@ -162,7 +177,7 @@ fn read_line(
     beyond(s, records, cell, l)
 }
 
-// Refusal 5, or the dose or slope, of two or three axes.
+// Refusal 5, or the dose or derivative, of two or three axes.
 fn read_lattice(
     s: Shape,
     records: &[i32],
@@ -183,7 +198,7 @@ fn read_lattice(
     beyond(s, records, cell, l)
 }
 
-// The dose or slope at step (u, v, w) of cell (i, j, k).
+// The dose or derivative at step (u, v, w) of cell (i, j, k).
 fn read(
     s: Shape,
     records: &[i32],
@@ -212,7 +227,7 @@ fn read(
     }
 }
 
-// The dose or slope at a step of a cell.
+// The dose or derivative at a step of a cell.
 pub fn in_cell(s: Shape, records: &[i32], q: CellQuery) -> Reading
     ensures { λ r. ⌜ outcomeOfReading r ≡ byCell s (now (records .entry)) (wanted (q .derivative)) (placeAt (q .cell)) (placeAt (q .step)) ⌝ }
 {
@@ -243,7 +258,7 @@ pub fn cell_of(count: u32, p: u32) -> u32
     if c < last { c } else { last }
 }
 
-// The dose or slope at a position; one below 0 stands in two's complement beyond every table.
+// The dose or derivative at a position; one below 0 stands in two's complement beyond every table.
 pub fn at_position(s: Shape, records: &[i32], q: Query) -> Reading
     ensures { λ r. ⌜ outcomeOfReading r ≡ byPosition s (now (records .entry)) (wanted (q .derivative)) (positionAt (q .position)) ⌝ }
 {

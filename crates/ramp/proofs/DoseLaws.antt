@@ -21,13 +21,13 @@ use Rattle.lattice.specs.Digits.{number}
 use Rattle.lattice.specs.Shape.{count, orders, entries}
 use Rattle.lattice.specs.Axes.{origin, axes, without}
 use Rattle.lattice.specs.Records.{nodeNumber, recordsField}
-use Rattle.lattice.proofs.ShapeLaws.{pow-one, pow-two}
+use Rattle.lattice.proofs.ShapeLaws.{orders-range, pow-one, pow-two}
 use Rattle.cell.specs.declared.Layout.{Layout}
 use Rattle.cell.specs.Cell.{placeAt, Laid, base, nodeStride, orderStride}
 use Rattle.cell.specs.Corners.{oneCell}
 use Rattle.cell.proofs.OneCell.{one-shaped, one-accepted}
 use Rattle.evaluate.specs.declared.Strides.{Strides}
-use Rattle.evaluate.specs.Evaluate.{dose, lastAxis, askAt, answer}
+use Rattle.evaluate.specs.Evaluate.{dose, orderWanted, lastAxis, askAt, answer}
 use Rattle.evaluate.specs.Stages.{stridesOf, Workable, WorkedOff, Ready}
 use Rattle.evaluate.proofs.AnswerLaws.{order-last}
 use Rattle.evaluate.proofs.Answering.{IsAxis, AreAxes, workable-in, answer-in, fits, cast}
@@ -62,7 +62,7 @@ module _ (s : Shape) (held : List ℤ) (xs : List ℕ) (f : Readable s held (pla
   }
 
   ready : Ready (one s) held origin (placeAt xs) dose layout
-  unfolding oneCell lastAxis
+  unfolding oneCell lastAxis orderWanted
   ready =
       let low = f .shape .axes-low in
       let high = f .shape .axes-high in
@@ -73,6 +73,7 @@ module _ (s : Shape) (held : List ℤ) (xs : List ℕ) (f : Readable s held (pla
         laid = laid;
         steps-low = f .steps-low;
         last = omega arith;
+        smooth = let h = orders-range (s .degree) .0 in omega arith;
         corners = f .within;
       }
 

@@ -56,6 +56,14 @@ static void slope_in_cell(void) {
     number = lukhtari_slope_in_cell(shape, records, entries, cell, u, slope_axis).number;
 }
 
+static void curvature(void) {
+    number = lukhtari_curvature(shape, records, entries, position, slope_axis).number;
+}
+
+static void curvature_in_cell(void) {
+    number = lukhtari_curvature_in_cell(shape, records, entries, cell, u, slope_axis).number;
+}
+
 static void dose_float(void) {
     number = lukhtari_dose_float(shape, records, entries, float_position).number;
 }
@@ -88,6 +96,8 @@ enum {
     SLOPE,
     DOSE_IN_CELL,
     SLOPE_IN_CELL,
+    CURVATURE,
+    CURVATURE_IN_CELL,
     DOSE_FLOAT,
     SLOPE_FLOAT,
     WRITE,
@@ -109,6 +119,8 @@ static const struct {
     {"slope", slope, LUKHTARI_STACK_QUERY},
     {"dose_in_cell", dose_in_cell, LUKHTARI_STACK_QUERY},
     {"slope_in_cell", slope_in_cell, LUKHTARI_STACK_QUERY},
+    {"curvature", curvature, LUKHTARI_STACK_QUERY},
+    {"curvature_in_cell", curvature_in_cell, LUKHTARI_STACK_QUERY},
     {"dose_float", dose_float, LUKHTARI_STACK_QUERY},
     {"slope_float", slope_float, LUKHTARI_STACK_QUERY},
     {"write", write_file, LUKHTARI_STACK_FILE},
@@ -181,19 +193,25 @@ static void prepare(uint32_t axes, uint32_t degree) {
     float_position.z = axes > 2 ? 0.3f : 0;
 }
 
+/* A cubic table has no curvature, whatever else is to be expected. */
+static uint32_t curved(int which, uint32_t otherwise) {
+    int curvature = which == CURVATURE || which == CURVATURE_IN_CELL;
+    return curvature && shape.degree == 3 ? LUKHTARI_REFUSED_CURVATURE_DEGREE : otherwise;
+}
+
 /* Every call on a table: with its full result, then refused for a number that it reads. */
 static int measure_table(uint32_t axes, uint32_t degree) {
     int right = 1;
     prepare(axes, degree);
     for (int which = 0; which < CALLS; which++) {
         for (slope_axis = 0; slope_axis < axes; slope_axis++) {
-            right &= measure(which, LUKHTARI_NOT_REFUSED);
+            right &= measure(which, curved(which, LUKHTARI_NOT_REFUSED));
         }
     }
     slope_axis = axes - 1;
     records[0] = LUKHTARI_SAMPLE_LIMIT + 1;
     for (int which = DOSE; which <= SLOPE_FLOAT; which++) {
-        right &= measure(which, LUKHTARI_REFUSED_BEYOND_LIMIT);
+        right &= measure(which, curved(which, LUKHTARI_REFUSED_BEYOND_LIMIT));
     }
     right &= measure(COEFFICIENTS, LUKHTARI_REFUSED_BEYOND_LIMIT);
     right &= measure(RAMP, LUKHTARI_REFUSED_BEYOND_LIMIT);

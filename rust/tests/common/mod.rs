@@ -5,6 +5,7 @@
 use crate::model;
 use lukhtari::Shape;
 use model::query::Where;
+use model::Want;
 use std::env;
 use std::fmt::Debug;
 use std::path::{Path, PathBuf};
@@ -124,24 +125,38 @@ pub fn corner_entries(shape: Shape, cell: [u32; 3]) -> Vec<(usize, i32)> {
     entries
 }
 
-// A query for a dose, or for a slope along an axis.
+// A query for a dose, or for a slope or curvature along an axis.
 #[derive(Clone, Debug)]
 pub struct Query {
     pub shape: Shape,
     pub records: Vec<i32>,
     pub at: Where,
-    pub slope: Option<u32>,
+    pub want: Want,
 }
 
 impl Query {
-    pub fn new(shape: Shape, records: Vec<i32>, at: Where, slope: Option<u32>) -> Query {
+    pub fn new(shape: Shape, records: Vec<i32>, at: Where, want: Want) -> Query {
         Query {
             shape,
             records,
             at,
-            slope,
+            want,
         }
     }
+}
+
+// A dose and all slopes.
+pub fn dose_and_slopes(axes: u32) -> Vec<Want> {
+    (0..axes).map(Want::Slope).chain([Want::Dose]).collect()
+}
+
+// All that a shape has: a dose, all slopes and, if it is quintic, all curvatures.
+pub fn wants(shape: Shape) -> Vec<Want> {
+    let mut all = dose_and_slopes(shape.axes);
+    if shape.degree == 5 {
+        all.extend((0..shape.axes).map(Want::Curvature));
+    }
+    all
 }
 
 // The model's shape.
@@ -165,13 +180,15 @@ pub fn outcome<T>(answer: &model::Answer<T>) -> model::Answer<()> {
     answer.as_ref().map(|_| ()).map_err(|refusal| *refusal)
 }
 
-// Largest distance of a dose or slope from the exact interpolant.
-pub fn distance_bound(axes: u32, slope: bool) -> model::Rational {
-    let (dividend, divisor) = match (slope, axes) {
-        (false, 3) => (173, 256),
-        (false, 2) => (37, 64),
-        (true, 3) => (77, 64),
-        (true, 2) => (13, 16),
+// Largest distance of an answer from the exact interpolant or its derivative, by its order.
+pub fn distance_bound(axes: u32, order: u32) -> model::Rational {
+    let (dividend, divisor) = match (order, axes) {
+        (0, 3) => (173, 256),
+        (0, 2) => (37, 64),
+        (1, 3) => (77, 64),
+        (1, 2) => (13, 16),
+        (2, 3) => (11, 4),
+        (2, 2) => (3, 2),
         _ => (1, 2),
     };
     model::Rational::ratio(dividend, divisor)

@@ -4,8 +4,10 @@
 
 use crate::common::{cells, Random};
 use crate::model;
+use crate::queries::answer;
 use lukhtari::*;
 use model::query::Where;
+use model::Want;
 
 // A table whose records the library estimated.
 #[derive(Clone)]
@@ -21,23 +23,17 @@ impl Estimated {
         Estimated { shape, records }
     }
 
-    // The dose, or the slope along an axis.
-    pub fn ask(&self, at: Where, along: Option<u32>) -> Result<i32, Refusal> {
+    // The answer; by float that of a dose or slope.
+    pub fn ask(&self, at: Where, want: Want) -> Result<i32, Refusal> {
         let (shape, records) = (self.shape, &self.records[..]);
-        match (at, along) {
-            (Where::Position(p), None) => dose(shape, records, p),
-            (Where::Position(p), Some(axis)) => slope(shape, records, p, axis),
-            (Where::Cell(cell, u), None) => dose_in_cell(shape, records, cell, u),
-            (Where::Cell(cell, u), Some(axis)) => slope_in_cell(shape, records, cell, u, axis),
-            (Where::Float(p), None) => dose_float(shape, records, p).map(|x| x as i32),
-            (Where::Float(p), Some(axis)) => slope_float(shape, records, p, axis).map(|x| x as i32),
+        match (at, want) {
+            (Where::Float(p), Want::Dose) => dose_float(shape, records, p).map(|x| x as i32),
+            (Where::Float(p), Want::Slope(axis)) => {
+                slope_float(shape, records, p, axis).map(|x| x as i32)
+            }
+            _ => answer(shape, records, at, want),
         }
     }
-}
-
-// None for a dose, and each axis of a slope.
-pub fn kinds(axes: u32) -> impl Iterator<Item = Option<u32>> {
-    (0..axes).map(Some).chain([None])
 }
 
 // The cells that contain a point, with its steps in them.

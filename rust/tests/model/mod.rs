@@ -22,3 +22,4 @@ pub mod text;
 
 pub use rational::Rational;
 pub use shape::{Answer, Refusal, Shape};
+pub use stages::Want;

@@ -4,6 +4,7 @@ use super::estimate::estimate;
 use super::file::{read, Table};
 use super::query::{query, Where};
 use super::shape::*;
+use super::stages::Want;
 use std::fmt::Write;
 
 // Nodes and bytes that the program holds.
@@ -51,6 +52,6 @@ impl Estimated {
     }
 
     fn dose(&self, at: Where) -> Answer<i32> {
-        query(&self.shape, &self.records, at, None)
+        query(&self.shape, &self.records, at, Want::Dose)
     }
 }

@@ -1,10 +1,10 @@
-//! Doses and slopes by position, by cell and by float.
+//! Doses and slopes by position, by cell and by float, curvatures by position and by cell.
 
 use super::coefficients::{check_cell, check_corners};
 use super::float::float_step;
 use super::int::Int;
 use super::shape::*;
-use super::stages::{staged, Point, STEPS};
+use super::stages::{staged, Point, Want, STEPS};
 
 // How a query names its point.
 #[derive(Clone, Copy, Debug)]
@@ -14,39 +14,35 @@ pub enum Where {
     Float([f32; 3]),
 }
 
-// A dose, or the slope along an axis: 1, 2, 3, 4, 12, the point's refusals, 5.
-pub fn query(shape: &Shape, records: &[i32], at: Where, slope: Option<u32>) -> Answer<i32> {
-    let point = checked_point(shape, records, at, slope)?;
+// A dose, slope or curvature: 1, 2, 3, 4, 12, 21, the point's refusals, 5.
+pub fn query(shape: &Shape, records: &[i32], at: Where, want: Want) -> Answer<i32> {
+    let point = checked_point(shape, records, at, want)?;
     Ok(staged(shape, records, &point) as i32)
 }
 
-// The same as a float.
-pub fn query_float(
-    shape: &Shape,
-    records: &[i32],
-    at: [f32; 3],
-    slope: Option<u32>,
-) -> Answer<f32> {
-    let whole = query(shape, records, Where::Float(at), slope)?;
+// A dose or slope as a float.
+pub fn query_float(shape: &Shape, records: &[i32], at: [f32; 3], want: Want) -> Answer<f32> {
+    let whole = query(shape, records, Where::Float(at), want)?;
     let float = whole as f32;
     assert_eq!(float as i64, whole as i64, "the float is not exact");
     Ok(float)
 }
 
 // The point of a query that is not refused.
-pub fn checked_point(
-    shape: &Shape,
-    records: &[i32],
-    at: Where,
-    slope: Option<u32>,
-) -> Answer<Point> {
+pub fn checked_point(shape: &Shape, records: &[i32], at: Where, want: Want) -> Answer<Point> {
     check_shape(shape)?;
     check_length(records.len(), shape.entries())?;
-    refuse_unless(slope.is_none_or(|axis| axis < shape.axes), 12, 0)?;
-    let slope = slope.map(|axis| axis as usize);
+    check_want(shape, want)?;
     let (cell, u) = locate(shape, at)?;
     check_corners(shape, records, cell)?;
-    Ok(Point { cell, u, slope })
+    Ok(Point { cell, u, want })
+}
+
+// 12, 21
+fn check_want(shape: &Shape, want: Want) -> Answer<()> {
+    let used = want.axis().is_none_or(|axis| axis < shape.axes);
+    refuse_unless(used, 12, 0)?;
+    refuse_unless(want.order() < 2 || shape.degree == 5, 21, 0)
 }
 
 // The cell and in-cell steps of a point: 14 on all axes before 11; 10 before 11 on each axis.

@@ -2,7 +2,7 @@
 
 use super::query::{checked_point, Where};
 use super::shape::*;
-use super::stages::staged;
+use super::stages::{staged, Want};
 
 // The most positions of a list.
 pub const MOST: usize = 256;
@@ -25,7 +25,7 @@ pub fn ramp(shape: &Shape, records: &[i32], positions: &[i32], room: usize) -> A
     let (mut answers, mut cells) = (Vec::new(), Vec::new());
     for (index, position) in list.enumerate() {
         let at = Where::Position([position[0], position[1], position[2]]);
-        let point = checked_point(shape, records, at, None).map_err(|refusal| Refusal {
+        let point = checked_point(shape, records, at, Want::Dose).map_err(|refusal| Refusal {
             place: index as u64,
             ..refusal
         })?;

@@ -9,12 +9,39 @@ use super::shape::{indices, Shape};
 // Steps of a cell along an axis.
 pub const STEPS: i64 = 256;
 
-// A cell of a table, the in-cell steps, and the axis of a slope.
+// What is asked for: a dose, or its first or second derivative along an axis.
+#[derive(Clone, Copy, Debug, PartialEq, Eq)]
+pub enum Want {
+    Dose,
+    Slope(u32),
+    Curvature(u32),
+}
+
+impl Want {
+    // The order of the derivative.
+    pub fn order(self) -> u32 {
+        match self {
+            Want::Dose => 0,
+            Want::Slope(_) => 1,
+            Want::Curvature(_) => 2,
+        }
+    }
+
+    // Its axis.
+    pub fn axis(self) -> Option<u32> {
+        match self {
+            Want::Dose => None,
+            Want::Slope(axis) | Want::Curvature(axis) => Some(axis),
+        }
+    }
+}
+
+// A cell of a table, the in-cell steps, and what is asked for.
 #[derive(Clone, Copy, Debug, PartialEq, Eq)]
 pub struct Point {
     pub cell: [u32; 3],
     pub u: [u32; 3],
-    pub slope: Option<usize>,
+    pub want: Want,
 }
 
 // Weight i is (256-u)^(d-i) u^i.
@@ -36,6 +63,29 @@ pub fn slope_weights(degree: u32, u: u32) -> Vec<Int> {
     (0..=degree).map(|i| rising(i) - falling(i)).collect()
 }
 
+// Second derivative i is i (i-1) (256-u)^(d-i) u^(i-2) - 2 i (d-i) (256-u)^(d-i-1) u^(i-1)
+// + (d-i) (d-i-1) (256-u)^(d-i-2) u^i.
+pub fn curvature_weights(degree: u32, u: u32) -> Vec<Int> {
+    let weight = |i: u32| {
+        let left = degree - i;
+        let mut sum = Int::ZERO;
+        if i > 1 {
+            let factor = Int::from((i * (i - 1)) as i64);
+            sum = sum + factor * rest(u).power(left) * step(u).power(i - 2);
+        }
+        if i > 0 && left > 0 {
+            let factor = Int::from((2 * i * left) as i64);
+            sum = sum - factor * rest(u).power(left - 1) * step(u).power(i - 1);
+        }
+        if left > 1 {
+            let factor = Int::from((left * (left - 1)) as i64);
+            sum = sum + factor * rest(u).power(left - 2) * step(u).power(i);
+        }
+        sum
+    };
+    (0..=degree).map(weight).collect()
+}
+
 fn step(u: u32) -> Int {
     Int::from(u as i64)
 }
@@ -44,14 +94,19 @@ fn rest(u: u32) -> Int {
     Int::from(STEPS - u as i64)
 }
 
-// Weights of an axis and their divisor: 2 256^d, and 2 256^(d-1) along a slope's axis.
+// Weights of an axis and their divisor: 2 256^d, along a slope's axis 2 256^(d-1), along a
+// curvature's 2 256^(d-2).
 pub fn axis_weights(shape: &Shape, point: &Point, axis: usize) -> (Vec<Int>, Int) {
-    let (weights, power) = if point.slope == Some(axis) {
-        (slope_weights(shape.degree, point.u[axis]), shape.degree - 1)
-    } else {
-        (weights(shape.degree, point.u[axis]), shape.degree)
+    let (degree, u) = (shape.degree, point.u[axis]);
+    let along = point.want.axis() == Some(axis as u32);
+    let order = if along { point.want.order() } else { 0 };
+    let weights = match order {
+        0 => weights(degree, u),
+        1 => slope_weights(degree, u),
+        _ => curvature_weights(degree, u),
     };
-    (weights, Int::from(2) * Int::from(STEPS).power(power))
+    let divisor = Int::from(2) * Int::from(STEPS).power(degree - order);
+    (weights, divisor)
 }
 
 // Sum of all coefficients times their weights, divided once, with no rounding.
@@ -73,16 +128,17 @@ pub fn exact(shape: &Shape, records: &[i32], point: &Point) -> Rational {
     Rational::new(sum, divisor)
 }
 
-// Used axes in the order x, y, z, a slope's axis last.
-pub fn stage_order(axes: usize, slope: Option<usize>) -> Vec<usize> {
-    let mut order: Vec<usize> = (0..axes).filter(|&axis| Some(axis) != slope).collect();
-    order.extend(slope);
+// Used axes in the order x, y, z, the axis of a slope or curvature last.
+pub fn stage_order(axes: usize, want: Want) -> Vec<usize> {
+    let last = want.axis().map(|axis| axis as usize);
+    let mut order: Vec<usize> = (0..axes).filter(|&axis| Some(axis) != last).collect();
+    order.extend(last);
     order
 }
 
 // The numbers after each stage in the document's order of axes.
 pub fn stages(shape: &Shape, records: &[i32], point: &Point) -> Vec<Block> {
-    let order = stage_order(shape.used(), point.slope);
+    let order = stage_order(shape.used(), point.want);
     stages_in_order(shape, records, point, &order)
 }
 
@@ -122,7 +178,7 @@ pub fn round_to(value: Rational, parts: i64) -> Rational {
     Rational::from((value * parts).round()) / parts
 }
 
-// The dose or slope that the stages give.
+// The dose, slope or curvature that the stages give.
 pub fn staged(shape: &Shape, records: &[i32], point: &Point) -> i64 {
     let last = stages(shape, records, point).pop().expect("a used axis");
     last.at([0, 0, 0]).to_i64().expect("whole")

@@ -3,7 +3,7 @@
 use crate::common::*;
 use crate::files::words;
 use crate::model::query::Where::{self, Cell, Position};
-use crate::model::Answer;
+use crate::model::{Answer, Want};
 use crate::queries::{call, run};
 use lukhtari::{coefficients, corners, estimate, read, write, Refusal, Shape};
 
@@ -12,9 +12,9 @@ pub const START: Where = Position([0; 3]);
 
 // The printed answer, which is also the model's.
 #[track_caller]
-pub fn check(shape: Shape, records: &[i32], at: Where, slope: Option<u32>, printed: Answer<i32>) {
-    let query = Query::new(shape, records.to_vec(), at, slope);
-    assert_eq!(plain(call(&query)), printed, "{shape:?} {at:?} {slope:?}");
+pub fn check(shape: Shape, records: &[i32], at: Where, want: Want, printed: Answer<i32>) {
+    let query = Query::new(shape, records.to_vec(), at, want);
+    assert_eq!(plain(call(&query)), printed, "{shape:?} {at:?} {want:?}");
     assert_eq!(run(&query), printed);
 }
 
@@ -74,7 +74,7 @@ pub fn sparse(all: Vec<i32>) -> Vec<(usize, i32)> {
 
 // What the calls that take a shape say of one with nothing lent: first those with a degree.
 pub fn with_nothing_lent(shape: Shape) -> [Answer<()>; 5] {
-    let ask = |at| outcome(&plain(call(&Query::new(shape, vec![], at, None))));
+    let ask = |at| outcome(&plain(call(&Query::new(shape, vec![], at, Want::Dose))));
     [
         outcome(&estimated(shape, &[], 0)),
         outcome(&forward(shape, &[], ORIGIN, 0)),

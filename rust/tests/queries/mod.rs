@@ -4,51 +4,74 @@
 
 use crate::common::{plain, plain_shape, Query};
 use crate::model;
-use lukhtari::{dose, dose_in_cell, ffi, slope, slope_in_cell};
+use lukhtari::{
+    curvature, curvature_in_cell, dose, dose_in_cell, ffi, slope, slope_in_cell, Shape,
+};
 use model::query::Where;
-use model::Answer;
+use model::Want::{Curvature, Dose, Slope};
+use model::{Answer, Want};
 
 // Makes the call, compares it with the model, and returns the answer.
 #[track_caller]
 pub fn run(query: &Query) -> Answer<i32> {
     let got = plain(call(query));
-    let Query { at, slope, .. } = *query;
-    let expected = model::query::query(&plain_shape(query.shape), &query.records, at, slope);
-    assert_eq!(got, expected, "{:?} {at:?} {slope:?}", query.shape);
+    let Query { at, want, .. } = *query;
+    let expected = model::query::query(&plain_shape(query.shape), &query.records, at, want);
+    assert_eq!(got, expected, "{:?} {at:?} {want:?}", query.shape);
     got
 }
 
 pub fn call(query: &Query) -> Result<i32, lukhtari::Refusal> {
-    let (shape, records) = (query.shape, &query.records[..]);
-    match (query.at, query.slope) {
-        (Where::Position(p), None) => dose(shape, records, p),
-        (Where::Position(p), Some(axis)) => slope(shape, records, p, axis),
-        (Where::Cell(cell, u), None) => dose_in_cell(shape, records, cell, u),
-        (Where::Cell(cell, u), Some(axis)) => slope_in_cell(shape, records, cell, u, axis),
+    answer(query.shape, &query.records, query.at, query.want)
+}
+
+// The answer to a query in whole numbers.
+pub fn answer(
+    shape: Shape,
+    records: &[i32],
+    at: Where,
+    want: Want,
+) -> Result<i32, lukhtari::Refusal> {
+    match (at, want) {
+        (Where::Position(p), Dose) => dose(shape, records, p),
+        (Where::Position(p), Slope(axis)) => slope(shape, records, p, axis),
+        (Where::Position(p), Curvature(axis)) => curvature(shape, records, p, axis),
+        (Where::Cell(cell, u), Dose) => dose_in_cell(shape, records, cell, u),
+        (Where::Cell(cell, u), Slope(axis)) => slope_in_cell(shape, records, cell, u, axis),
+        (Where::Cell(cell, u), Curvature(axis)) => curvature_in_cell(shape, records, cell, u, axis),
         (Where::Float(_), _) => panic!("not a query in whole numbers"),
     }
 }
 
 // The result as it crosses the C interface.
 pub fn raw(query: &Query) -> ffi::Whole {
+    match query.at {
+        Where::Position(at) => raw_at(query, ffi::Position { at }),
+        Where::Cell(cell, u) => raw_in_cell(query, ffi::Index { at: cell }, ffi::Index { at: u }),
+        Where::Float(_) => panic!("not a query in whole numbers"),
+    }
+}
+
+fn raw_at(query: &Query, at: ffi::Position) -> ffi::Whole {
     let (shape, records, len) = (query.shape, query.records.as_ptr(), query.records.len());
-    let index = |at| ffi::Index { at };
     // SAFETY: pointer and length are those of the records.
     unsafe {
-        match (query.at, query.slope) {
-            (Where::Position(at), None) => {
-                ffi::lukhtari_dose(shape, records, len, ffi::Position { at })
-            }
-            (Where::Position(at), Some(axis)) => {
-                ffi::lukhtari_slope(shape, records, len, ffi::Position { at }, axis)
-            }
-            (Where::Cell(cell, u), None) => {
-                ffi::lukhtari_dose_in_cell(shape, records, len, index(cell), index(u))
-            }
-            (Where::Cell(cell, u), Some(axis)) => {
-                ffi::lukhtari_slope_in_cell(shape, records, len, index(cell), index(u), axis)
-            }
-            (Where::Float(_), _) => panic!("not a query in whole numbers"),
+        match query.want {
+            Dose => ffi::lukhtari_dose(shape, records, len, at),
+            Slope(axis) => ffi::lukhtari_slope(shape, records, len, at, axis),
+            Curvature(axis) => ffi::lukhtari_curvature(shape, records, len, at, axis),
+        }
+    }
+}
+
+fn raw_in_cell(query: &Query, cell: ffi::Index, u: ffi::Index) -> ffi::Whole {
+    let (shape, records, len) = (query.shape, query.records.as_ptr(), query.records.len());
+    // SAFETY: pointer and length are those of the records.
+    unsafe {
+        match query.want {
+            Dose => ffi::lukhtari_dose_in_cell(shape, records, len, cell, u),
+            Slope(axis) => ffi::lukhtari_slope_in_cell(shape, records, len, cell, u, axis),
+            Curvature(axis) => ffi::lukhtari_curvature_in_cell(shape, records, len, cell, u, axis),
         }
     }
 }

@@ -5,7 +5,6 @@ use mathlib.Core.List.{[], _∷_}
 use Prim.Native.Nat.{ℕ, _≤_}
 use native.Mathlib.Omega.{arith}
 use lib.ListN.{length}
-use lib.Dec.{lit≤}
 use lib.IntN.{ℤ}
 use denote.Ref.{now}
 use borrow.Author.Needs.{needs}
@@ -27,7 +26,7 @@ module _ (s : tie.Start) (k : ℕ) (e : s .args .m ≡ k) (shift : ℕ) (is : sh
   small =
       let h = s .pre .0 .0 in
       subst (λ (i : ℕ). i ≤ 44) (sym (is ∙ ap (λ (i : ℕ). shiftOf 0 i true true) (sym e)))
-      (shifted 0 (s .args .m) true true (lit≤ tt) (h .m-low) (h .m-high) .low)
+      (shifted 0 (s .args .m) true true (omega (arith, h .m-low)) (h .m-low) (h .m-high) .low)
 
   asks : (AllPrepared k (s .args .y ∷ s .args .x ∷ []) × (shift ≤ 44))
       × Safe roundHalfUp k (length (now (s .args .records))) (s .args .y ∷ s .args .x ∷ []) g (s .args .p)

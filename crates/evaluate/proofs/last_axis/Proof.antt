@@ -1,4 +1,4 @@
--- `evaluate::last_axis` meets its contract: a slope has its own axis, a dose the last.
+-- `evaluate::last_axis` meets its contract: a derivative has its own axis, a dose the last.
 use mathlib.Core.Path.{sym, ap}
 use Prim.Native.Nat.{ℕ}
 use Rattle.evaluate.specs.Evaluate.{lastAxis}

@@ -2,7 +2,7 @@
 use mathlib.Core.Path.{_≡_, _∙_}
 use mathlib.Core.Bool.{true}
 use Prim.Native.Nat.{_≤_}
-use lib.Dec.{lit≤}
+use native.Mathlib.Omega.{arith}
 use borrow.Author.Tests.{not-true, not-false}
 use Rattle.arith.proofs.Machine.{read}
 use Rattle.hermite.specs.Hermite.{steps}
@@ -46,10 +46,11 @@ pub more-axes-spec : {M : Type 1} → statement M
 more-axes-spec =
     tie.close
     (tie.spec
-    (λ c κs. (c .pre .m-low, c .pre .m-high, low c .1))
-    (λ c κs. let s = c .before in (lit≤ tt, s .pre .m-low, s .pre .m-high, low s .0))
+    (λ c κs. (c .pre .smooth, c .pre .m-low, c .pre .m-high, low c .1))
+    (λ c κs. let s = c .before in (omega (arith, s .pre .m-low), s .pre .m-low, s .pre .m-high, low s .0))
     both-stages-requires
     returns
-    (λ c κs. let s = c .before .before .before in (lit≤ tt, s .pre .m-low, s .pre .m-high, low s .2 (not-false _ (c .if1 .left))))
+    (λ c κs. let s = c .before .before .before in
+    (omega (arith, s .pre .m-low), s .pre .m-low, s .pre .m-high, low s .2 (not-false _ (c .if1 .left))))
     third-requires
     returns-2)

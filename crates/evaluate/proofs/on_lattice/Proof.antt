@@ -18,7 +18,7 @@ use Rattle.cell.specs.Cell.{placeAt}
 use Rattle.evaluate.specs.declared.Strides.{Strides}
 use Rattle.evaluate.specs.Evaluate.{lastAxis, askAt, answer}
 use Rattle.evaluate.specs.Stages.{also, ofAxis, beside, Workable, WorkedOff}
-use Rattle.evaluate.specs.Wants.{wantOf, orderOf}
+use Rattle.evaluate.specs.Wants.{wantOf}
 use Rattle.evaluate.proofs.AnswerLaws.{order-last}
 use Rattle.evaluate.proofs.Answering.{IsAxis, AreAxes, are-axes, workable-in, answer-in, orders-low, found, fits, cast}
 use Rattle.evaluate.proofs.StageOrder.{axes-before, beside-low}
@@ -89,21 +89,21 @@ module _ (c : tie.After-in-sequence) where
       (are-axes (b .args .s) (placeAt (b .args .step)) (eqb n 3) (beside 0 last) (beside 2 last) (c .in-sequence .result .first)
       (c .in-sequence .result .middle) is-first is-middle)
 
-  asks : Workable roundHalfUp (b .args .l .orders) (orderOf (b .args .order)) (c .in-sequence .result .last) others
+  asks : Workable roundHalfUp (b .args .l .orders) (b .args .order) (c .in-sequence .result .last) others
       (length (now (b .args .records))) (at (now (b .args .records))) (b .args .l .base)
   asks =
       let a = b .args in
       workable-in half-up-sound (a .s) (now (a .records)) (placeAt (a .cell)) (placeAt (a .step)) (wantOf (a .order) (a .axis)) (a .l)
-      (b .pre .0) n last refl refl (orderOf (a .order)) (order-last (a .order) (a .axis)) (c .in-sequence .result .last) others is-last are
+      (b .pre .0) n last refl refl (a .order) (order-last (a .order) (a .axis)) (c .in-sequence .result .last) others is-last are
 
-  gives : (r : ℤ) → WorkedOff roundHalfUp (b .args .l .orders) (orderOf (b .args .order)) (c .in-sequence .result .last) others
+  gives : (r : ℤ) → WorkedOff roundHalfUp (b .args .l .orders) (b .args .order) (c .in-sequence .result .last) others
       (at (now (b .args .records))) (b .args .l .base) r
       → r ≡ answer (askAt (b .args .s) (wantOf (b .args .order) (b .args .axis)) (placeAt (b .args .cell)) (placeAt (b .args .step)))
       (recordsField (b .args .s) (now (b .args .records)))
   gives =
       let a = b .args in
       answer-in half-up-sound (a .s) (now (a .records)) (placeAt (a .cell)) (placeAt (a .step)) (wantOf (a .order) (a .axis)) (a .l)
-      (b .pre .0) n last refl refl (orderOf (a .order)) (order-last (a .order) (a .axis)) (c .in-sequence .result .last) others is-last are
+      (b .pre .0) n last refl refl (a .order) (order-last (a .order) (a .axis)) (c .in-sequence .result .last) others is-last are
 
 cast-result : tie.Need-cast-result
 cast-result c =

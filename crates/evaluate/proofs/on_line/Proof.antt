@@ -15,7 +15,7 @@ use Rattle.lattice.specs.Records.{recordsField}
 use Rattle.cell.specs.Cell.{placeAt}
 use Rattle.evaluate.specs.Evaluate.{lastAxis, askAt, answer}
 use Rattle.evaluate.specs.Stages.{Workable, WorkedOff}
-use Rattle.evaluate.specs.Wants.{wantOf, orderOf}
+use Rattle.evaluate.specs.Wants.{wantOf}
 use Rattle.evaluate.proofs.AnswerLaws.{order-last}
 use Rattle.evaluate.proofs.Answering.{IsAxis, workable-in, answer-in, orders-low, found, fits, cast}
 use Rattle.evaluate.proofs.on_line.Statement.{statement}
@@ -32,15 +32,15 @@ module _ (c : tie.After-strides-of) where
   is = let a = b .args in found half-up-sound (a .s) (now (a .records)) (placeAt (a .cell)) (a .step) (a .order) (a .axis) (a .l)
       (b .pre .0) 0 (lit< tt) (c .strides-of .result) (c .strides-of .ensures)
 
-  asks : Workable roundHalfUp (b .args .l .orders) (orderOf (b .args .order)) (c .strides-of .result) [] (length (now (b .args .records)))
+  asks : Workable roundHalfUp (b .args .l .orders) (b .args .order) (c .strides-of .result) [] (length (now (b .args .records)))
       (at (now (b .args .records))) (b .args .l .base)
   unfolding axes without pick
   asks =
       let a = b .args in
       workable-in half-up-sound (a .s) (now (a .records)) (placeAt (a .cell)) (placeAt (a .step)) (wantOf (a .order) (a .axis)) (a .l)
-      (b .pre .0) 1 0 (b .pre .1) only (orderOf (a .order)) (order-last (a .order) (a .axis)) (c .strides-of .result) [] is tt
+      (b .pre .0) 1 0 (b .pre .1) only (a .order) (order-last (a .order) (a .axis)) (c .strides-of .result) [] is tt
 
-  gives : (r : ℤ) → WorkedOff roundHalfUp (b .args .l .orders) (orderOf (b .args .order)) (c .strides-of .result) []
+  gives : (r : ℤ) → WorkedOff roundHalfUp (b .args .l .orders) (b .args .order) (c .strides-of .result) []
       (at (now (b .args .records))) (b .args .l .base) r
       → r ≡ answer (askAt (b .args .s) (wantOf (b .args .order) (b .args .axis)) (placeAt (b .args .cell)) (placeAt (b .args .step)))
       (recordsField (b .args .s) (now (b .args .records)))
@@ -48,7 +48,7 @@ module _ (c : tie.After-strides-of) where
   gives =
       let a = b .args in
       answer-in half-up-sound (a .s) (now (a .records)) (placeAt (a .cell)) (placeAt (a .step)) (wantOf (a .order) (a .axis)) (a .l)
-      (b .pre .0) 1 0 (b .pre .1) only (orderOf (a .order)) (order-last (a .order) (a .axis)) (c .strides-of .result) [] is tt
+      (b .pre .0) 1 0 (b .pre .1) only (a .order) (order-last (a .order) (a .axis)) (c .strides-of .result) [] is tt
 
 cast-result : tie.Need-cast-result
 cast-result c =

@@ -1,5 +1,5 @@
 -- `evaluate::one_axis_by_kind` meets its contract: m and the order as literals are m and the order.
-use mathlib.Core.Path.{_≡_, sym, ap, subst}
+use mathlib.Core.Path.{_≡_, sym, subst}
 use mathlib.Core.List.{[]}
 use Prim.Native.Nat.{ℕ, _<_, _^_}
 use native.Mathlib.Omega.{arith}
@@ -13,55 +13,57 @@ use Rattle.arith.specs.Int.{roundHalfUp}
 use Rattle.arith.proofs.Machine.{read}
 use Rattle.lattice.specs.Buffer.{at}
 use Rattle.evaluate.specs.Stages.{Workable, WorkedOff}
-use Rattle.evaluate.specs.Wants.{orderOf}
-use Rattle.evaluate.proofs.AnswerLaws.{order-some}
 use Rattle.evaluate.proofs.StageOrder.{workable-as, worked-off-as}
 use Rattle.evaluate.proofs.one_axis_by_kind.Statement.{statement}
 use Rattle.evaluate.proofs.one_axis_by_kind.Tie as tie
 
-module _ (s : tie.Start) (k o : ℕ) (em : s .args .m ≡ k) (eo : orderOf (s .args .order) ≡ o) where
+module _ (s : tie.Start) (k o : ℕ) (em : s .args .m ≡ k) (eo : s .args .order ≡ o) where
   abbrev raw : ℕ → ℤ
   raw = at (now (s .args .records))
 
   asks : Workable roundHalfUp k o (s .args .a) [] (length (now (s .args .records))) raw (s .args .p)
   asks =
       let a = s .args in
-      workable-as roundHalfUp (a .a) [] raw (a .p) (a .m) k (orderOf (a .order)) o em eo (length (now (a .records))) (s .pre)
+      workable-as roundHalfUp (a .a) [] raw (a .p) (a .m) k (a .order) o em eo (length (now (a .records))) (s .pre)
 
   gives : (r : ℤ) → mag r < 2 ^ 63 → WorkedOff roundHalfUp k o (s .args .a) [] raw (s .args .p) r
-      → WorkedOff roundHalfUp (s .args .m) (orderOf (s .args .order)) (s .args .a) [] raw (s .args .p) (toZ w64 (ofZ w64 r))
+      → WorkedOff roundHalfUp (s .args .m) (s .args .order) (s .args .a) [] raw (s .args .p) (toZ w64 (ofZ w64 r))
   gives r ok w =
       let a = s .args in
-      subst (WorkedOff roundHalfUp (a .m) (orderOf (a .order)) (a .a) [] raw (a .p)) (sym (read r ok))
-      (worked-off-as roundHalfUp (a .a) [] raw (a .p) (a .m) k (orderOf (a .order)) o em eo r w)
+      subst (WorkedOff roundHalfUp (a .m) (a .order) (a .a) [] raw (a .p)) (sym (read r ok))
+      (worked-off-as roundHalfUp (a .a) [] raw (a .p) (a .m) k (a .order) o em eo r w)
+
+-- a cubic's order that is not 0 is 1
+one : (c : tie.Else2) → c .before .before .args .order ≡ 1
+one c = let s = c .before .before in omega (arith, s .pre .smooth, c .before .if1 .taken, c .if2 .left)
 
 three : (c : tie.Else1) → c .before .args .m ≡ 3
 three c = let w = c .before .pre in omega (arith, w .m-low, w .m-high, c .if1 .left)
 
--- the order of a dose, and of a slope
-none : (s : tie.Start) → s .args .order ≡ 0 → orderOf (s .args .order) ≡ 0
-none s = ap orderOf
-
-one : (s : tie.Start) → (s .args .order ≡ 0 → ⊥) → orderOf (s .args .order) ≡ 1
-one s = order-some (s .args .order)
+-- a quintic's order that is neither 0 nor 2 is 1
+slope : (c : tie.Else4) → c .before .before .before .args .order ≡ 1
+slope c =
+    let s = c .before .before .before in
+    omega (arith, s .pre .smooth, s .pre .m-high, c .before .if3 .left, c .if4 .left)
 
 pub one-axis-by-kind-spec : {M : Type 1} → statement M
 one-axis-by-kind-spec =
     tie.close
     (tie.spec
-    (λ c κs. let s = c .before .before in asks s 2 0 (c .before .if1 .taken) (none s (c .if2 .taken)))
+    (λ c κs. let s = c .before .before in asks s 2 0 (c .before .if1 .taken) (c .if2 .taken))
     (λ c. let d = c .before in
-    let s = d .before .before in
-    gives s 2 0 (d .before .if1 .taken) (none s (d .if2 .taken)) (c .one-axis .result) (c .one-axis .ok) (c .one-axis .ensures))
-    (λ c κs. let s = c .before .before in asks s 2 1 (c .before .if1 .taken) (one s (c .if2 .left)))
+    gives (d .before .before) 2 0 (d .before .if1 .taken) (d .if2 .taken) (c .one-axis .result) (c .one-axis .ok) (c .one-axis .ensures))
+    (λ c κs. asks (c .before .before) 2 1 (c .before .if1 .taken) (one c))
     (λ c. let d = c .before in
-    let s = d .before .before in
-    gives s 2 1 (d .before .if1 .taken) (one s (d .if2 .left)) (c .one-axis2 .result) (c .one-axis2 .ok) (c .one-axis2 .ensures))
-    (λ c κs. let s = c .before .before in asks s 3 0 (three (c .before)) (none s (c .if3 .taken)))
+    gives (d .before .before) 2 1 (d .before .if1 .taken) (one d) (c .one-axis2 .result) (c .one-axis2 .ok) (c .one-axis2 .ensures))
+    (λ c κs. asks (c .before .before) 3 0 (three (c .before)) (c .if3 .taken))
     (λ c. let d = c .before in
-    let s = d .before .before in
-    gives s 3 0 (three (d .before)) (none s (d .if3 .taken)) (c .one-axis3 .result) (c .one-axis3 .ok) (c .one-axis3 .ensures))
-    (λ c κs. let s = c .before .before in asks s 3 1 (three (c .before)) (one s (c .if3 .left)))
+    gives (d .before .before) 3 0 (three (d .before)) (d .if3 .taken) (c .one-axis3 .result) (c .one-axis3 .ok) (c .one-axis3 .ensures))
+    (λ c κs. asks (c .before .before .before) 3 2 (three (c .before .before)) (c .if4 .taken))
     (λ c. let d = c .before in
-    let s = d .before .before in
-    gives s 3 1 (three (d .before)) (one s (d .if3 .left)) (c .one-axis4 .result) (c .one-axis4 .ok) (c .one-axis4 .ensures)))
+    gives (d .before .before .before) 3 2 (three (d .before .before)) (d .if4 .taken) (c .one-axis4 .result) (c .one-axis4 .ok)
+    (c .one-axis4 .ensures))
+    (λ c κs. asks (c .before .before .before) 3 1 (three (c .before .before)) (slope c))
+    (λ c. let d = c .before in
+    gives (d .before .before .before) 3 1 (three (d .before .before)) (slope d) (c .one-axis5 .result) (c .one-axis5 .ok)
+    (c .one-axis5 .ensures)))

@@ -3,7 +3,7 @@ use mathlib.Core.Path.{_≡_, sym, ap, subst, _∙_}
 use mathlib.Core.Bool.{true, false}
 use mathlib.Core.List.{[], _∷_}
 use Prim.Native.Nat.{ℕ, _≤_}
-use lib.Dec.{lit≤}
+use native.Mathlib.Omega.{arith}
 use denote.Ref.{now}
 use Rattle.arith.specs.Int.{roundHalfUp}
 use Rattle.arith.proofs.Machine.{read}
@@ -19,7 +19,11 @@ first-ends-requires : tie.Need-first-ends-requires
 first-ends-requires c κs =
     let s = c .before in
     let h = s .pre .0 .0 .1 .0 in (
-      (h, subst (λ (i : ℕ). i ≤ 44) (sym (c .shift .ensures)) (shifted 0 (s .args .m) _ _ (lit≤ tt) (h .m-low) (h .m-high) .low)),
+      (
+        h,
+        subst (λ (i : ℕ). i ≤ 44) (sym (c .shift .ensures))
+            (shifted 0 (s .args .m) _ _ (omega (arith, h .m-low)) (h .m-low) (h .m-high) .low),
+      ),
       s .pre .1 .0,
     )
 
@@ -47,4 +51,4 @@ returns c =
 
 pub second-spec : {M : Type 1} → statement M
 second-spec = tie.close (tie.spec
-    (λ c κs. let h = c .pre .0 .0 .0 in (lit≤ tt, h .m-low, h .m-high)) first-ends-requires stage-requires returns)
+    (λ c κs. let h = c .pre .0 .0 .0 in (omega (arith, h .m-low), h .m-low, h .m-high)) first-ends-requires stage-requires returns)

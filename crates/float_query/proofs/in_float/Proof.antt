@@ -10,7 +10,7 @@ use mir.Val.{toZ, ofZ}
 use mir.Facts.{toZ-ofZ}
 use Rattle.arith.proofs.Abs.{sfits-abs}
 use Rattle.lattice.specs.Outcome.{done}
-use Rattle.evaluate.specs.Evaluate.{dose, slopeAlong}
+use Rattle.evaluate.specs.Evaluate.{dose, derivativeAlong}
 use Rattle.evaluate.specs.Wants.{wantOf}
 use Rattle.evaluate.proofs.AnswerLaws.{want-some}
 use Rattle.query.specs.Answers.{outcomeOfReading}
@@ -52,7 +52,8 @@ returns-3 c axis =
     let k = c .before .before in
     let a = start k .args in
     ap (λ z. done (asSlope z)) (c .before .whole .ensures ∙ ap some (read k))
-    ∙ sym (ap (λ w. inFloat w (outcomeOfReading (a .a))) (want-some (a .order) axis (c .if1 .left)) ∙ ap (inFloat (slopeAlong axis)) (is k))
+    ∙ sym (ap (λ w. inFloat w (outcomeOfReading (a .a))) (want-some (a .order) axis (c .if1 .left))
+    ∙ ap (inFloat (derivativeAlong (a .order) axis)) (is k))
 
 pub in-float-spec : {M : Type 1} → statement M
 in-float-spec =

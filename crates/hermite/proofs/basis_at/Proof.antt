@@ -29,7 +29,7 @@ end-basis-requires c κs =
 mirror-requires : tie.Need-mirror-requires
 mirror-requires c κs =
     let s = c .before in (
-      s .pre .0,
+      omega (arith, s .pre .0, s .pre .2),
       λ o l. le-trans (le-of-eq (ap natAbs (c .end-basis .ensures o l)))
           (part-size (s .args .order) (s .args .m) (s .pre .0) (s .pre .1) (s .pre .2) (toZ w64 (s .args .u)) (toZ w64 (256 - s .args .u))
           (distance-size (s .args .u) (s .pre .3)) (distance-size (256 - s .args .u) (omega arith)) o l),

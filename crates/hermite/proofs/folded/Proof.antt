@@ -16,11 +16,11 @@ use Rattle.hermite.proofs.folded.Tie as tie
 
 -- the weights' sizes, and what they are of the arguments
 module _ (c : tie.After-weights) where
-  small : (k : ℕ) → k < 3 → natAbs (at (c .weights .result) k) ≤ 2 ^ 43
+  small : (k : ℕ) → k < 3 → natAbs (at (c .weights .result) k) ≤ 2 ^ 46
   small k l =
       let s = c .before in
       le-trans (le-of-eq (ap natAbs (c .weights .ensures k l)))
-      (weight-size (s .args .order) (s .pre .0) (2 * s .args .m - 1) (held (s .args .a)) (held (s .args .b)) (omega arith) (omega arith)
+      (weight-size (s .args .order) (omega (arith, s .pre .0)) (2 * s .args .m - 1) (held (s .args .a)) (held (s .args .b)) (omega arith)
       (held-size (s .args .a) (s .fits .a) (s .pre .3)) (held-size (s .args .b) (s .fits .b) (s .pre .4)) k l)
 
   plain : (k : ℕ) → k < 3 → at (c .weights .result) k ≡ weight (c .before .args .order) (c .before .args .a) (c .before .args .b)

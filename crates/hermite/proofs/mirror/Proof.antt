@@ -1,4 +1,4 @@
--- `hermite::mirror` meets its contract, by the two orders.
+-- `hermite::mirror` meets its contract, by odd and even orders.
 use lib.Dec.{T, ltb, lit<}
 use Rattle.arith.proofs.Machine.{Size, sizes, fits?, value?}
 use Rattle.lattice.specs.Buffer.{at}
@@ -20,28 +20,28 @@ ruleset known = (k-x, sizes)
 returns : tie.Need-returns
 returns c =
     let s = c .before .before .before .before in
-    mirror-even (s .args .t2) _ _ _ (s .args .order) (c .before .before .before .if1 .taken) (value? (search known depth 40) tt)
-    (value? (search known depth 40) (omega arith)) (value? (search known depth 40) tt)
+    mirror-odd (s .args .t2) _ _ _ (s .args .order) (omega (arith, c .before .before .before .if1 .taken, s .pre .0))
+    (value? (search known depth 40) (omega arith))
+    (value? (search known depth 40) tt) (value? (search known depth 40) (omega arith))
 
 returns-2 : tie.Need-returns-2
 returns-2 c =
     let s = c .before .before .before .before in
-    mirror-odd (s .args .t2) _ _ _ (s .args .order) (omega (arith, c .before .before .before .if1 .left, s .pre .0))
-    (value? (search known depth 40) (omega arith))
-    (value? (search known depth 40) tt) (value? (search known depth 40) (omega arith))
+    mirror-even (s .args .t2) _ _ _ (s .args .order) (s .pre .0) (c .before .before .before .if1 .left) (value? (search known depth 40) tt)
+    (value? (search known depth 40) (omega arith)) (value? (search known depth 40) tt)
 
 pub mirror-spec : {M : Type 1} → statement M
 mirror-spec =
     tie.close
     (tie.spec
     (λ c. search needs)
-    (λ c. search needs)
     (λ c. fits? (search known depth 40) (omega arith))
     (λ c. search needs)
+    (λ c. search needs)
+    (λ c. fits? (search known depth 40) (omega arith))
     returns
     (λ c. search needs)
-    (λ c. fits? (search known depth 40) (omega arith))
-    (λ c. search needs)
     (λ c. search needs)
     (λ c. fits? (search known depth 40) (omega arith))
+    (λ c. search needs)
     returns-2)

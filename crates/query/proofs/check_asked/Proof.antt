@@ -1,4 +1,4 @@
--- `query::check_asked` meets its contract: 2 and 3, then 4, then 12; each stops at a refusal.
+-- `query::check_asked` meets its contract: 2 and 3, then 4, then 12, then 21; each stops at a refusal.
 use mathlib.Core.Path.{_≡_, refl, sym, ap, _∙_}
 use mathlib.Core.List.{List}
 use Prim.Native.Nat.{ℕ}
@@ -6,11 +6,13 @@ use lib.Dec.{ltb, eqb}
 use lib.IntN.{ℤ}
 use lib.ListN.{length}
 use borrow.Author.Needs.{needs}
-use Rattle.lattice.specs.Outcome.{done, refuseUnless}
+use borrow.Author.Tests.{lt-ltb}
+use Rattle.lattice.specs.Outcome.{Check, done, refused, refuseUnless, first}
 use Rattle.lattice.specs.Answers.{outcomeOf}
-use Rattle.lattice.specs.Shape.{size, shapeOutcome}
-use Rattle.lattice.proofs.ShapeLaws.{shaped, table-shape}
-use Rattle.lattice.proofs.OutcomeLaws.{first-passed, refused-first}
+use Rattle.lattice.specs.declared.Shape.{Shape}
+use Rattle.lattice.specs.Shape.{orders, size, shapeOutcome}
+use Rattle.lattice.proofs.ShapeLaws.{orders-range, shaped, table-shape}
+use Rattle.lattice.proofs.OutcomeLaws.{first-passed, refused-first, passes}
 use Rattle.evaluate.specs.Evaluate.{Want}
 use Rattle.evaluate.specs.Wants.{wantOf}
 use Rattle.evaluate.proofs.AnswerLaws.{want-some}
@@ -64,14 +66,33 @@ returns-3 c = λ rs e.
     let a = begun d .args in
     sym (left-is d rs e (wantOf (a .order) (a .axis)) ∙ ap (λ (o : ℕ). wantOutcome (a .s) (wantOf o (a .axis))) (c .if1 .taken))
 
+-- a slope's order is below m
+alone : (c : Check) (s : Shape) → c ≡ first c (refuseUnless (ltb 1 (orders s)) 21 0)
+alone c s =
+    nothing c
+    ∙ ap (λ (k : Check). first c k) (sym (passes (ltb 1 (orders s)) 21 0 (lt-ltb 1 (orders s) (orders-range (s .degree) .0))))
+  where
+    nothing : (c : Check) → c ≡ first c (done tt)
+    nothing (done u) = refl
+    nothing (refused n p) = refl
+
 returns-4 : tie.Need-returns-4
 unfolding wantOutcome
 returns-4 c = λ rs e.
-    let d = c .before .before in
+    let u = c .before in
+    let d = u .before .before in
     let b = begun d in
     let a = b .args in
-    c .refuse-unless2 .ensures ∙ ap (λ (n : ℕ). refuseUnless (ltb (a .axis) n) 12 0) (b .pre .2)
-    ∙ sym (left-is d rs e (wantOf (a .order) (a .axis)) ∙ ap (wantOutcome (a .s)) (want-some (a .order) (a .axis) (c .before .if1 .left)))
+    c .refuse-unless2 .ensures ∙ ap (λ (n : ℕ). refuseUnless (ltb (a .axis) n) 12 0) (b .pre .2) ∙ alone _ (a .s)
+    ∙ sym (left-is d rs e (wantOf (a .order) (a .axis)) ∙ ap (λ (o : ℕ). wantOutcome (a .s) (wantOf o (a .axis))) (u .if2 .taken))
+
+returns-5 : tie.Need-returns-5
+returns-5 c = λ rs e.
+    let u = c .before in
+    let d = u .before .before in
+    let a = begun d .args in
+    c .check-derivative .ensures
+    ∙ sym (left-is d rs e (wantOf (a .order) (a .axis)) ∙ ap (wantOutcome (a .s)) (want-some (a .order) (a .axis) (u .before .if1 .left)))
 
 pub check-asked-spec : {M : Type 1} → statement M
 check-asked-spec =
@@ -88,4 +109,6 @@ check-asked-spec =
     (λ c. search needs)
     returns-3
     (λ c κs. search needs)
-    returns-4)
+    returns-4
+    (λ c κs. search needs)
+    returns-5)

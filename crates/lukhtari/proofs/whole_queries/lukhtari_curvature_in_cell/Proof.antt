@@ -1,0 +1,11 @@
+-- `lukhtari::whole_queries::lukhtari_curvature_in_cell` meets its contract: the struct says what the query along the axis says.
+use mathlib.Core.Path.{ap, _∙_}
+use Rattle.lukhtari.specs.Host.{wholeFrom}
+use borrow.Author.Needs.{needs}
+use Rattle.lukhtari.proofs.whole_queries.lukhtari_curvature_in_cell.Statement.{statement}
+use Rattle.lukhtari.proofs.whole_queries.lukhtari_curvature_in_cell.Tie as tie
+
+pub lukhtari-curvature-in-cell-spec : {M : Type 1} → statement M
+lukhtari-curvature-in-cell-spec =
+    tie.close (tie.spec (λ c κs. search needs) (λ c κs. search needs)
+    (λ c. c .whole-of .ensures ∙ ap wholeFrom (c .before .in-cell .ensures)))
