@@ -106,8 +106,8 @@
 extern "C" {
 #endif
 
-/* The number of this interface; another number means other structs or calls. */
-#define LUKHTARI_INTERFACE 4
+/* The number of this interface; another number means other structs, calls or names. */
+#define LUKHTARI_INTERFACE 5
 
 /* Steps of a cell along an axis. */
 #define LUKHTARI_STEPS 256
@@ -188,10 +188,9 @@ enum lukhtari_refusal {
     LUKHTARI_REFUSED_BUFFER_TOO_SHORT = 9,
     /* A float is NaN or infinite; place: the axis. */
     LUKHTARI_REFUSED_NOT_FINITE = 10,
-    /* A position is below 0 or beyond the last node, an in-cell step is above 256, or either is
-     * not 0 on an unused axis; place: the axis, and for lukhtari_ramp the index of the position in
-     * the list. */
-    LUKHTARI_REFUSED_POSITION = 11,
+    /* A position is beyond the last node, or an in-cell step above 256; place: the axis, and for
+     * lukhtari_ramp the index of the position in the list. The cure is a smaller one. */
+    LUKHTARI_REFUSED_POSITION_BEYOND = 11,
     /* The axis of a slope or curvature is not used. */
     LUKHTARI_REFUSED_SLOPE_AXIS = 12,
     /* No permitted corner records have these coefficients. */
@@ -212,7 +211,13 @@ enum lukhtari_refusal {
     /* A ramp has more than 256 positions, or their numbers are not three for each. */
     LUKHTARI_REFUSED_RAMP_LENGTH = 20,
     /* A curvature is asked for in degree 3. */
-    LUKHTARI_REFUSED_CURVATURE_DEGREE = 21
+    LUKHTARI_REFUSED_CURVATURE_DEGREE = 21,
+    /* A position is below 0; place: as for 11. The cure is 0 or more. In-cell steps have no sign
+     * and are never refused so. */
+    LUKHTARI_REFUSED_POSITION_BELOW_ZERO = 22,
+    /* A position or in-cell step is not 0 on an unused axis; place: as for 11. The cure is 0
+     * there. */
+    LUKHTARI_REFUSED_POSITION_UNUSED_AXIS = 23
 };
 
 /* A table's number of axes (1 to 3), degree (3 or 5) and node counts: 2 to 64 on each used axis,
@@ -322,47 +327,52 @@ lukhtari_done lukhtari_corners(uint32_t axes, uint32_t degree, const int32_t *co
                                size_t coefficients_len, int32_t *out, size_t out_len);
 
 /* Dose at a table position.
- * Refusals in order: 1, 2, 3, 4, 11 (each axis), 5 (the cell's corners in order). */
+ * Refusals in order: 1, 2, 3, 4, on each axis 23, 22 and then 11, 5 (the cell's corners in
+ * order). */
 lukhtari_whole lukhtari_dose(lukhtari_shape shape, const int32_t *records, size_t records_len,
                              lukhtari_position position);
 
 /* Slope along an axis (0 for x, 1 for y, 2 for z) at a table position.
- * Refusals in order: 1, 2, 3, 4, 12, 11 (each axis), 5 (the cell's corners in order). */
+ * Refusals in order: 1, 2, 3, 4, 12, on each axis 23, 22 and then 11, 5 (the cell's corners in
+ * order). */
 lukhtari_whole lukhtari_slope(lukhtari_shape shape, const int32_t *records, size_t records_len,
                               lukhtari_position position, uint32_t axis);
 
 /* Dose at the steps u (0 to 256) within a cell.
- * Refusals in order: 1, 2, 3, 4, 14 (each axis), 11 (each axis), 5 (the cell's corners in
- * order). */
+ * Refusals in order: 1, 2, 3, 4, 14 (each axis), on each axis 23 and then 11, 5 (the cell's corners
+ * in order). */
 lukhtari_whole lukhtari_dose_in_cell(lukhtari_shape shape, const int32_t *records,
                                      size_t records_len, lukhtari_index cell, lukhtari_index u);
 
 /* Slope along an axis at the steps u (0 to 256) within a cell.
- * Refusals in order: 1, 2, 3, 4, 12, 14 (each axis), 11 (each axis), 5 (the cell's corners in
- * order). */
+ * Refusals in order: 1, 2, 3, 4, 12, 14 (each axis), on each axis 23 and then 11, 5 (the cell's
+ * corners in order). */
 lukhtari_whole lukhtari_slope_in_cell(lukhtari_shape shape, const int32_t *records,
                                       size_t records_len, lukhtari_index cell, lukhtari_index u,
                                       uint32_t axis);
 
 /* Curvature along an axis (0 for x, 1 for y, 2 for z) at a table position.
- * Refusals in order: 1, 2, 3, 4, 12, 21, 11 (each axis), 5 (the cell's corners in order). */
+ * Refusals in order: 1, 2, 3, 4, 12, 21, on each axis 23, 22 and then 11, 5 (the cell's corners in
+ * order). */
 lukhtari_whole lukhtari_curvature(lukhtari_shape shape, const int32_t *records, size_t records_len,
                                   lukhtari_position position, uint32_t axis);
 
 /* Curvature along an axis at the steps u (0 to 256) within a cell.
- * Refusals in order: 1, 2, 3, 4, 12, 21, 14 (each axis), 11 (each axis), 5 (the cell's corners in
- * order). */
+ * Refusals in order: 1, 2, 3, 4, 12, 21, 14 (each axis), on each axis 23 and then 11, 5 (the cell's
+ * corners in order). */
 lukhtari_whole lukhtari_curvature_in_cell(lukhtari_shape shape, const int32_t *records,
                                           size_t records_len, lukhtari_index cell,
                                           lukhtari_index u, uint32_t axis);
 
-/* Dose at the step nearest to a position in cells, halves up.
- * Refusals in order: 1, 2, 3, 4, on each axis 10 and then 11, 5 (the cell's corners in order). */
+/* Dose at the step nearest to a position in cells, halves up. 23, 22 and 11 look at the step:
+ * -0.001 is step 0, which is taken.
+ * Refusals in order: 1, 2, 3, 4, on each axis 10, 23, 22 and then 11, 5 (the cell's corners in
+ * order). */
 lukhtari_real lukhtari_dose_float(lukhtari_shape shape, const int32_t *records, size_t records_len,
                                   lukhtari_float_position position);
 
 /* Slope along an axis at the step nearest to a position in cells, halves up.
- * Refusals in order: 1, 2, 3, 4, 12, on each axis 10 and then 11, 5 (the cell's corners in
+ * Refusals in order: 1, 2, 3, 4, 12, on each axis 10, 23, 22 and then 11, 5 (the cell's corners in
  * order). */
 lukhtari_real lukhtari_slope_float(lukhtari_shape shape, const int32_t *records,
                                    size_t records_len, lukhtari_float_position position,
@@ -387,7 +397,8 @@ lukhtari_done lukhtari_import(lukhtari_shape shape, const uint8_t *text, size_t 
 
 /* Writes the doses at a list of table positions, three numbers each, one answer for each position.
  * Refusals in order, also for an empty list: 1, 2, 3, 20, 4, 9; then position by position what
- * lukhtari_dose refuses it for, 11 or 5, with the index of the position in the list as place. */
+ * lukhtari_dose refuses it for, 23, 22, 11 or 5, with the index of the position in the list as
+ * place. */
 lukhtari_ramped lukhtari_ramp(lukhtari_shape shape, const int32_t *records, size_t records_len,
                               const int32_t *positions, size_t positions_len, int32_t *answers,
                               size_t answers_len);

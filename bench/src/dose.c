@@ -61,7 +61,7 @@ INLINE lukhtari_whole dose(unsigned m, unsigned n, lukhtari_shape s, const int32
     }
     for (unsigned a = 0; a < 3; a++) {
         if (p.at[a] < 0 || p.at[a] > (int32_t)(256 * (s.counts[a] - 1))) {
-            return refused(11, a);
+            return refused(a >= n ? 23 : p.at[a] < 0 ? 22 : 11, a);
         }
     }
     for (unsigned a = 0; a < n; a++) {

@@ -1,7 +1,7 @@
 //! Limits of tables and the largest sizes of buffers, as `lukhtari.h` has them.
 
-/// Number of the C interface; another number means other structs or calls.
-pub const INTERFACE: u32 = 4;
+/// Number of the C interface; another number means other structs, calls or names.
+pub const INTERFACE: u32 = 5;
 
 /// Steps of a cell along an axis.
 pub const STEPS: u32 = 256;

@@ -10,9 +10,9 @@ use crate::{ffi, Refusal, Shape};
 /// an empty list, else one more than the number of neighbouring pairs of positions with different
 /// cells.
 ///
-/// Refusals in order, also for an empty list: 1, 2, 3, 20, 4, 9; then position by position 11, 5,
-/// with the index of the position in the list as place. [`dose`](crate::dose) gives their places
-/// within the query.
+/// Refusals in order, also for an empty list: 1, 2, 3, 20, 4, 9; then position by position 23, 22
+/// and 11 on each axis, 5, with the index of the position in the list as place.
+/// [`dose`](crate::dose) gives their places within the query.
 ///
 /// ```
 /// use lukhtari::{estimate, ramp, Refusal, Shape};

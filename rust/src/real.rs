@@ -9,7 +9,9 @@ fn float_position([x, y, z]: [f32; 3]) -> ffi::FloatPosition {
 
 /// Dose at a position in cells, taken to the nearest of 256 steps a cell.
 ///
-/// Refusals in order: 1, 2, 3, 4, then 10 and 11 on each axis, 5.
+/// 23, 22 and 11 look at the step: -0.001 is step 0 and is taken, -0.003 is refused 22.
+///
+/// Refusals in order: 1, 2, 3, 4, then 10, 23, 22 and 11 on each axis, 5.
 ///
 /// ```
 /// use lukhtari::{dose_float, estimate, Refusal, Shape};
@@ -17,6 +19,7 @@ fn float_position([x, y, z]: [f32; 3]) -> ffi::FloatPosition {
 /// let mut records = [0; 4];
 /// estimate(shape, &[0, 100], &mut records)?;
 /// assert_eq!(dose_float(shape, &records, [0.25, 0.0, 0.0])?, 25.0);
+/// assert_eq!(dose_float(shape, &records, [-0.001, 0.0, 0.0])?, 0.0);
 ///
 /// let refusal = dose_float(shape, &records, [f32::NAN, 0.0, 0.0]).unwrap_err();
 /// assert_eq!(refusal, Refusal { number: 10, place: 0 });
@@ -33,7 +36,7 @@ pub fn dose_float(shape: Shape, records: &[i32], position: [f32; 3]) -> Result<f
 
 /// Slope along an axis at a position in cells, taken to the nearest of 256 steps a cell.
 ///
-/// Refusals in order: 1, 2, 3, 4, 12, then 10 and 11 on each axis, 5.
+/// Refusals in order: 1, 2, 3, 4, 12, then 10, 23, 22 and 11 on each axis, 5.
 ///
 /// ```
 /// use lukhtari::{estimate, slope_float, Refusal, Shape};

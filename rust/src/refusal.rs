@@ -7,15 +7,16 @@ use core::fmt;
 ///
 /// ```
 /// use lukhtari::Refusal;
-/// let refusal = Refusal { number: 11, place: 2 };
-/// assert_eq!(refusal.number, Refusal::POSITION);
-/// assert_eq!(refusal.to_string(), "refused 11: the position on axis 2 is outside the table");
+/// let refusal = Refusal { number: 10, place: 2 };
+/// assert_eq!(refusal.number, Refusal::NOT_FINITE);
+/// assert_eq!(refusal.to_string(), "refused 10: the position on axis 2 is NaN or infinite");
 /// ```
 #[derive(Clone, Copy, Debug, PartialEq, Eq)]
 pub struct Refusal {
-    /// 1 to 21, the constants below
+    /// 1 to 23, the constants below
     pub number: u32,
-    /// An index counted from 0, and 0 where the reason names none
+    /// An index counted from 0, and 0 where the reason names none; of 5, 11, 22 and 23 of a ramp the
+    /// index of the position in the list
     pub place: u64,
 }
 
@@ -42,8 +43,8 @@ impl Refusal {
     pub const BUFFER_TOO_SHORT: u32 = 9;
     /// A float is NaN or infinite; the place is the axis.
     pub const NOT_FINITE: u32 = 10;
-    /// A position or in-cell step is outside the table or cell; the place is the axis.
-    pub const POSITION: u32 = 11;
+    /// A position is beyond the last node, or an in-cell step above 256; the place is the axis.
+    pub const POSITION_BEYOND: u32 = 11;
     /// The axis of a slope or curvature is not used.
     pub const SLOPE_AXIS: u32 = 12;
     /// No permitted corner records have these coefficients.
@@ -64,6 +65,10 @@ impl Refusal {
     pub const RAMP_LENGTH: u32 = 20;
     /// A curvature is asked for in degree 3.
     pub const CURVATURE_DEGREE: u32 = 21;
+    /// A position is below 0; the place is the axis.
+    pub const POSITION_BELOW_ZERO: u32 = 22;
+    /// A position or in-cell step is not 0 on an unused axis; the place is the axis.
+    pub const POSITION_UNUSED_AXIS: u32 = 23;
 }
 
 impl fmt::Display for Refusal {
@@ -87,7 +92,11 @@ impl fmt::Display for Refusal {
             ),
             Self::BUFFER_TOO_SHORT => write!(f, "the buffer to be written is too short"),
             Self::NOT_FINITE => write!(f, "the position on axis {place} is NaN or infinite"),
-            Self::POSITION => write!(f, "the position on axis {place} is outside the table"),
+            Self::POSITION_BEYOND => position(
+                f,
+                place,
+                "is beyond the last node or step: take a smaller one",
+            ),
             Self::SLOPE_AXIS => write!(f, "the axis of the slope or curvature is not used"),
             Self::NO_CORNER_RECORDS => {
                 write!(f, "no permitted corner records have these coefficients")
@@ -113,9 +122,21 @@ impl fmt::Display for Refusal {
                 "the ramp has over 256 positions, or not three numbers for each"
             ),
             Self::CURVATURE_DEGREE => write!(f, "a table of degree 3 has no curvature"),
+            Self::POSITION_BELOW_ZERO => position(f, place, "is below 0: take 0 or more"),
+            Self::POSITION_UNUSED_AXIS => {
+                position(f, place, "is not 0 on an axis that is not used: take 0")
+            }
             _ => write!(f, "unknown reason"),
         }
     }
+}
+
+// What is wrong with a position, whose place in a ramp is its index in the list.
+fn position(f: &mut fmt::Formatter, place: u64, wrong: &str) -> fmt::Result {
+    write!(
+        f,
+        "the position on axis {place}, of a ramp at index {place}, {wrong}"
+    )
 }
 
 impl Error for Refusal {}

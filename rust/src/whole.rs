@@ -5,7 +5,7 @@ use crate::{ffi, Refusal, Shape};
 
 /// Dose at a table position, in units.
 ///
-/// Refusals in order: 1, 2, 3, 4, 11, 5.
+/// Refusals in order: 1, 2, 3, 4, then 23, 22 and 11 on each axis, 5.
 ///
 /// ```
 /// use lukhtari::{dose, estimate, Refusal, Shape};
@@ -14,8 +14,11 @@ use crate::{ffi, Refusal, Shape};
 /// estimate(shape, &[0, 100], &mut records)?;
 /// assert_eq!(dose(shape, &records, [64, 0, 0])?, 25);
 ///
-/// let refusal = dose(shape, &records, [257, 0, 0]).unwrap_err();
-/// assert_eq!(refusal, Refusal { number: 11, place: 0 });
+/// // Beyond the last node, below 0, and not 0 on an unused axis.
+/// for (position, number, place) in [([257, 0, 0], 11, 0), ([-1, 0, 0], 22, 0), ([0, 1, 0], 23, 1)] {
+///     let refusal = dose(shape, &records, position).unwrap_err();
+///     assert_eq!(refusal, Refusal { number, place });
+/// }
 /// # Ok::<(), Refusal>(())
 /// ```
 #[inline]
@@ -28,7 +31,7 @@ pub fn dose(shape: Shape, records: &[i32], position: [i32; 3]) -> Result<i32, Re
 
 /// Slope along an axis at a table position, in units per cell.
 ///
-/// Refusals in order: 1, 2, 3, 4, 12, 11, 5.
+/// Refusals in order: 1, 2, 3, 4, 12, then 23, 22 and 11 on each axis, 5.
 ///
 /// ```
 /// use lukhtari::{estimate, slope, Refusal, Shape};
@@ -52,7 +55,7 @@ pub fn slope(shape: Shape, records: &[i32], position: [i32; 3], axis: u32) -> Re
 
 /// Dose at the steps `u` within a cell, in units.
 ///
-/// Refusals in order: 1, 2, 3, 4, 14, 11, 5.
+/// Refusals in order: 1, 2, 3, 4, 14, then 23 and 11 on each axis, 5.
 ///
 /// ```
 /// use lukhtari::{dose_in_cell, estimate, Refusal, Shape};
@@ -78,7 +81,7 @@ pub fn dose_in_cell(
 
 /// Slope along an axis at the steps `u` within a cell, in units per cell.
 ///
-/// Refusals in order: 1, 2, 3, 4, 12, 14, 11, 5.
+/// Refusals in order: 1, 2, 3, 4, 12, 14, then 23 and 11 on each axis, 5.
 ///
 /// ```
 /// use lukhtari::{estimate, slope_in_cell, Refusal, Shape};
@@ -107,7 +110,7 @@ pub fn slope_in_cell(
 /// Curvature along an axis at a table position, in units per cell squared: the second derivative of
 /// a quintic table.
 ///
-/// Refusals in order: 1, 2, 3, 4, 12, 21, 11, 5.
+/// Refusals in order: 1, 2, 3, 4, 12, 21, then 23, 22 and 11 on each axis, 5.
 ///
 /// ```
 /// use lukhtari::{curvature, estimate, Refusal, Shape};
@@ -137,7 +140,7 @@ pub fn curvature(
 
 /// Curvature along an axis at the steps `u` within a cell, in units per cell squared.
 ///
-/// Refusals in order: 1, 2, 3, 4, 12, 21, 14, 11, 5.
+/// Refusals in order: 1, 2, 3, 4, 12, 21, 14, then 23 and 11 on each axis, 5.
 ///
 /// ```
 /// use lukhtari::{curvature_in_cell, estimate, Refusal, Shape};

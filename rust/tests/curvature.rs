@@ -50,6 +50,7 @@ fn worked_examples() {
         assert_eq!(line(&[0, -100, -400], p, 0), Ok(negated));
     }
     assert_eq!(line(&[0, 100, 400], 513, 0), refused(11, 0));
+    assert_eq!(line(&[0, 100, 400], -1, 0), refused(22, 0));
     assert_eq!(line(&[0, 100, 400], 0, 1), refused(12, 0));
 }
 

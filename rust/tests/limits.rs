@@ -89,7 +89,10 @@ fn steps() {
     assert_eq!(number(dose(shape, &records, [last, 0, 0])), 0);
     assert_eq!(number(dose(shape, &records, [last + 1, 0, 0])), 11);
     let within = |u| number(dose_in_cell(shape, &records, [0; 3], [u, 0, 0]));
-    assert_eq!([STEPS, STEPS + 1].map(within), [0, Refusal::POSITION]);
+    assert_eq!(
+        [STEPS, STEPS + 1].map(within),
+        [0, Refusal::POSITION_BEYOND]
+    );
 }
 
 #[test]

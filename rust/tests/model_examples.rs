@@ -78,7 +78,7 @@ fn doses_of_0_100() {
         assert_eq!(dose(degree, [0, 100], 128), Ok(50));
         assert_eq!(dose(degree, [0, 100], 256), Ok(100));
         assert_eq!(dose(degree, [0, 100], 257), refused(11, 0));
-        assert_eq!(dose(degree, [0, 100], -1), refused(11, 0));
+        assert_eq!(dose(degree, [0, 100], -1), refused(22, 0));
         let records = records(&line(degree), &[0, 100]);
         let value = exact(&line(degree), &records, &point(64));
         assert_eq!(value, Rational::whole(25));
@@ -160,8 +160,35 @@ fn float_query() {
     assert_eq!(ask(1.0, 0.0), Ok(100.0));
     assert_eq!(ask(1.01, f32::NAN), refused(11, 0));
     assert_eq!(ask(1.0, f32::NAN), refused(10, 1));
-    assert_eq!(ask(1.0, 0.002), refused(11, 1));
+    assert_eq!(ask(1.0, 0.002), refused(23, 1));
     assert_eq!(ask(-0.001, 0.0).map(f32::to_bits), Ok(0));
+}
+
+#[test]
+fn three_kinds_of_bad_position() {
+    let shape = line(3);
+    let records = records(&shape, &[0, 100]);
+    let ask = |at| query(&shape, &records, at, Dose).map(|_| ());
+    for (at, printed) in [
+        (Where::Position([257, 0, 0]), refused(11, 0)),
+        (Where::Position([-1, 0, 0]), refused(22, 0)),
+        (Where::Position([0, 1, 0]), refused(23, 1)),
+        (Where::Position([0, 0, -1]), refused(23, 2)),
+        // The first axis decides.
+        (Where::Position([257, -1, 0]), refused(11, 0)),
+        (Where::Position([-1, 1, 0]), refused(22, 0)),
+        (Where::Cell([0; 3], [257, 0, 0]), refused(11, 0)),
+        (Where::Cell([0; 3], [1 << 31, 0, 0]), refused(11, 0)),
+        (Where::Cell([0; 3], [0, 1, 0]), refused(23, 1)),
+        (Where::Cell([0, 1, 0], [0, 1, 0]), refused(14, 1)),
+        (Where::Float([-0.001, -0.001, 0.0]), Ok(())),
+        (Where::Float([-0.003, 0.0, 0.0]), refused(22, 0)),
+        (Where::Float([0.0, -0.003, 0.0]), refused(23, 1)),
+        (Where::Float([0.0, -1.0, 0.0]), refused(23, 1)),
+        (Where::Float([0.0, f32::NAN, 0.0]), refused(10, 1)),
+    ] {
+        assert_eq!(ask(at), printed, "{at:?}");
+    }
 }
 
 const FILE: [u8; 20] = [1, 0, 0, 0, 2, 0, 0, 0, 2, 0, 0, 0, 0, 0, 0, 0, 100, 0, 0, 0];
@@ -358,10 +385,12 @@ fn ramps() {
     assert_eq!(asked(&[0; 256]).map(|ramped| ramped.fetches), Ok(1));
     assert_eq!(asked(&[0; 257]), refused(20, 0));
     assert_eq!(asked(&[0, 513, -1]), refused(11, 1));
+    assert_eq!(asked(&[0, -1, 513]), refused(22, 1));
     assert_eq!(ramp(&shape, &records, &[0; 4], 9), refused(20, 0));
     assert_eq!(ramp(&shape, &[], &[0; 4], 0), refused(20, 0));
     assert_eq!(ramp(&shape, &[], &[], 0), refused(4, 0));
     assert_eq!(ramp(&shape, &records, &[-1, 0, 0], 0), refused(9, 0));
+    assert_eq!(ramp(&shape, &records, &[0, 0, -1], 1), refused(23, 0));
 }
 
 #[test]

@@ -154,6 +154,43 @@ fn axis_then_degree_then_cell_then_step_then_entry() {
 }
 
 #[test]
+fn unused_then_below_zero_then_beyond_on_each_axis() {
+    // 5 comes after all of them.
+    let (plane, records) = (cube(2, 3, 2), only(16, &[(0, 32769)]));
+    for (at, number, place) in [
+        (Position([-1, 257, 1]), 22, 0),
+        (Position([257, -1, 1]), 11, 0),
+        (Position([256, -1, 1]), 22, 1),
+        (Position([256, 257, -1]), 11, 1),
+        (Position([256, 0, -1]), 23, 2),
+        (Position([0, 256, 1]), 23, 2),
+        (Position([0, i32::MIN, 0]), 22, 1),
+        (Position([0, i32::MAX, 0]), 11, 1),
+        (Cell(ORIGIN, [1 << 31, 0, 1]), 11, 0),
+        (Cell(ORIGIN, [0, u32::MAX, 1]), 11, 1),
+        (Cell(ORIGIN, [256, 256, 257]), 23, 2),
+        (Cell([0, 0, 1], [0, 0, 1]), 14, 2),
+        (Position([256, 256, 0]), 5, 0),
+    ] {
+        check(plane, &records, at, Dose, refused(number, place));
+        check(plane, &records, at, Slope(0), refused(number, place));
+    }
+    // A float by its step, -1/1024 being step 0 and -3/1024 step -1; 10 before all of its axis.
+    let (taken, below) = (-1.0 / 1024.0, -3.0 / 1024.0);
+    for (at, number, place) in [
+        ([taken, below, f32::NAN], 22, 1),
+        ([taken, taken, below], 23, 2),
+        ([taken, taken, f32::NAN], 10, 2),
+        ([1.0 - below, below, 0.0], 11, 0),
+    ] {
+        let answer = plain(dose_float(plane, &records, at));
+        assert_eq!(answer, refused(number, place), "{at:?}");
+    }
+    let seven = only(16, &[(0, 7)]);
+    assert_eq!(dose_float(plane, &seven, [taken; 3]), Ok(7.0));
+}
+
+#[test]
 fn an_axis_not_used_is_12() {
     for (axes, degree) in KINDS {
         let shape = cube(axes, degree, 2);

@@ -2,11 +2,13 @@
 
 mod common;
 mod model;
+mod positions;
 mod ramps;
 
 use common::*;
 use lukhtari::Shape;
 use model::query::last_step;
+use positions::{combinations, position_kinds};
 use ramps::*;
 
 // Records that are all within their limits.
@@ -82,7 +84,7 @@ fn more_than_256_positions() {
             call.positions.fill(-1);
             let expected = match length > 256 {
                 true => refused(20, 0),
-                false => refused(11, 0),
+                false => refused(22, 0),
             };
             assert_eq!(run(&call), expected, "{length} positions");
         }
@@ -106,15 +108,21 @@ fn slices_that_are_no_triples() {
     }
 }
 
-// Each refusal of a position by itself: 11 below 0 and beyond the last node of each axis, then 5.
+// Each refusal of a position by itself: below 0 and beyond the last node of each axis, or not 0 on
+// an unused one, then 5.
 fn faults_at(shape: Shape, index: usize) -> Vec<Fault<Ramp>> {
     let place = index as u64;
     let mut faults = Vec::new();
     for axis in 0..3 {
         let last = last_step(&plain_shape(shape), axis) as i32;
-        for step in [-1, last + 1] {
+        for (number, step) in [(22, -1), (11, last + 1)] {
             let make = move |call: &mut Ramp| call.positions[3 * index + axis] = step;
-            faults.push(fault(11, place, make));
+            let number = if axis < shape.axes as usize {
+                number
+            } else {
+                23
+            };
+            faults.push(fault(number, place, make));
         }
     }
     // The first and the last corner entry of the cell.
@@ -159,12 +167,34 @@ fn every_index_of_a_long_list() {
     records[8] = i32::MAX;
     for length in [1, 255, 256] {
         for index in 0..length {
-            for (step, number) in [(-1, 11), (1281, 11), (1100, 5)] {
+            for (step, number) in [(-1, 22), (1281, 11), (1100, 5)] {
                 let mut list = vec![[100, 0, 0]; length];
                 list[index][0] = step;
                 let call = Ramp::new(shape, &records, &list);
                 assert_eq!(run(&call), refused(number, index as u64));
             }
+        }
+    }
+}
+
+#[test]
+fn every_combination_of_positions() {
+    for (axes, degree) in KINDS {
+        let shape = cube(axes, degree, 3);
+        let records = sevens(shape);
+        for (index, (position, expected)) in combinations(axes, &position_kinds(512))
+            .into_iter()
+            .enumerate()
+        {
+            // Between positions in the table, at one of three places of the list.
+            let place = index % 3;
+            let mut list = [[0; 3]; 3];
+            list[place] = position;
+            let expected = expected.map_err(|refusal| model::Refusal {
+                place: place as u64,
+                ..refusal
+            });
+            assert_eq!(run(&Ramp::new(shape, &records, &list)), expected);
         }
     }
 }

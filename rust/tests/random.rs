@@ -175,7 +175,7 @@ fn misplace(random: &mut Random, at: &mut Where, axis: usize) {
     match at {
         Where::Position(position) => position[axis] = random.range(-300, 900) as i32,
         Where::Cell(cell, _) if random.chance(2) => cell[axis] = random.below(5) as u32,
-        Where::Cell(_, u) => u[axis] = random.below(300) as u32,
+        Where::Cell(_, u) => u[axis] = (random.next() >> random.pick(&[32, 55])) as u32,
         Where::Float(position) => position[axis] = f32::from_bits(random.next() as u32),
     }
 }

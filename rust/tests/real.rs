@@ -2,12 +2,14 @@
 
 mod common;
 mod model;
+mod positions;
 
 use common::*;
 use lukhtari::{dose_float, ffi, slope_float, Shape};
 use model::query::{last_step, query_float, Where};
 use model::Answer;
 use model::Want::{self, Dose, Slope};
+use positions::{combinations, float_kinds};
 
 // Bit patterns at the edges of the format.
 const SPECIAL: [u32; 30] = [
@@ -222,16 +224,34 @@ fn ends_of_the_table() {
             let half = 1.0 / 512.0;
             // Minus half a step rounds up to 0; half a step beyond the end rounds up beyond it.
             let beyond = last + half;
+            let place = axis as u64;
             for (float, expected) in [
                 (-half, Ok(())),
-                ((-half).next_down(), refused(11, axis as u64)),
+                (
+                    (-half).next_down(),
+                    refused(if used { 22 } else { 23 }, place),
+                ),
                 (beyond.next_down(), Ok(())),
-                (beyond, refused(11, axis as u64)),
+                (beyond, refused(if used { 11 } else { 23 }, place)),
             ] {
                 set(&mut query, axis, float);
                 assert_eq!(run(&query), expected, "axis {axis}, {float}");
             }
             set(&mut query, axis, 0.0);
+        }
+    }
+}
+
+#[test]
+fn every_combination_of_floats() {
+    for (axes, degree) in KINDS {
+        let shape = cube(axes, degree, 3);
+        for want in [Dose, Slope(axes - 1)] {
+            let mut query = float_query(shape, vec![7; shape.entries()], [0.0; 3], want);
+            for (at, expected) in combinations(axes, &float_kinds(2.0)) {
+                query.at = Where::Float(at);
+                assert_eq!(run(&query), expected, "{at:?}");
+            }
         }
     }
 }
@@ -324,8 +344,10 @@ fn faults_in_order() {
                 faults.push(fault(12, 0, |query: &mut Query| query.want = Slope(3)));
             }
             for axis in 0..3 {
-                for (number, float) in [(10, f32::NAN), (11, 2.5), (11, -1.0), (11, f32::MAX)] {
+                let used = axis < axes as usize;
+                for (number, float) in [(10, f32::NAN), (11, 2.5), (22, -1.0), (11, f32::MAX)] {
                     let make = move |query: &mut Query| set(query, axis, float);
+                    let number = if used || number == 10 { number } else { 23 };
                     faults.push(fault(number, axis as u64, make));
                 }
             }

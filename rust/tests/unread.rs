@@ -142,7 +142,7 @@ fn ramps() {
         }
         // The first position is outside the table, or the list is empty.
         let outside = ramp(shape, &[-1, 0, 0, 0, 0, 0]);
-        assert_eq!((outside.number, outside.place), (11, 0));
+        assert_eq!((outside.number, outside.place), (22, 0));
         let empty = ramp_nowhere(shape, entries, 0, LONG);
         assert_eq!((empty.number, empty.place, empty.fetches), (0, 0, 0));
     }
@@ -234,10 +234,14 @@ fn doses_slopes_and_curvatures() {
         let entries = shape.entries();
         assert_eq!(queries(shape, LONG, 0, 0), [4; 8]);
         assert_eq!(queries(shape, entries, -1, axes)[3..], [12; 5]);
-        let outside = queries(shape, entries, -1, 0);
-        let curved = if degree == 3 { 21 } else { 11 };
-        assert_eq!(outside[..6], [11; 6]);
-        assert_eq!(outside[6..], [curved; 2]);
+        // Below 0, which within a cell is a step above 256; and beyond the last node.
+        let cubic = degree == 3;
+        let below = queries(shape, entries, -1, 0);
+        assert_eq!(below[..6], [22, 11, 22, 22, 11, 22]);
+        assert_eq!(below[6..], if cubic { [21, 21] } else { [22, 11] });
+        let beyond = queries(shape, entries, 16129, 0);
+        assert_eq!(beyond[..6], [11; 6]);
+        assert_eq!(beyond[6..], if cubic { [21; 2] } else { [11; 2] });
     }
     // 21 also where the point is in the table.
     let shape = cube(3, 3, 64);

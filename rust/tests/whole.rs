@@ -67,6 +67,7 @@ fn worked_examples() {
         assert_eq!(ask(degree, [0, 100], 128, Dose), Ok(50));
         assert_eq!(ask(degree, [0, 100], 256, Dose), Ok(100));
         assert_eq!(ask(degree, [0, 100], 257, Dose), refused(11, 0));
+        assert_eq!(ask(degree, [0, 100], -1, Dose), refused(22, 0));
         assert_eq!(ask(degree, [0, 100], 64, Dose), Ok(25));
         for p in [0, 64, 128, 256] {
             assert_eq!(ask(degree, [0, 100], p, Slope(0)), Ok(100));

@@ -2,6 +2,7 @@
 
 mod common;
 mod model;
+mod positions;
 mod queries;
 
 use common::*;
@@ -9,6 +10,7 @@ use lukhtari::Shape;
 use model::query::{last_step, Where};
 use model::Answer;
 use model::Want::{self, Curvature, Dose, Slope};
+use positions::{combinations, position_kinds, step_kinds};
 use queries::*;
 
 // The outcome; a refused result has value 0 and any other has place 0.
@@ -129,6 +131,7 @@ fn positions_outside() {
         for count in [2, 3, 5] {
             let shape = cube(axes, degree, count);
             for axis in 0..3 {
+                let used = axis < axes as usize;
                 let last = last_step(&plain_shape(shape), axis) as i32;
                 let at = Where::Position([0; 3]);
                 let mut query = Query::new(shape, vec![7; shape.entries()], at, Dose);
@@ -138,7 +141,12 @@ fn positions_outside() {
                 }
                 for p in [-1, -256, i32::MIN, last + 1, last + 256, i32::MAX] {
                     set_position(&mut query, axis, p);
-                    assert_eq!(run_checked(&query), refused(11, axis as u64));
+                    let number = match used {
+                        true if p < 0 => 22,
+                        true => 11,
+                        false => 23,
+                    };
+                    assert_eq!(run_checked(&query), refused(number, axis as u64));
                 }
             }
         }
@@ -177,9 +185,48 @@ fn steps_outside_the_cell() {
                 set_u(&mut query, axis, u);
                 assert_eq!(run_checked(&query), Ok(()));
             }
-            for u in [last + 1, last + 2, 512, 65536, u32::MAX] {
+            // None is below 0: also from 2^31 on a step is above 256.
+            for u in [last + 1, last + 2, 512, 65536, 1 << 31, u32::MAX] {
                 set_u(&mut query, axis, u);
-                assert_eq!(run_checked(&query), refused(11, axis as u64));
+                let number = if last == 256 { 11 } else { 23 };
+                assert_eq!(run_checked(&query), refused(number, axis as u64));
+            }
+        }
+    }
+}
+
+#[test]
+fn every_combination_of_positions() {
+    for (axes, degree) in KINDS {
+        let shape = cube(axes, degree, 3);
+        for want in [Dose, wants(shape).pop().unwrap()] {
+            let at = Where::Position([0; 3]);
+            let mut query = Query::new(shape, vec![7; shape.entries()], at, want);
+            for (position, expected) in combinations(axes, &position_kinds(512)) {
+                query.at = Where::Position(position);
+                assert_eq!(run_checked(&query), expected, "{position:?}");
+            }
+        }
+    }
+}
+
+#[test]
+fn every_combination_of_steps() {
+    for (axes, degree) in KINDS {
+        let shape = cube(axes, degree, 3);
+        let cell = [0, 1, 2].map(|axis| u32::from(axis < axes));
+        for want in [Dose, wants(shape).pop().unwrap()] {
+            let at = Where::Cell(cell, [0; 3]);
+            let mut query = Query::new(shape, vec![7; shape.entries()], at, want);
+            for (u, expected) in combinations(axes, &step_kinds()) {
+                query.at = Where::Cell(cell, u);
+                assert_eq!(run_checked(&query), expected, "{u:?}");
+                // A cell index on an unused axis stays 14.
+                for axis in axes as usize..3 {
+                    let mut query = query.clone();
+                    set_cell(&mut query, axis, 1);
+                    assert_eq!(run_checked(&query), refused(14, axis as u64));
+                }
             }
         }
     }
@@ -270,10 +317,11 @@ fn faults_in_order_by_position() {
         for want in wants(shape) {
             let mut faults = first_faults(axes, want);
             for axis in 0..3 {
-                // Beyond the last node, and below 0.
-                for p in [513, -1] {
+                let used = axis < axes as usize;
+                for (number, p) in [(11, 513), (22, -1)] {
                     let make = move |query: &mut Query| set_position(query, axis, p);
-                    faults.push(fault(11, axis as u64, make));
+                    let number = if used { number } else { 23 };
+                    faults.push(fault(number, axis as u64, make));
                 }
             }
             faults.extend(last_faults(shape));
@@ -296,7 +344,8 @@ fn faults_in_order_by_cell() {
             }
             for axis in 0..3 {
                 let make = move |query: &mut Query| set_u(query, axis, 257);
-                faults.push(fault(11, axis as u64, make));
+                let number = if axis < axes as usize { 11 } else { 23 };
+                faults.push(fault(number, axis as u64, make));
             }
             faults.extend(last_faults(shape));
             let at = Where::Cell([0; 3], [0; 3]);

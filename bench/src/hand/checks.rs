@@ -68,23 +68,34 @@ pub fn check_cell(shape: Shape, cell: [u32; 3]) -> Answer<()> {
     Ok(())
 }
 
-// 11 for in-cell steps
+// 23, 22 or 11 for a step that is refused
+#[cold]
+fn refuse_step<T>(shape: Shape, axis: usize, step: i64) -> Answer<T> {
+    let number = match axis < shape.axes as usize {
+        true if step < 0 => 22,
+        true => 11,
+        false => 23,
+    };
+    refuse(number, axis)
+}
+
+// 23 and 11 for in-cell steps
 pub fn check_u(shape: Shape, u: [u32; 3]) -> Answer<()> {
     for axis in 0..3 {
         let last = if axis < shape.axes as usize { 256 } else { 0 };
         if u[axis] > last {
-            return refuse(11, axis);
+            return refuse_step(shape, axis, u[axis] as i64);
         }
     }
     Ok(())
 }
 
-// 11 for one step, else its cell and in-cell step
+// 23, 22 and 11 for one step, else its cell and in-cell step
 pub fn locate(shape: Shape, axis: usize, step: i64) -> Answer<(u32, u32)> {
     let used = axis < shape.axes as usize;
     let cells = if used { shape.counts[axis] - 1 } else { 0 };
     if step < 0 || step > 256 * cells as i64 {
-        return refuse(11, axis);
+        return refuse_step(shape, axis, step);
     }
     let cell = (step as u32 / 256).min(cells.saturating_sub(1));
     Ok((cell, step as u32 - 256 * cell))

@@ -11,7 +11,7 @@ pub struct Point {
     pub want: Want,
 }
 
-// 1, 2, 3, 4, 12, 21, then each axis's own test and 11
+// 1, 2, 3, 4, 12, 21, then on each axis its own test, 23, 22 and 11
 #[inline(always)]
 fn located(
     shape: Shape,
@@ -28,13 +28,13 @@ fn located(
     Ok(Point { cell, u, want })
 }
 
-// 1, 2, 3, 4, 12, 21, 11
+// 1, 2, 3, 4, 12, 21, then 23, 22 and 11 on each axis
 #[inline(always)]
 pub fn of_position(shape: Shape, records: &[i32], position: [i32; 3], want: Want) -> Answer<Point> {
     located(shape, records, want, |axis| Ok(position[axis] as i64))
 }
 
-// 1, 2, 3, 4, 12, 21, 14, 11
+// 1, 2, 3, 4, 12, 21, 14, then 23 and 11 on each axis
 #[inline(always)]
 pub fn of_cell(
     shape: Shape,
@@ -49,7 +49,7 @@ pub fn of_cell(
     Ok(Point { cell, u, want })
 }
 
-// 1, 2, 3, 4, 12, then 10 and 11 on each axis
+// 1, 2, 3, 4, 12, then 10, 23, 22 and 11 on each axis
 #[inline(always)]
 pub fn of_float(shape: Shape, records: &[i32], position: [f32; 3], want: Want) -> Answer<Point> {
     located(shape, records, want, |axis| {

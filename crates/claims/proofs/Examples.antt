@@ -24,10 +24,12 @@ use Rattle.estimate.specs.Estimate.{left, right, byOrder, estimate, records, ta
 use Rattle.coefficients.specs.Coefficients.{requestOutcome, coefficientList, coefficientsOutcome}
 use Rattle.corners.specs.Corners.{numbersOutcome, coefficientsField, doubledEntry, entryAllowed, possibleOutcome, entryList, backOutcome}
 use Rattle.evaluate.specs.Evaluate.{dose, orderWanted, orderOn, lastAxis, weightOn, sumOver, exactSum, divisorOn, exactDivisor, stageOn, toEighth, toUnit, inEighths, before, answerBy, askAt}
-use Rattle.query.specs.Queries.{wantOutcome, askedOutcome, reading, stepsOutcome, testedOutcome, byCell, positionAt, positionOutcome, cellOf, positionCell, positionStep, byPosition}
+use Rattle.query.specs.Queries.{wantOutcome, askedOutcome, reading, positionTest, stepsOutcome, testedOutcome, byCell, positionAt, positionOutcome, cellOf, positionCell, positionStep, byPosition}
+use Rattle.floats.specs.Step.{step}
+use Rattle.float_query.specs.Floats.{floatsAt, stepsOf, floatOutcome, byFloat}
 use Rattle.claims.specs.Third.{atPosition, queried, pointOf, cellRead, stepRead, bothCalls, _over_, allowedDistance, WithinDistance}
 use Rattle.claims.specs.Examples.{Row, recordsFrom, coefficientsOf, coefficientsFrom, backInto, firstStage, exactly, answerTo, table, AllRows}
-use Rattle.claims.specs.Pinned.{answerFrom, notZero, sparse, among, numbered, limits, leftOver, distances, only, flat, fileWith, refusals, readings, numbers, pins}
+use Rattle.claims.specs.Pinned.{answerFrom, notZero, sparse, among, numbered, limits, leftOver, distances, only, flat, fileWith, refusals, positions, readings, numbers, pins}
 use Rattle.claims.specs.Straight.{valueOf, valueAt, wantedOf, Straight, saddle, saddleTable, inSaddle, saddleRows}
 use Rattle.claims.proofs.Straight.{nearly-straight}
 
@@ -36,7 +38,8 @@ opened : Unit {0}
 unfolding answerFrom notZero sparse among numbered limits leftOver distances only flat fileWith allowedDistance readCheck twoOutcome
     nothingAfter oneOutcome countOutcome samplesIn nodesIn countIn complete fileOf sectionTwo sectionOne bytesOfAll bytesOf numberAt
     signedOf unsignedOf
-    placeAt byCell testedOutcome stepsOutcome recordsFrom coefficientsOf coefficientsFrom backInto firstStage exactly answerTo bothCalls
+    step floatsAt stepsOf floatOutcome byFloat positionTest placeAt byCell testedOutcome stepsOutcome recordsFrom coefficientsOf
+    coefficientsFrom backInto firstStage exactly answerTo bothCalls
     queried cellRead stepRead byPosition positionStep positionCell cellOf positionOutcome positionAt reading askAt askedOutcome wantOutcome
     answerBy before inEighths toUnit toEighth stageOn exactDivisor divisorOn exactSum sumOver weightOn lastAxis orderOn orderWanted
     estimateWrites estimateOutcome estimateLimit recordsOf tableRecords records estimate byOrder right left coefficientsOutcome
@@ -52,10 +55,14 @@ pub examples : AllRows table
 unfolding opened table
 examples = refl
 
--- the further rows, in three groups: so many as the checker computes at once
+-- the further rows, in four groups: so many as the checker computes at once
 of-refusals : AllRows refusals
 unfolding opened refusals
 of-refusals = refl
+
+of-positions : AllRows positions
+unfolding opened positions
+of-positions = refl
 
 of-readings : AllRows readings
 unfolding opened readings
@@ -67,7 +74,9 @@ of-numbers = refl
 
 pub pinned : AllRows pins
 unfolding pins
-pinned = joined (refusals ++ readings) numbers (joined refusals readings of-refusals of-readings) of-numbers
+pinned =
+    joined (refusals ++ positions ++ readings) numbers
+    (joined (refusals ++ positions) readings (joined refusals positions of-refusals of-positions) of-readings) of-numbers
   where
     joined : (xs ys : List Row) → AllRows xs → AllRows ys → AllRows (xs ++ ys)
     joined xs ys e f = map-append (λ (r : Row). r .computed) xs ys ∙ ap₂ _++_ e f ∙ sym (map-append (λ (r : Row). r .printed) xs ys)

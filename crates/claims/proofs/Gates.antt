@@ -1,7 +1,7 @@
--- The tests of 14, 10 and 11 of the three kinds of query: what they say of the query's point and of the cell that it reads, and where they
--- are passed.
+-- The tests of 14, 10, 23, 22 and 11 of the three kinds of query: what they say of the query's point and of the cell that it reads, and
+-- where they are passed.
 use mathlib.Core.Path.{_≡_, refl, sym, ap, _∙_}
-use mathlib.Core.Bool.{Bool, true, _&&_}
+use mathlib.Core.Bool.{Bool, true, _||_}
 use mathlib.Core.List.{List}
 use Prim.Native.Nat.{ℕ, _+_, _*_, _-_, _≤_, _<_}
 use native.Mathlib.Omega.{arith}
@@ -11,7 +11,7 @@ use lib.Ieee.{Float}
 use lib.Ieee.Scale.{finite}
 use lib.IntN.{ℤ, pos, negsuc, natAbs, _-ℤ_}
 use lib.Signed.{_≤ℤ_, nonNeg}
-use borrow.Author.Tests.{leb-true, le-ltb, le-leb}
+use borrow.Author.Tests.{le-ltb}
 use Rattle.arith.specs.Choice.{pick}
 use Rattle.arith.proofs.Choices.{clash, pick-false}
 use Rattle.arith.proofs.Order.{nn-pos}
@@ -20,14 +20,14 @@ use Rattle.lattice.specs.Outcome.{Check, done, refuseUnless, first, firstOf}
 use Rattle.lattice.specs.Buffer.{at}
 use Rattle.lattice.specs.Shape.{count, Shaped}
 use Rattle.lattice.specs.Axes.{Place, OnUsed}
-use Rattle.lattice.proofs.OutcomeLaws.{first-done, first-passed, first-assoc, refuse-done, passes, firstOf-each, firstOf-passes, firstOf-same}
+use Rattle.lattice.proofs.OutcomeLaws.{first-done, first-passed, first-assoc, passes, firstOf-each, firstOf-passes, firstOf-same}
 use Rattle.hermite.specs.Hermite.{steps}
 use Rattle.cell.specs.Cell.{placeAt, cellOutcome, Accepted}
 use Rattle.cell.proofs.CellLaws.{accepted, cell-passes}
 use Rattle.floats.specs.Step.{step}
 use Rattle.evaluate.specs.Evaluate.{Want}
-use Rattle.query.specs.Queries.{Position, positionAt, askedOutcome, testedOutcome, reading, stepsOutcome, positionOutcome, cellOf, positionCell, positionStep, byCell, byPosition}
-use Rattle.query.proofs.QueryLaws.{steps-known, steps-pass, in-cell}
+use Rattle.query.specs.Queries.{Position, positionAt, askedOutcome, testedOutcome, reading, positionTest, stepsOutcome, positionOutcome, cellOf, positionCell, positionStep, byCell, byPosition}
+use Rattle.query.proofs.QueryLaws.{test-passes, steps-known, steps-pass, position-range, in-cell}
 use Rattle.float_query.specs.Floats.{stepsOf, floatOutcome, byFloat}
 use Rattle.claims.specs.Third.{Query, atPosition, inCell, atFloats, queried, pointOf, cellRead, stepRead, Point, Contains, NearCell, recounted, AgreeOnBlock, Inside, Reads}
 use Rattle.claims.proofs.General.{less, le-pos, leb-same}
@@ -63,14 +63,14 @@ cell-reads s cell u h k = (
 
 -- ---- a position
 
--- the test of 11 on one axis
-range-test : (z : ℤ) (B : ℕ) → pos 0 ≤ℤ z → z ≤ℤ pos B → (nonNeg z && leb (natAbs z) B) ≡ true
-range-test (pos n) B h k = le-leb n B (leb→le n B (k .le))
+-- a number from 0 to a limit, by the tests on one axis
+range-test : (z : ℤ) (B : ℕ) → pos 0 ≤ℤ z → z ≤ℤ pos B → (nonNeg z ≡ true) × (natAbs z ≤ B)
+range-test (pos n) B h k = (refl, leb→le n B (k .le))
 range-test (negsuc n) B h k = absurd (h .le)
 
-range-known : (z : ℤ) (B : ℕ) → (nonNeg z && leb (natAbs z) B) ≡ true → (pos 0 ≤ℤ z) × (z ≤ℤ pos B)
-range-known (pos n) B h = (nn-pos n, le-pos (leb-true n B h))
-range-known (negsuc n) B h = clash (cc)
+range-known : (z : ℤ) (B : ℕ) → nonNeg z ≡ true → natAbs z ≤ B → (pos 0 ≤ℤ z) × (z ≤ℤ pos B)
+range-known (pos n) B h k = (nn-pos n, le-pos k)
+range-known (negsuc n) B h k = clash (cc)
 
 whole : (z : ℤ) (B : ℕ) → pos 0 ≤ℤ z → z ≤ℤ pos B → (z ≡ pos (natAbs z)) × (natAbs z ≤ B)
 whole (pos n) B h k = (refl, leb→le n B (k .le))
@@ -80,21 +80,19 @@ module _ (s : Shape) (ok : Shaped s) (p : Position) where
   abbrev last : ℕ → ℕ
   last a = steps * (count s a - 1)
 
-  abbrev test : ℕ → Bool
-  test a = nonNeg (p a) && leb (natAbs (p a)) (last a)
-
   point-passes : Point s p → firstOf 3 (positionOutcome s p) ≡ done tt
   unfolding positionOutcome
-  point-passes h = firstOf-passes 3 (positionOutcome s p) (λ a l. passes (test a) 11 a (go a (decLt a (s .axes))))
+  point-passes h = firstOf-passes 3 (positionOutcome s p) (λ a l. go a (decLt a (s .axes)))
     where
-      go : (a : ℕ) → Dec (a < s .axes) → test a ≡ true
-      go a (yes l) = range-test (p a) (last a) (h .low a l) (h .high a l)
-      go a (no k) = rw (h .unused a (omega arith)) (le-leb 0 (last a) (omega arith))
+      go : (a : ℕ) → Dec (a < s .axes) → positionTest s (last a) (p a) a ≡ done tt
+      go a (yes l) =
+          let f = range-test (p a) (last a) (h .low a l) (h .high a l) in
+          test-passes s (last a) (p a) a (f .0) (f .1) (λ k. absurd (omega arith))
+      go a (no k) = rw (h .unused a (omega arith)) (test-passes s (last a) (pos 0) a refl (omega arith) (λ l. refl))
 
   module _ (beyond : (a : ℕ) → 3 ≤ a → p a ≡ pos 0) (h : firstOf 3 (positionOutcome s p) ≡ done tt) where
     tested : (a : ℕ) → a < 3 → (pos 0 ≤ℤ p a) × (p a ≤ℤ pos (last a))
-    unfolding positionOutcome
-    tested a l = range-known (p a) (last a) (refuse-done (test a) 11 a (firstOf-each 3 (positionOutcome s p) h a l))
+    tested a l = let f = position-range s p h a l in range-known (p a) (last a) (f .0) (f .1)
 
     point-known : Point s p
     point-known = record { low = λ a l. tested a (below l) .0; high = λ a l. tested a (below l) .1; unused = λ a l. go a l (decLt a 3) }
@@ -174,7 +172,8 @@ module _ (s : Shape) (ok : Shaped s) where
   gate-passes (atPosition xs) h = point-passes s ok (positionAt xs) h
   gate-passes (inCell cell u) h =
       first-passed (cellOutcome s (placeAt cell)) (stepsOutcome s (placeAt u))
-      (cell-passes s (placeAt cell) (h .0 .used) (λ a l. h .0 .unused a)) ∙ steps-pass s (placeAt u) (h .1)
+      (cell-passes s (placeAt cell) (h .0 .used) (λ a l. h .0 .unused a))
+      ∙ steps-pass s (placeAt u) (h .1 .used) (λ a l. h .1 .unused a)
   gate-passes (atFloats x) h = floats-pass s x (h .0) (point-passes s ok (stepsOf x) (h .1))
 
 -- ---- a query that reads the same cell in a table of another size
@@ -189,8 +188,11 @@ module _ (s : Shape) (ok : Shaped s) (counts : List ℕ) (sized : Shaped (recoun
   t = recounted s counts
 
   positions-same : (p : Position) → positionCell t p ≡ positionCell s p → (a : ℕ) → a < 3 → positionOutcome s p a ≡ positionOutcome t p a
-  unfolding positionOutcome positionCell
-  positions-same p e a l = ap (λ (b : Bool). refuseUnless (nonNeg (p a) && b) 11 a) (go (decLt a (s .axes)))
+  unfolding positionOutcome positionTest positionCell
+  positions-same p e a l =
+      ap (λ (b : Bool). first (refuseUnless (ltb a (s .axes) || eqb P 0) 23 a)
+      (first (refuseUnless (nonNeg (p a)) 22 a) (refuseUnless b 11 a)))
+      (go (decLt a (s .axes)))
     where
       P : ℕ
       P = natAbs (p a)
@@ -224,7 +226,7 @@ module _ (s : Shape) (ok : Shaped s) (counts : List ℕ) (sized : Shaped (recoun
       go a (no k) = let e = le-ltb a (s .axes) (omega (arith, k)) in pick-false _ _ _ e ∙ sym (pick-false _ _ _ e)
 
   pub gate-same : (q : Query) (xs ys : List ℤ) → AgreeOnBlock s t (cellRead s q) xs ys → cellRead t q ≡ cellRead s q → gate s q ≡ gate t q
-  unfolding gate cellRead floatOutcome stepsOutcome
+  unfolding gate cellRead floatOutcome stepsOutcome positionTest
   gate-same (atPosition p) xs ys same e =
       firstOf-same 3 (positionOutcome s (positionAt p)) (positionOutcome t (positionAt p)) (positions-same (positionAt p) e)
   gate-same (inCell cell u) xs ys same e = ap (λ (o : Check). first o (stepsOutcome s (placeAt u))) (cells-same (placeAt cell) xs ys same)

@@ -1,14 +1,16 @@
 -- Further rows: where a theorem would hold of more than one reading of document 01, a computed row fixes the reading.
--- Refusal numbers, places and order; borders; the order of nodes, entries, coefficients and corners on two and three axes; limits;
--- the order of the stages; the cell of a shared node; curvatures; the distances.
+-- Refusal numbers, places and order, those of a position apart; borders; the order of nodes, entries, coefficients and corners on two and
+-- three axes; limits; the order of the stages; the cell of a shared node; curvatures; the distances.
+use mathlib.Core.Bool.{true}
 use mathlib.Core.List.{List, [], _∷_, _++_}
 use Prim.Native.Nat.{ℕ, suc, _+_, _*_, _-_}
 use lib.Dec.{eqb}
+use lib.Ieee.{Float, nan, fin}
 use lib.IntN.{ℤ, pos, negsuc, natAbs, _-ℤ_, _*ℤ_}
 use lib.ListN.{replicate}
 use Rattle.arith.specs.Choice.{pick}
 use Rattle.lattice.specs.declared.Shape.{Shape}
-use Rattle.lattice.specs.Outcome.{Outcome, Check, done, refused, first}
+use Rattle.lattice.specs.Outcome.{Outcome, Check, done, refused}
 use Rattle.lattice.specs.Buffer.{tabulate}
 use Rattle.lattice.specs.Shape.{shapeOf, size}
 use Rattle.lattice.specs.Digits.{digit}
@@ -16,7 +18,8 @@ use Rattle.lattice.specs.Records.{entryLimit}
 use Rattle.estimate.specs.Estimate.{tableRecords, estimateOutcome}
 use Rattle.evaluate.specs.Evaluate.{Want, dose, slopeAlong, curvatureAlong, orderWanted, exactSum, exactDivisor}
 use Rattle.table_file.specs.File.{readCheck, fileOf, header}
-use Rattle.claims.specs.Third.{Query, atPosition, inCell, queried, allowedDistance, asked}
+use Rattle.float_query.specs.Floats.{floatsAt}
+use Rattle.claims.specs.Third.{Query, atPosition, inCell, atFloats, queried, allowedDistance, asked}
 use Rattle.claims.specs.Examples.{Table, listed, Row, _gives_, _refusedAs_atPlace_, recordsFrom, coefficientsOf, backFrom, backInto, pair, at-x}
 
 -- ---- what a row computes
@@ -149,6 +152,39 @@ refusals =
     ∷ (tested (readCheck (fileWith (0 ∷ 0 ∷ [])) 0) refusedAs 7 atPlace 20)
     ∷ []
 
+-- ---- refusals of a position
+
+-- a record beyond its limit
+abbrev pub beyondLimit : List ℤ
+beyondLimit = only plane 0 (pos 32769)
+
+-- −m/1024
+abbrev pub minus : ℕ → Float
+minus m = fin true m (negsuc 9)
+
+abbrev pub atFloat : Float → Float → Float → Query
+atFloat x y z = atFloats (floatsAt (record { x = x; y = y; z = z }))
+
+unfoldable pub positions : List Row
+positions =
+    -- 22 and 11 are told apart, the first axis decides
+    (answerFrom plane beyondLimit dose (atPoint (negsuc 0) (pos 257) (pos 1)) refusedAs 22 atPlace 0)
+    ∷ (answerFrom plane beyondLimit dose (atPoint (pos 257) (negsuc 0) (pos 1)) refusedAs 11 atPlace 0)
+    ∷ (answerFrom plane beyondLimit (slopeAlong 0) (atPoint (pos 256) (negsuc 0) (pos 1)) refusedAs 22 atPlace 1)
+    -- 23 before 22 and 11, and before 5
+    ∷ (answerFrom plane beyondLimit dose (atPoint (pos 256) (pos 0) (negsuc 0)) refusedAs 23 atPlace 2)
+    ∷ (answerFrom plane beyondLimit dose (atPoint (pos 0) (pos 256) (pos 1)) refusedAs 23 atPlace 2)
+    -- u is never below 0; 23 on an unused axis, where a cell index is 14
+    ∷ (answerFrom plane beyondLimit dose (inCell (0 ∷ 0 ∷ 0 ∷ []) (2147483648 ∷ 0 ∷ 1 ∷ [])) refusedAs 11 atPlace 0)
+    ∷ (answerFrom plane beyondLimit dose (inCell (0 ∷ 0 ∷ 0 ∷ []) (256 ∷ 256 ∷ 257 ∷ [])) refusedAs 23 atPlace 2)
+    ∷ (answerFrom plane beyondLimit dose (inCell (0 ∷ 0 ∷ 1 ∷ []) (0 ∷ 0 ∷ 1 ∷ [])) refusedAs 14 atPlace 2)
+    -- a float by its step: −1/1024 is step 0, −3/1024 step −1; 10 before all of its axis
+    ∷ (answerFrom plane (only plane 0 (pos 7)) dose (atFloat (minus 1) (minus 1) (minus 1)) gives pos 7 ∷ [])
+    ∷ (answerFrom plane beyondLimit dose (atFloat (minus 1) (minus 3) nan) refusedAs 22 atPlace 1)
+    ∷ (answerFrom plane beyondLimit dose (atFloat (minus 1) (minus 1) (minus 3)) refusedAs 23 atPlace 2)
+    ∷ (answerFrom plane beyondLimit dose (atFloat (minus 1) (minus 1) nan) refusedAs 10 atPlace 2)
+    ∷ []
+
 -- ---- borders, cells, limits, nodes and entries
 
 unfoldable pub readings : List Row
@@ -202,4 +238,4 @@ numbers =
     ∷ []
 
 unfoldable pub pins : List Row
-pins = refusals ++ readings ++ numbers
+pins = refusals ++ positions ++ readings ++ numbers

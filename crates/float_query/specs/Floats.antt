@@ -1,5 +1,5 @@
 -- Queries by float: each of three floats, in cells, becomes the step nearest to 256 times its exact value, halves up.
-use mathlib.Core.Bool.{Bool}
+use mathlib.Core.Bool.{Bool, not, _&&_, _||_}
 use mathlib.Core.List.{List}
 use Prim.Native.Nat.{ℕ, zero, suc}
 use lib.Dec.{ltb, eqb}
@@ -8,7 +8,7 @@ use lib.Ieee.Scale.{finite}
 use lib.IntN.{ℤ, pos, negsuc}
 use Rattle.arith.specs.Choice.{pick}
 use Rattle.lattice.specs.declared.Shape.{Shape}
-use Rattle.lattice.specs.Outcome.{Outcome, Check, done, refused, refuseUnless, first, firstOf}
+use Rattle.lattice.specs.Outcome.{Outcome, Check, refuseUnless, first, firstOf}
 use Rattle.hermite.specs.Hermite.{steps}
 use Rattle.floats.specs.declared.FloatStep.{FloatStep}
 use Rattle.floats.specs.Step.{step}
@@ -26,11 +26,11 @@ floatsAt p (suc (suc a)) = p .z
 unfoldable pub stepsOf : (ℕ → Float) → Position
 stepsOf x a = pick (ltb a 3) (step steps (x a)) (pos 0)
 
--- 10: NaN or infinite; then 11, which looks at the step; place is the axis
+-- 10: NaN or infinite; then 23, 22, 11, which look at the step; place is the axis
 unfoldable pub floatOutcome : Shape → (ℕ → Float) → ℕ → Check
 floatOutcome s x a = first (refuseUnless (finite (x a)) 10 a) (positionOutcome s (stepsOf x) a)
 
--- for each axis 10 before 11, then 5
+-- on each axis 10, 23, 22, 11; then 5
 unfoldable pub byFloat : Shape → List ℤ → Want → (ℕ → Float) → Outcome ℤ
 byFloat s rs want x =
     first (askedOutcome s rs want)
@@ -48,7 +48,6 @@ finiteOn x y z zero = x .finite
 finiteOn x y z (suc zero) = y .finite
 finiteOn x y z (suc (suc a)) = z .finite
 
--- 10 for 11 on an axis whose float is not finite
-unfoldable pub withTen : {A : Type 0} → (ℕ → Bool) → Outcome A → Outcome A
-withTen finite (done v) = done v
-withTen finite (refused number place) = refused (pick (eqb number 11) (pick (finite place) 11 10) number) place
+-- 10 for 22 and 23 on an axis whose float is not finite
+unfoldable pub tenNumber : (ℕ → Bool) → ℕ → ℕ → ℕ
+tenNumber finite number place = pick ((eqb number 22 || eqb number 23) && not (finite place)) 10 number

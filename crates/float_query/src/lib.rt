@@ -1,11 +1,14 @@
 // Doses and slopes by three float positions, as floats.
 ghost use mathlib.Core.Path.{_≡_};
+ghost use mathlib.Core.Bool.{_||_};
 ghost use Prim.Native.Nat.{ℕ, _<_, _^_};
+ghost use lib.Dec.{eqb};
 ghost use lib.IntN.{ℤ, natAbs};
 ghost use Rattle.lattice.specs.Outcome.{done};
 ghost use Rattle.evaluate.specs.Wants.{wanted, wantOf};
 ghost use Rattle.query.specs.Answers.{outcomeOfReading};
-ghost use Rattle.float_query.specs.Floats.{floatsAt, byFloat, heldStep, finiteOn, withTen};
+ghost use Rattle.query.specs.Parts.{renumbered};
+ghost use Rattle.float_query.specs.Floats.{floatsAt, byFloat, heldStep, finiteOn, tenNumber};
 ghost use Rattle.float_query.specs.Answers.{outcomeOfFloat, inFloat};
 use evaluate::Derivative;
 use floats::FloatStep;
@@ -66,14 +69,21 @@ fn finite_on(x: FloatStep, y: FloatStep, z: FloatStep, axis: usize) -> bool
     z.finite
 }
 
-// The answer at the steps of three floats: 10 for 11 where the float is not finite.
+// Whether a refusal is one of a step below 0, which is held for a float that is not finite.
+fn of_below(number: u32) -> bool
+    ensures { λ r. ⌜ r ≡ (eqb number 22 || eqb number 23) ⌝ }
+{
+    number == 22 || number == 23
+}
+
+// The answer at the steps of three floats: 10 for 22 and 23 where the float is not finite.
 fn with_ten(a: Reading, x: FloatStep, y: FloatStep, z: FloatStep) -> Reading
-    ensures { λ r. ⌜ outcomeOfReading r ≡ withTen (finiteOn x y z) (outcomeOfReading a) ⌝ }
+    ensures { λ r. ⌜ outcomeOfReading r ≡ renumbered (tenNumber (finiteOn x y z)) (outcomeOfReading a) ⌝ }
 {
     match a {
         Reading::Value(_) => a,
         Reading::Refused(r) => {
-            if r.number == 11 && !finite_on(x, y, z, r.place) {
+            if of_below(r.number) && !finite_on(x, y, z, r.place) {
                 return Reading::Refused(Refusal {
                     number: 10,
                     place: r.place,

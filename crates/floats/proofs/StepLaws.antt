@@ -1,19 +1,20 @@
 -- What the definitions of steps promise: a step is the nearest whole number, halves up; held in 32 bits it passes the same tests of a
 -- position.
-use mathlib.Core.Path.{_≡_, refl, ap, subst}
+use mathlib.Core.Path.{_≡_, refl, sym, ap, subst, _∙_}
 use mathlib.Core.Bool.{Bool, true, false, _&&_, false≢true}
 use mathlib.Core.List.{[], _∷_}
 use Prim.Native.Nat.{ℕ, _*_, _^_, min, _≤_, _<_}
 use native.Mathlib.Nat.{one-mul}
+use native.Mathlib.Decide.{ℕ-discrete}
 use native.Mathlib.Omega.{arith}
-use lib.Dec.{T, leb, leb→le, le→leb}
+use lib.Dec.{T, leb, eqb, leb→le, le→leb}
 use lib.IntN.{ℤ, pos, negsuc, negℤ, natAbs, _*ℤ_}
 use lib.Signed.{_≤ℤ_, mag, nonNeg}
 use lib.Ieee.{Float, nan, inf, fin, up, down}
 use lib.Ieee.Fits.{down-pos}
 use lib.Ieee.Exact.{HasValue}
 use lib.Ieee.Positive.{den, den-pos}
-use borrow.Author.Tests.{leb-true}
+use borrow.Author.Tests.{leb-true, eq-eqb, ne-eqb}
 use Rattle.arith.specs.Int.{roundHalfUp}
 use Rattle.arith.proofs.Abs.{abs-neg}
 use Rattle.arith.proofs.Quote.{quotes, ring! }
@@ -53,7 +54,7 @@ agree true false f g = absurd (f tt)
 agree false true f g = absurd (g tt)
 agree false false f g = refl
 
--- the tests of refusal 11 come out the same
+-- the tests of a position come out the same: from 0 to a limit
 abbrev pub within : ℤ → ℕ → Bool
 within z limit = nonNeg z && leb (natAbs z) limit
 
@@ -64,6 +65,18 @@ clamped-within (pos n) limit h =
     (λ t. le→leb n limit (omega (arith, leb→le (min n 2147483647) limit t)))
     (λ t. le→leb (min n 2147483647) limit (omega (arith, leb→le n limit t)))
 clamped-within (negsuc n) limit h = refl
+
+-- and 0
+pub clamped-zero : (z : ℤ) → eqb (natAbs (clamped z)) 0 ≡ eqb (natAbs z) 0
+unfolding clamped
+clamped-zero (pos n) = go (ℕ-discrete n 0)
+  where
+    go : Dec (n ≡ 0) → eqb (min n 2147483647) 0 ≡ eqb n 0
+    go (yes e) = eq-eqb (min n 2147483647) 0 (omega arith) ∙ sym (eq-eqb n 0 e)
+    go (no k) = ne-eqb (min n 2147483647) 0 (λ e. k (omega arith)) ∙ sym (ne-eqb n 0 k)
+clamped-zero (negsuc n) =
+    ne-eqb (natAbs (negsuc (min n 2147483647))) 0 (λ e. absurd (omega arith))
+    ∙ sym (ne-eqb (natAbs (negsuc n)) 0 (λ e. absurd (omega arith)))
 
 -- and a step that passes is held as it is
 pub clamped-same : (z : ℤ) (limit : ℕ) → limit < 2147483647 → within z limit ≡ true → clamped z ≡ z

@@ -22,7 +22,8 @@ numerator (fin s m e) = signed s (m * up e)
 unfoldable pub step : ℕ → Float → ℤ
 step N x = roundHalfUp (pos N *ℤ numerator x) (den x)
 
--- the nearest number that 32 signed bits hold; `clamped-within` says that a test of a position takes z and clamped z alike
+-- the nearest number that 32 signed bits hold; `clamped-within` and `clamped-zero` say that the tests of a position take z and clamped z
+-- alike
 unfoldable pub clamped : ℤ → ℤ
 clamped (pos n) = pos (min n 2147483647)
 clamped (negsuc n) = negsuc (min n 2147483647)

@@ -1,3 +1,4 @@
-pub mod Locate
 pub mod QueryLaws
+pub mod Renumbered
+pub mod Locate
 pub mod OneCell

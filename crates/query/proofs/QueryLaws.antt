@@ -1,19 +1,21 @@
 -- The facts behind a query that is not refused, when it is not, and a query by position as the query by its cell and in-cell step.
 use mathlib.Core.Path.{_≡_, refl, sym, ap, subst, _∙_}
-use mathlib.Core.Bool.{Bool, true, false, _&&_}
+use mathlib.Core.Bool.{Bool, true, false, _||_}
 use mathlib.Core.List.{List, [], _∷_}
 use Prim.Native.Nat.{ℕ, _+_, _*_, _-_, _^_, _≤_, _<_}
+use native.Mathlib.Decide.{decLt}
 use native.Mathlib.Omega.{arith}
 use lib.Dec.{leb, ltb, eqb}
 use lib.ListN.{length, take}
 use lib.Seq.{take-length}
-use lib.IntN.{ℤ, natAbs}
+use lib.IntN.{ℤ, pos, negsuc, natAbs}
 use lib.Signed.{nonNeg, mag}
 use mir.Syntax.{w32}
 use mir.Val.{toZ, ofZ}
-use borrow.Author.Tests.{ltb-true, leb-true, eqb-true, le-leb, eq-eqb}
+use borrow.Author.Tests.{ltb-true, ltb-false, leb-true, eqb-true, le-ltb, le-leb, eq-eqb}
+use Rattle.arith.specs.Choice.{pick}
 use Rattle.arith.proofs.Machine.{element}
-use Rattle.arith.proofs.Choices.{and-true}
+use Rattle.arith.proofs.Choices.{split}
 use Rattle.arith.proofs.Round.{half-up-sound}
 use Rattle.lattice.specs.declared.Shape.{Shape}
 use Rattle.lattice.specs.Outcome.{Outcome, Check, done, refused, refuseUnless, first, firstOf, passed}
@@ -21,16 +23,16 @@ use Rattle.lattice.specs.Shape.{count, orders, entries, size, shapeOutcome, Sha
 use Rattle.lattice.specs.Axes.{Place, OnUsed}
 use Rattle.lattice.specs.Records.{recordsField}
 use Rattle.lattice.proofs.ShapeLaws.{orders-range, shaped}
-use Rattle.lattice.proofs.OutcomeLaws.{first-done, first-passed, refused-first, passed-done, done-same, refuse-done, passes, firstOf-each}
+use Rattle.lattice.proofs.OutcomeLaws.{first-done, first-passed, first-assoc, refused-first, passed-done, done-same, refuse-done, passes, firstOf-each, firstOf-passes}
 use Rattle.hermite.specs.Hermite.{steps}
 use Rattle.hermite.specs.Stage.{Smooth}
 use Rattle.cell.specs.declared.Layout.{Layout}
 use Rattle.cell.specs.Cell.{placeAt, cellOutcome, cornersOutcome, Accepted, Laid, base, nodeStride}
-use Rattle.cell.proofs.CellLaws.{used-passed, all-passed, all-pass, accepted}
+use Rattle.cell.proofs.CellLaws.{place-beyond, accepted}
 use Rattle.evaluate.specs.Stages.{Ready}
 use Rattle.evaluate.proofs.Answering.{answer-fits}
 use Rattle.evaluate.specs.Evaluate.{Want, dose, derivativeAlong, orderWanted, lastAxis, askAt, answer}
-use Rattle.query.specs.Queries.{wantOutcome, askedOutcome, testedOutcome, reading, stepsOutcome, byCell, Position, positionOutcome, cellOf}
+use Rattle.query.specs.Queries.{wantOutcome, askedOutcome, testedOutcome, reading, positionTest, stepsOutcome, byCell, Position, positionOutcome, cellOf}
 
 -- a derivative that is not refused 12 or 21
 pub want-parts : (s : Shape) (order a : ℕ) → wantOutcome s (derivativeAlong order a) ≡ done tt → (a < s .axes) × Smooth order (orders s)
@@ -51,20 +53,91 @@ unfolding wantOutcome orderWanted
 want-smooth s dose h = omega (arith, orders-range (s .degree) .0)
 want-smooth s (derivativeAlong order a) h = want-parts s order a h .1
 
--- steps that are not refused 11, and back
-pub step-inside : (s : Shape) (step : Place) → Shaped s → stepsOutcome s step ≡ done tt → (a : ℕ) → a < s .axes → step a ≤ steps
+-- ---- a position on an axis
+
+module _ (s : Shape) (last : ℕ) (p : ℤ) (a : ℕ) where
+  abbrev high : Check
+  high = refuseUnless (leb (natAbs p) last) 11 a
+
+  -- 22, then 11, where the axis is used
+  pub used-test : ltb a (s .axes) ≡ true → positionTest s last p a ≡ first (refuseUnless (nonNeg p) 22 a) high
+  unfolding positionTest
+  used-test e = ap (λ (b : Bool). first (refuseUnless (b || eqb (natAbs p) 0) 23 a) (first (refuseUnless (nonNeg p) 22 a) high)) e
+
+  -- 23 alone where it is not
+  pub unused-test : ltb a (s .axes) ≡ false → positionTest s last p a ≡ refuseUnless (eqb (natAbs p) 0) 23 a
+  unfolding positionTest
+  unused-test e =
+      ap (λ (b : Bool). first (refuseUnless (b || eqb (natAbs p) 0) 23 a) (first (refuseUnless (nonNeg p) 22 a) high)) e
+      ∙ split (eqb (natAbs p) 0)
+      (λ z. rw z (nothing p (eqb-true (natAbs p) 0 z)))
+      (λ z. rw z refl)
+    where
+      -- 0 is neither below 0 nor beyond
+      nothing : (p : ℤ) → natAbs p ≡ 0 → first (refuseUnless (nonNeg p) 22 a) (refuseUnless (leb (natAbs p) last) 11 a) ≡ done tt
+      nothing (pos n) e = passes (leb n last) 11 a (le-leb n last (omega arith))
+      nothing (negsuc n) e = absurd (omega arith)
+
+  -- what the test says where it is passed, and where it is
+  pub test-known : positionTest s last p a ≡ done tt → (nonNeg p ≡ true) × (natAbs p ≤ last) × (s .axes ≤ a → natAbs p ≡ 0)
+  unfolding positionTest
+  test-known h =
+      let f = first-done (refuseUnless (ltb a (s .axes) || eqb (natAbs p) 0) 23 a) (first (refuseUnless (nonNeg p) 22 a) high) tt h in
+      let g = first-done (refuseUnless (nonNeg p) 22 a) high tt (f .1) in (
+        refuse-done (nonNeg p) 22 a (g .0),
+        leb-true (natAbs p) last (refuse-done (leb (natAbs p) last) 11 a (g .1)),
+        λ l. eqb-true (natAbs p) 0 (refuse-done (eqb (natAbs p) 0) 23 a (sym (unused-test (le-ltb a (s .axes) l)) ∙ h)),
+      )
+
+  pub test-passes : nonNeg p ≡ true → natAbs p ≤ last → (s .axes ≤ a → natAbs p ≡ 0) → positionTest s last p a ≡ done tt
+  test-passes h k none = split (ltb a (s .axes))
+      (λ e. used-test e ∙ first-passed (refuseUnless (nonNeg p) 22 a) high (passes (nonNeg p) 22 a h)
+      ∙ passes (leb (natAbs p) last) 11 a (le-leb (natAbs p) last k))
+      (λ e. unused-test e ∙ passes (eqb (natAbs p) 0) 23 a (eq-eqb (natAbs p) 0 (none (ltb-false a (s .axes) e))))
+
+-- in-cell steps that are not refused, and back
+step-known : (s : Shape) (step : Place) → stepsOutcome s step ≡ done tt → (a : ℕ) → a < 3 → (step a ≤ steps) × (s .axes ≤ a → step a ≡ 0)
 unfolding stepsOutcome
-step-inside s step f h a l = leb-true (step a) steps (used-passed (s .axes) 11 (λ a i. leb i steps) step h (f .axes-high) a l)
+step-known s step h a l =
+    let f = test-known s steps (pos (step a)) a (firstOf-each 3 (λ a. positionTest s steps (pos (step a)) a) h a l) in (f .1, f .2)
+
+pub step-inside : (s : Shape) (step : Place) → Shaped s → stepsOutcome s step ≡ done tt → (a : ℕ) → a < s .axes → step a ≤ steps
+step-inside s step f h a l = step-known s step h a (let k = f .axes-high in omega arith) .0
 
 pub steps-known : (s : Shape) (xs : List ℕ) → s .axes ≤ 3 → stepsOutcome s (placeAt xs) ≡ done tt
     → OnUsed (s .axes) (λ a i. i ≤ steps) (placeAt xs)
-unfolding stepsOutcome
-steps-known s = all-passed (s .axes) 11 (λ a i. leb i steps) (λ a i. i ≤ steps) (λ a i. leb-true i steps)
+steps-known s xs high h = record
+    { used = λ a l. step-known s (placeAt xs) h a (omega arith) .0; unused = λ a l. other a l (decLt a 3) }
+  where
+    other : (a : ℕ) → s .axes ≤ a → Dec (a < 3) → placeAt xs a ≡ 0
+    other a l (yes k) = step-known s (placeAt xs) h a k .1 l
+    other a l (no k) = place-beyond xs a (omega (arith, k))
 
-pub steps-pass : (s : Shape) (step : Place) → OnUsed (s .axes) (λ a i. i ≤ steps) step → stepsOutcome s step ≡ done tt
+pub steps-pass : (s : Shape) (step : Place) → ((a : ℕ) → a < s .axes → step a ≤ steps) → ((a : ℕ) → a < 3 → s .axes ≤ a → step a ≡ 0)
+    → stepsOutcome s step ≡ done tt
 unfolding stepsOutcome
-steps-pass s step h = all-pass (s .axes) 11 (λ a i. leb i steps) (λ a i. i ≤ steps) (λ a i. le-leb i steps) step (h .used)
-    (λ a l. h .unused a)
+steps-pass s step used none = firstOf-passes 3 (λ a. positionTest s steps (pos (step a)) a) (λ a l. go a l (decLt a (s .axes)))
+  where
+    go : (a : ℕ) → a < 3 → Dec (a < s .axes) → positionTest s steps (pos (step a)) a ≡ done tt
+    go a l (yes k) = test-passes s steps (pos (step a)) a refl (used a k) (λ n. absurd (omega arith))
+    go a l (no k) =
+        let e = none a l (omega (arith, k)) in
+        test-passes s steps (pos (step a)) a refl (omega arith) (λ n. e)
+
+-- the test that the code makes of a step
+pub step-test : (s : Shape) (u a : ℕ)
+    → refuseUnless (pick (ltb a (s .axes)) (leb u steps) (eqb u 0)) (pick (ltb a (s .axes)) 11 23) a ≡ positionTest s steps (pos u) a
+unfolding pick
+step-test s u a = split (ltb a (s .axes))
+    (λ e. rw e refl ∙ sym (used-test s steps (pos u) a e))
+    (λ e. rw e refl ∙ sym (unused-test s steps (pos u) a e))
+
+-- one axis after the other
+pub steps-scanned : (s : Shape) (u v w : ℕ) {x y z one two three : Check} → x ≡ positionTest s steps (pos u) 0
+    → y ≡ positionTest s steps (pos v) 1 → z ≡ positionTest s steps (pos w) 2
+    → one ≡ x → two ≡ first one y → three ≡ first two z → three ≡ stepsOutcome s (placeAt (u ∷ v ∷ w ∷ []))
+unfolding stepsOutcome firstOf placeAt pick
+steps-scanned s u v w ex ey ez e f g = rw (g, f, e, ex, ey, ez) refl
 
 -- the tests of a query that is not refused, and its answer
 pub record Asked (s : Shape) (rs : List ℤ) (want : Want) (cell step : Place) (v : ℤ) : Type 0 where
@@ -149,6 +222,14 @@ module _ (s : Shape) (rs : List ℤ) (want : Want) (cell step : Place) where
   by-cell-passes l h w c u k =
       by-cell-reads (tested-passes (record { asked = asked-passes s rs want l h w; cells = c; inside = u }))
       ∙ reading-passes s rs want cell step k
+
+-- a query by cell as its tests one after the other
+pub by-cell-is : (s : Shape) (rs : List ℤ) (want : Want) (cell step : Place)
+    → byCell s rs want cell step
+    ≡ first (askedOutcome s rs want) (first (first (cellOutcome s cell) (stepsOutcome s step)) (reading s rs want cell step))
+unfolding byCell testedOutcome
+by-cell-is s rs want cell step =
+    first-assoc (askedOutcome s rs want) (first (cellOutcome s cell) (stepsOutcome s step)) (reading s rs want cell step)
 
 -- the slice made anew of all the records
 abbrev pub lent : List ℤ → List ℤ
@@ -244,13 +325,10 @@ reader s rs want cell step t =
 -- ---- positions
 
 -- a position of the table: on a used axis a step of an accepted cell, on an unused one 0
-pub position-range : (s : Shape) (p : Position) → firstOf 3 (positionOutcome s p) ≡ done tt → (a : ℕ) → a < 3 → (nonNeg (p a) ≡ true)
-    × (natAbs (p a) ≤ steps * (count s a - 1))
+pub position-range : (s : Shape) (p : Position) → firstOf 3 (positionOutcome s p) ≡ done tt → (a : ℕ) → a < 3
+    → (nonNeg (p a) ≡ true) × (natAbs (p a) ≤ steps * (count s a - 1)) × (s .axes ≤ a → natAbs (p a) ≡ 0)
 unfolding positionOutcome
-position-range s p h a l =
-    let f = and-true (nonNeg (p a)) (leb (natAbs (p a)) (steps * (count s a - 1)))
-    (refuse-done (nonNeg (p a) && leb (natAbs (p a)) (steps * (count s a - 1))) 11 a (firstOf-each 3 (positionOutcome s p) h a l)) in
-    (f .0, leb-true (natAbs (p a)) (steps * (count s a - 1)) (f .1))
+position-range s p h a l = test-known s (steps * (count s a - 1)) (p a) a (firstOf-each 3 (positionOutcome s p) h a l)
 
 pub in-cell : (c P : ℕ) → 2 ≤ c → P ≤ steps * (c - 1) → (cellOf steps c P + 2 ≤ c) × (steps * cellOf steps c P ≤ P)
     × (P - steps * cellOf steps c P ≤ steps)

@@ -1,6 +1,6 @@
 -- The queries by cell and in-cell step, and by table position: what each is refused for, in the order of document 01, and what it gives.
 use Prim.Native.Nat.{ℕ, _*_, _-_, _/_, min}
-use mathlib.Core.Bool.{_&&_}
+use mathlib.Core.Bool.{_||_}
 use mathlib.Core.List.{List}
 use lib.Dec.{leb, ltb, eqb}
 use lib.IntN.{ℤ, pos, natAbs}
@@ -8,7 +8,7 @@ use lib.ListN.{length}
 use lib.Signed.{nonNeg}
 use Rattle.arith.specs.Choice.{pick}
 use Rattle.lattice.specs.declared.Shape.{Shape}
-use Rattle.lattice.specs.Outcome.{Outcome, Check, done, refuseUnless, first, firstOf, onAxes}
+use Rattle.lattice.specs.Outcome.{Outcome, Check, done, refuseUnless, first, firstOf}
 use Rattle.lattice.specs.Buffer.{at}
 use Rattle.lattice.specs.Shape.{count, orders, size, shapeOutcome}
 use Rattle.lattice.specs.Axes.{Place}
@@ -31,13 +31,21 @@ askedOutcome s rs want =
 unfoldable pub reading : Shape → List ℤ → Want → Place → Place → Outcome ℤ
 reading s rs want cell step = first (cornersOutcome s rs cell) (done (answer (askAt s want cell step) (recordsField s rs)))
 
+-- ---- a position on an axis
+
+-- 23: not 0 on an unused axis; then 22: below 0; then 11: beyond the last; place is the axis
+unfoldable pub positionTest : Shape → ℕ → ℤ → ℕ → Check
+positionTest s last p a =
+    first (refuseUnless (ltb a (s .axes) || eqb (natAbs p) 0) 23 a)
+    (first (refuseUnless (nonNeg p) 22 a) (refuseUnless (leb (natAbs p) last) 11 a))
+
 -- ---- by cell and in-cell step
 
--- 11: u above 256, or not 0 on an unused axis; place is the axis
+-- u on each axis, the last being 256; never below 0
 unfoldable pub stepsOutcome : Shape → Place → Check
-stepsOutcome s step = onAxes 11 (λ a. pick (ltb a (s .axes)) (leb (step a) steps) (eqb (step a) 0))
+stepsOutcome s step = firstOf 3 (λ a. positionTest s steps (pos (step a)) a)
 
--- then 14, 11
+-- then 14; then on each axis 23, 11
 unfoldable pub testedOutcome : Shape → List ℤ → Want → Place → Place → Check
 testedOutcome s rs want cell step = first (askedOutcome s rs want) (first (cellOutcome s cell) (stepsOutcome s step))
 
@@ -55,9 +63,9 @@ Position = ℕ → ℤ
 unfoldable pub positionAt : List ℤ → Position
 positionAt xs a = pick (ltb a 3) (at xs a) (pos 0)
 
--- 11: below 0 or beyond the last node, and any but 0 on an unused axis, whose count is 1; place is the axis
+-- on one axis, the last being that of the last node
 unfoldable pub positionOutcome : Shape → Position → ℕ → Check
-positionOutcome s p a = refuseUnless (nonNeg (p a) && leb (natAbs (p a)) (steps * (count s a - 1))) 11 a
+positionOutcome s p a = positionTest s (steps * (count s a - 1)) (p a) a
 
 -- the smaller of p/256 rounded down and count − 2; the last node belongs to the last cell
 unfoldable pub cellOf : ℕ → ℕ → ℕ → ℕ
@@ -70,7 +78,7 @@ positionCell s p a = cellOf steps (count s a) (natAbs (p a))
 unfoldable pub positionStep : Shape → Position → Place
 positionStep s p a = natAbs (p a) - steps * positionCell s p a
 
--- then 11, 5
+-- then on each axis 23, 22, 11; then 5
 unfoldable pub byPosition : Shape → List ℤ → Want → Position → Outcome ℤ
 byPosition s rs want p =
     first (askedOutcome s rs want) (first (firstOf 3 (positionOutcome s p)) (reading s rs want (positionCell s p) (positionStep s p)))

@@ -2,7 +2,7 @@
 ghost use mathlib.Core.Path.{_≡_};
 ghost use mathlib.Core.Bool.{false};
 ghost use mathlib.Core.List.{List, [], _∷_};
-ghost use Prim.Native.Nat.{_≤_};
+ghost use Prim.Native.Nat.{ℕ, _+_, _*_, _^_, _≤_};
 ghost use lib.Dec.{leb, ltb, eqb};
 ghost use lib.IntN.{ℤ};
 ghost use lib.ListN.{length};
@@ -15,6 +15,7 @@ ghost use Rattle.cell.specs.Cell.{placeAt, cornersOutcome, Accepted, Laid};
 ghost use Rattle.evaluate.specs.Evaluate.{derivativeAlong};
 ghost use Rattle.evaluate.specs.Wants.{wanted, wantOf};
 ghost use Rattle.query.specs.Answers.{outcomeOfReading};
+ghost use Rattle.query.specs.Parts.{renumbered, below, positionNumber, cellNumber};
 ghost use Rattle.query.specs.Queries.{wantOutcome, askedOutcome, testedOutcome, reading, stepsOutcome, byCell, positionAt, cellOf, byPosition};
 use cell::Layout;
 use evaluate::Derivative;
@@ -77,17 +78,54 @@ fn step_allowed(n: u32, step: u32, axis: u32) -> bool
     lattice::by_use(n, axis, step <= 256, step == 0)
 }
 
-// Refusal 11 of an in-cell step.
+// The number of a step that is not allowed: 23 where the axis is not used, else 11.
+fn step_number(n: u32, axis: u32) -> u32
+    ensures { λ r. ⌜ r ≡ pick (ltb axis n) 11 23 ⌝ }
+{
+    if axis < n { 11 } else { 23 }
+}
+
+// Refusals 23 and 11 of an in-cell step.
 pub fn check_steps(n: u32, s: Shape, u: u32, v: u32, w: u32) -> Check
     requires { ⌜ n ≡ s .axes ⌝ }
     ensures { λ r. ⌜ outcomeOf r ≡ stepsOutcome s (placeAt (u ∷ v ∷ w ∷ [])) ⌝ }
 {
-    let on_x = lattice::refuse_unless(step_allowed(n, u, 0), 11, 0);
-    let on_y = lattice::refuse_after(on_x, step_allowed(n, v, 1), 11, 1);
-    lattice::refuse_after(on_y, step_allowed(n, w, 2), 11, 2)
+    let on_x = lattice::refuse_unless(step_allowed(n, u, 0), step_number(n, 0), 0);
+    let on_y = lattice::refuse_after(on_x, step_allowed(n, v, 1), step_number(n, 1), 1);
+    lattice::refuse_after(on_y, step_allowed(n, w, 2), step_number(n, 2), 2)
 }
 
-// Refusals 2, 3, 4, 12, 21, 14 and 11 on n axes.
+// Whether a position is below 0, by its cell and in-cell step.
+fn is_below(cell: u32, step: u32) -> bool
+    ensures { λ r. ⌜ r ≡ leb (2 ^ 31) (steps * cell + step) ⌝ }
+{
+    2147483648 <= 256 * (cell as u64) + step as u64
+}
+
+// Whether the position on an axis is below 0.
+fn below_on(axis: usize, cell: [u32; 3], step: [u32; 3]) -> bool
+    ensures { λ r. ⌜ r ≡ below (placeAt cell) (placeAt step) axis ⌝ }
+{
+    if axis == 0 {
+        return is_below(cell[0], step[0]);
+    }
+    if axis == 1 {
+        return is_below(cell[1], step[1]);
+    }
+    axis == 2 && is_below(cell[2], step[2])
+}
+
+// The number of a refusal by position: 22 for 11 where the position is below 0; found for refusals alone, so that no answer waits.
+pub fn position_number(number: u32, axis: usize, cell: [u32; 3], step: [u32; 3]) -> u32
+    ensures { λ r. ⌜ r ≡ positionNumber (placeAt cell) (placeAt step) number axis ⌝ }
+{
+    if number == 11 && below_on(axis, cell, step) {
+        return 22;
+    }
+    number
+}
+
+// Refusals 2, 3, 4, 12, 21, 14, 23 and 11 on n axes.
 fn check_query(
     n: u32,
     s: Shape,
@@ -115,7 +153,7 @@ fn check_query(
     check_steps(n, s, u, v, w)
 }
 
-// Refusals 1, 2, 3, 4, 12, 21, 14 and 11; the number of axes is a constant where the tests are made.
+// Refusals 1, 2, 3, 4, 12, 21, 14, 23 and 11; the number of axes is a constant where the tests are made.
 fn check_by_axes(
     s: Shape,
     given: usize,
@@ -198,7 +236,7 @@ fn read_lattice(
     beyond(s, records, cell, l)
 }
 
-// The dose or derivative at step (u, v, w) of cell (i, j, k).
+// The dose or derivative at step (u, v, w) of cell (i, j, k), those of a position.
 fn read(
     s: Shape,
     records: &[i32],
@@ -211,12 +249,15 @@ fn read(
     order: u32,
     axis: u32,
 ) -> Reading
-    ensures { λ r. ⌜ outcomeOfReading r ≡ byCell s (now (records .entry)) (wantOf order axis) (placeAt (i ∷ j ∷ k ∷ [])) (placeAt (u ∷ v ∷ w ∷ [])) ⌝ }
+    ensures { λ r. ⌜ outcomeOfReading r ≡ renumbered (positionNumber (placeAt (i ∷ j ∷ k ∷ [])) (placeAt (u ∷ v ∷ w ∷ []))) (byCell s (now (records .entry)) (wantOf order axis) (placeAt (i ∷ j ∷ k ∷ [])) (placeAt (u ∷ v ∷ w ∷ []))) ⌝ }
 {
     let long = records.len();
     let tested = check_by_axes(s, long, i, j, k, u, v, w, order, axis);
     match tested {
-        Check::Refused(r) => Reading::Refused(r),
+        Check::Refused(r) => Reading::Refused(Refusal {
+            number: position_number(r.number, r.place, [i, j, k], [u, v, w]),
+            place: r.place,
+        }),
         Check::Done => {
             // Slices made anew stay in registers.
             if s.axes == 1 {
@@ -224,6 +265,26 @@ fn read(
             }
             read_lattice(s, &records[..long], [i, j, k], [u, v, w], order, axis)
         }
+    }
+}
+
+// The number of a refusal by cell, where nothing is below 0: 11 for 22.
+fn cell_number(number: u32) -> u32
+    ensures { λ r. ⌜ ((place : ℕ) → r ≡ cellNumber number place) ⌝ }
+{
+    if number == 22 { 11 } else { number }
+}
+
+// A reading at the cell and step of a position, told by cell.
+fn by_cell(a: Reading) -> Reading
+    ensures { λ r. ⌜ outcomeOfReading r ≡ renumbered cellNumber (outcomeOfReading a) ⌝ }
+{
+    match a {
+        Reading::Value(_) => a,
+        Reading::Refused(r) => Reading::Refused(Refusal {
+            number: cell_number(r.number),
+            place: r.place,
+        }),
     }
 }
 
@@ -235,7 +296,7 @@ pub fn in_cell(s: Shape, records: &[i32], q: CellQuery) -> Reading
     let axis = q.derivative.axis;
     let cell = q.cell;
     let step = q.step;
-    read(
+    let a = read(
         s,
         records,
         cell[0],
@@ -246,7 +307,8 @@ pub fn in_cell(s: Shape, records: &[i32], q: CellQuery) -> Reading
         step[2],
         order,
         axis,
-    )
+    );
+    by_cell(a)
 }
 
 // The cell of a position on an axis of `count` nodes.

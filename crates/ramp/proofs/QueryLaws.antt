@@ -21,12 +21,14 @@ use Rattle.cell.specs.Corners.{cornerRecords}
 use Rattle.cell.proofs.CornerRecords.{records-length}
 use Rattle.cell.proofs.OneCell.{one-size, corners-same}
 use Rattle.evaluate.specs.Evaluate.{dose, lastAxis, askAt, answer}
-use Rattle.query.specs.Queries.{wantOutcome, askedOutcome, reading, positionOutcome, positionCell, positionStep, byPosition}
+use Rattle.query.specs.Parts.{positionNumber}
+use Rattle.query.specs.Queries.{wantOutcome, askedOutcome, reading, stepsOutcome, positionOutcome, positionCell, positionStep, byPosition}
 use Rattle.query.proofs.QueryLaws.{asked-passes, reading-passes, step-inside}
+use Rattle.query.proofs.Renumbered.{renumbered-done}
 use Rattle.query.proofs.OneCell.{answer-one-cell}
 use Rattle.ramp.specs.declared.Spot.{Spot}
 use Rattle.ramp.specs.Ramp.{queryAt, ownCall}
-use Rattle.ramp.specs.Parts.{one, Listed, Stands, Held, Readable}
+use Rattle.ramp.specs.Parts.{one, Listed, spotOutcome, Stands, Held, Readable}
 
 -- a refusal of a number, wherever its place
 pub record Refuses {A : Type 0} (number : ℕ) (o : Outcome A) : Type 0 where
@@ -55,6 +57,11 @@ corners-five s rs cell =
     firstOf-number 5 (λ i. leb (natAbs (recordsField s rs (cornerPlace s cell i))) (entryLimit (orders s) (s .axes) (cornerPlace s cell i)))
     (λ i. entryIndex s (cornerPlace s cell i)) (cornerEntries s)
 
+-- the step of a position that is not refused is not refused
+spot-passes : (s : Shape) (cell step : Place) → spotOutcome s cell step ≡ done tt → stepsOutcome s step ≡ done tt
+unfolding spotOutcome
+spot-passes s cell step = renumbered-done (positionNumber cell step) (stepsOutcome s step) tt
+
 module _ (s : Shape) (rs ps : List ℤ) (listed : Listed s rs ps) (i : ℕ) where
   ok : Shaped s
   ok = shaped s (listed .shape)
@@ -63,7 +70,7 @@ module _ (s : Shape) (rs ps : List ℤ) (listed : Listed s rs ps) (i : ℕ) wher
   unfolding wantOutcome
   asked = asked-passes s rs dose (listed .long) (listed .shape) refl
 
-  -- whether 11 arises
+  -- whether 23, 22 or 11 arises
   abbrev pub tested : Check
   tested = firstOf 3 (positionOutcome s (queryAt ps i))
 
@@ -116,7 +123,7 @@ module _ (s : Shape) (rs ps : List ℤ) (listed : Listed s rs ps) (i : ℕ) wher
         shape = ok;
         long = ap length (h .is) ∙ records-length s rs cell ∙ sym (one-size (s .axes) (s .degree) (ok .axes-low) (ok .axes-high));
         within = corners;
-        steps-low = step-inside s step ok (st .tests ∙ passes);
+        steps-low = step-inside s step ok (spot-passes s cell step (st .tests ∙ passes));
       }
 
       pub own-answers : (v : ℤ) → v ≡ answer (askAt (one s) dose origin step) (recordsField (one s) (take (size (one s)) held))

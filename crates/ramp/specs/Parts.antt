@@ -5,7 +5,7 @@ use mathlib.Core.List.{List, [], _∷_}
 use lib.IntN.{ℤ}
 use lib.ListN.{length, take, getD}
 use Rattle.lattice.specs.declared.Shape.{Shape}
-use Rattle.lattice.specs.Outcome.{done, firstOf}
+use Rattle.lattice.specs.Outcome.{Check, done, firstOf}
 use Rattle.lattice.specs.Buffer.{at}
 use Rattle.lattice.specs.Shape.{size, shapeOutcome, Shaped}
 use Rattle.lattice.specs.Axes.{Place, origin}
@@ -14,6 +14,7 @@ use Rattle.cell.specs.declared.Layout.{Layout}
 use Rattle.cell.specs.Cell.{placeAt, cornersOutcome, Accepted, Small, startOf}
 use Rattle.cell.specs.Corners.{cornerRecords, oneCell}
 use Rattle.evaluate.specs.declared.Axis.{Axis}
+use Rattle.query.specs.Parts.{renumbered, positionNumber}
 use Rattle.query.specs.Queries.{Position, positionOutcome, positionCell, positionStep, stepsOutcome}
 use Rattle.ramp.specs.declared.Spot.{Spot}
 use Rattle.ramp.specs.Ramp.{queries}
@@ -31,9 +32,13 @@ pub record Listed (s : Shape) (rs ps : List ℤ) : Type 0 where
 
 -- ---- a position
 
+-- the tests of a position, by its cell and in-cell step
+unfoldable pub spotOutcome : Shape → Place → Place → Check
+spotOutcome s cell step = renumbered (positionNumber cell step) (stepsOutcome s step)
+
 -- the cell and the in-cell step of a position, which are tested as the position is
 pub record Stands (s : Shape) (p : Position) (spot : Spot) : Type 0 where
-  pub tests : stepsOutcome s (placeAt (spot .step)) ≡ firstOf 3 (positionOutcome s p)
+  pub tests : spotOutcome s (placeAt (spot .cell)) (placeAt (spot .step)) ≡ firstOf 3 (positionOutcome s p)
   pub here : Accepted s (placeAt (spot .cell))
   pub cell-is : firstOf 3 (positionOutcome s p) ≡ done tt → placeAt (spot .cell) ≡ positionCell s p
   pub step-is : firstOf 3 (positionOutcome s p) ≡ done tt → placeAt (spot .step) ≡ positionStep s p

@@ -16,10 +16,9 @@ ghost use Rattle.lattice.specs.Records.{recordsField};
 ghost use Rattle.cell.specs.Cell.{placeAt, cornersOutcome, Accepted, limitIn, Limits, recordOutcome, startOf};
 ghost use Rattle.evaluate.specs.Evaluate.{dose, askAt, answer};
 ghost use Rattle.evaluate.specs.Stages.{AreEnds, AtBoth, after, stridesOf, AllPrepared, Safe, Workable, WorkedOff};
-ghost use Rattle.query.specs.Queries.{stepsOutcome};
 ghost use Rattle.ramp.specs.Ramp.{queries, queryAt, ownCall, answerOf, differ, listOutcome, queriesOutcome, rampOutcome, rampWrites};
 ghost use Rattle.ramp.specs.Answers.{outcomeOfRamp};
-ghost use Rattle.ramp.specs.Parts.{one, layoutAlone, Listed, Stands, Copied, CornerRows, Held, Readable, AlongX, AlongY};
+ghost use Rattle.ramp.specs.Parts.{one, layoutAlone, Listed, spotOutcome, Stands, Copied, CornerRows, Held, Readable, AlongX, AlongY};
 use cell::Layout;
 use evaluate::Axis;
 use evaluate::Strides;
@@ -85,11 +84,18 @@ fn locate(s: Shape, positions: &[i32], i: usize) -> Spot
     }
 }
 
-// Refusal 11 of an in-cell step.
-fn check_step(s: Shape, step: [u32; 3]) -> Check
-    ensures { λ r. ⌜ outcomeOf r ≡ stepsOutcome s (placeAt step) ⌝ }
+// Refusals 23, 22 and 11 of the cell and the in-cell step of a position.
+fn check_spot(s: Shape, cell: [u32; 3], step: [u32; 3]) -> Check
+    ensures { λ r. ⌜ outcomeOf r ≡ spotOutcome s (placeAt cell) (placeAt step) ⌝ }
 {
-    query::check_steps(s.axes, s, step[0], step[1], step[2])
+    let tested = query::check_steps(s.axes, s, step[0], step[1], step[2]);
+    match tested {
+        Check::Refused(r) => Check::Refused(Refusal {
+            number: query::position_number(r.number, r.place, cell, step),
+            place: r.place,
+        }),
+        Check::Done => Check::Done,
+    }
 }
 
 // Whether the corner records of a cell are to be fetched after `fetches` fetches, the last for the cell `before`.
@@ -368,7 +374,7 @@ fn answer_all(s: Shape, records: &[i32], positions: &[i32], found: &mut [i32; 25
         let spot = locate(s, positions, i);
         let here = spot.cell;
         let step = spot.step;
-        let tested = check_step(s, step);
+        let tested = check_spot(s, here, step);
         if let Check::Refused(r) = tested {
             return refused_at(r.number, i);
         }

@@ -1,22 +1,18 @@
 -- A query for the middle of an accepted cell is answered from the records that estimation wrote, and its dose is that from the records of
 -- the rules.
 use mathlib.Core.Path.{_≡_, refl, ap, _∙_}
-use mathlib.Core.Bool.{Bool, true, false}
 use mathlib.Core.List.{List, [], _∷_}
 use Prim.Native.Nat.{ℕ, _≤_, _<_}
 use native.Mathlib.Omega.{arith}
 use borrow.Author.Tests.{le-ltb}
-use lib.Dec.{leb, ltb, eqb}
+use lib.Dec.{ltb, lit≤}
 use lib.IntN.{ℤ}
 use Rattle.arith.specs.Int.{roundHalfUp}
-use Rattle.arith.specs.Choice.{pick}
-use Rattle.arith.proofs.Choices.{pick-false}
+use Rattle.arith.proofs.Choices.{pick-false, on-pick}
 use Rattle.lattice.specs.declared.Shape.{Shape}
 use Rattle.lattice.specs.Outcome.{done}
 use Rattle.lattice.specs.Axes.{Place}
 use Rattle.lattice.specs.Records.{recordsField}
-use Rattle.lattice.proofs.OutcomeLaws.{passes, firstOf-passes}
-use Rattle.hermite.specs.Hermite.{steps}
 use Rattle.cell.specs.Cell.{placeAt, Accepted}
 use Rattle.estimate.specs.Estimate.{Estimable, tableRecords, recordsOf, estimateOutcome}
 use Rattle.estimate.proofs.CallLaws.{estimated, records-length}
@@ -24,27 +20,29 @@ use Rattle.evaluate.specs.Evaluate.{dose, lastAxis, answer, askAt}
 use Rattle.evaluate.proofs.AnswerLaws.{answer-local}
 use Rattle.query.specs.Queries.{wantOutcome, stepsOutcome, byCell}
 use Rattle.cell.proofs.CellLaws.{three, cell-passes}
-use Rattle.query.proofs.QueryLaws.{by-cell-passes}
+use Rattle.query.proofs.QueryLaws.{steps-pass, by-cell-passes}
 use Rattle.estimated.proofs.Estimated.{field-same, corners-done}
 use Rattle.report.specs.Report.{middle, doseIn}
 use Rattle.report.specs.Parts.{Answers, doseFrom}
 
 -- ---- the tests of the query
 
-either : (t : Bool) → pick t (leb (pick t 128 0) steps) (eqb (pick t 128 0) 0) ≡ true
-unfolding pick
-either true = refl
-either false = refl
+middle-low : (axes a : ℕ) → middle axes a ≤ 128
+unfolding middle
+middle-low axes a = on-pick (λ (u : ℕ). u ≤ 128) (ltb a axes) 128 0 (λ e. lit≤ tt) (λ e. lit≤ tt)
 
-steps-pass : (s : Shape) → stepsOutcome s (middle (s .axes)) ≡ done tt
-unfolding stepsOutcome middle
-steps-pass s = firstOf-passes 3 _ (λ a l. passes _ 11 a (either (ltb a (s .axes))))
+middle-none : (axes a : ℕ) → axes ≤ a → middle axes a ≡ 0
+unfolding middle
+middle-none axes a l = pick-false (ltb a axes) 128 0 (le-ltb a axes l)
+
+middle-passes : (s : Shape) → stepsOutcome s (middle (s .axes)) ≡ done tt
+middle-passes s =
+    steps-pass s (middle (s .axes)) (λ a l. let h = middle-low (s .axes) a in omega arith) (λ a l. middle-none (s .axes) a)
 
 -- three steps as a place
 pub middle-place : (axes x y z : ℕ) → axes ≤ 3 → x ≡ middle axes 0 → y ≡ middle axes 1 → z ≡ middle axes 2
     → placeAt (x ∷ y ∷ z ∷ []) ≡ middle axes
-unfolding middle
-middle-place axes x y z h i j k = three x y z (middle axes) i j k (λ a l. pick-false (ltb a axes) 128 0 (le-ltb a axes (omega arith)))
+middle-place axes x y z h i j k = three x y z (middle axes) i j k (λ a l. middle-none axes a (omega arith))
 
 -- the query is answered
 pub answered : (s : Shape) (rs : List ℤ) (cell : List ℕ) (step : Place) → Answers s rs → Accepted s (placeAt cell)
@@ -53,7 +51,7 @@ unfolding doseFrom wantOutcome
 answered s rs cell step known here is =
     ap (byCell s rs dose (placeAt cell)) is
     ∙ by-cell-passes s rs dose (placeAt cell) (middle (s .axes)) (known .long) (known .shape) refl
-    (cell-passes s (placeAt cell) (here .used) (λ a l. here .unused a)) (steps-pass s) (known .corners (placeAt cell) here)
+    (cell-passes s (placeAt cell) (here .used) (λ a l. here .unused a)) (middle-passes s) (known .corners (placeAt cell) here)
 
 -- ---- the records that estimation wrote
 

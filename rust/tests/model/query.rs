@@ -45,7 +45,7 @@ fn check_want(shape: &Shape, want: Want) -> Answer<()> {
     refuse_unless(want.order() < 2 || shape.degree == 5, 21, 0)
 }
 
-// The cell and in-cell steps of a point: 14 on all axes before 11; 10 before 11 on each axis.
+// The cell and in-cell steps of a point: 14 on all axes, then on each axis 10, 23, 22, 11.
 pub fn locate(shape: &Shape, at: Where) -> Answer<([u32; 3], [u32; 3])> {
     match at {
         Where::Position(position) => {
@@ -58,7 +58,8 @@ pub fn locate(shape: &Shape, at: Where) -> Answer<([u32; 3], [u32; 3])> {
         }
         Where::Cell(cell, u) => {
             check_cell(shape, cell)?;
-            (0..3).try_for_each(|axis| check_u(shape, axis, u[axis]))?;
+            let step = |axis: usize| Int::from(u[axis] as i64);
+            (0..3).try_for_each(|axis| check_step(shape, axis, step(axis), STEPS))?;
             Ok((cell, u))
         }
     }
@@ -78,8 +79,7 @@ fn locate_steps(
     let mut u = [0; 3];
     for axis in 0..3 {
         let step = step(axis)?;
-        let last = Int::from(last_step(shape, axis));
-        refuse_unless(step >= Int::ZERO && step <= last, 11, axis)?;
+        check_step(shape, axis, step, last_step(shape, axis))?;
         if axis < shape.used() {
             let step = step.to_i64().expect("within the table");
             let index = (step / STEPS).min(shape.counts[axis] as i64 - 2);
@@ -99,9 +99,9 @@ pub fn last_step(shape: &Shape, axis: usize) -> i64 {
     }
 }
 
-// 11 for an in-cell step
-fn check_u(shape: &Shape, axis: usize, u: u32) -> Answer<()> {
-    let used = axis < shape.used();
-    let last = if used { STEPS } else { 0 };
-    refuse_unless(u as i64 <= last, 11, axis)
+// 23, 22, 11 for a step of the table or of a cell
+fn check_step(shape: &Shape, axis: usize, step: Int, last: i64) -> Answer<()> {
+    refuse_unless(axis < shape.used() || step.is_zero(), 23, axis)?;
+    refuse_unless(!step.is_negative(), 22, axis)?;
+    refuse_unless(step <= Int::from(last), 11, axis)
 }

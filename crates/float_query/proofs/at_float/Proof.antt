@@ -1,4 +1,4 @@
--- `float_query::at_float` meets its contract: the query by position at the held steps, with 10 for 11, is the query by float.
+-- `float_query::at_float` meets its contract: the query by position at the held steps, with 10 for 22 and 23, is the query by float.
 use mathlib.Core.Path.{_≡_, sym, ap, _∙_}
 use mathlib.Core.Bool.{Bool}
 use mathlib.Core.List.{List}
@@ -10,11 +10,13 @@ use Rattle.lattice.specs.Outcome.{Outcome}
 use Rattle.evaluate.specs.Evaluate.{Want}
 use Rattle.evaluate.specs.Wants.{wanted}
 use Rattle.query.specs.Answers.{outcomeOfReading}
+use Rattle.query.specs.Parts.{renumbered}
 use Rattle.query.specs.Queries.{positionAt, byPosition}
-use Rattle.float_query.specs.Floats.{floatsAt, finiteOn, withTen}
+use Rattle.float_query.specs.Floats.{floatsAt, finiteOn, tenNumber}
 use Rattle.float_query.specs.Answers.{inFloat}
+use Rattle.query.proofs.Renumbered.{renumbered-done}
 use Rattle.query.proofs.Locate.{by-position-small}
-use Rattle.float_query.proofs.FloatLaws.{HeldSteps, held, three-held, ten-done, by-float}
+use Rattle.float_query.proofs.FloatLaws.{HeldSteps, held, three-held, by-float}
 use Rattle.float_query.proofs.at_float.Statement.{statement}
 use Rattle.float_query.proofs.at_float.Tie as tie
 
@@ -45,8 +47,8 @@ module _ (c : tie.After-with-ten) where
   abbrev position : Outcome ℤ
   position = byPosition (start .args .s) (now (start .args .records)) want (positionAt steps)
 
-  told-is : outcomeOfReading (c .with-ten .result) ≡ withTen fin position
-  told-is = c .with-ten .ensures ∙ ap (withTen fin) (c .before .at-position .ensures)
+  told-is : outcomeOfReading (c .with-ten .result) ≡ renumbered (tenNumber fin) position
+  told-is = c .with-ten .ensures ∙ ap (renumbered (tenNumber fin)) (c .before .at-position .ensures)
 
   stands : HeldSteps (floatsAt (start .args .p)) fin (positionAt steps)
   unfolding floatsAt
@@ -63,7 +65,8 @@ module _ (c : tie.After-with-ten) where
 in-float-requires : tie.Need-in-float-requires
 in-float-requires c κs = λ v h.
     let a = start c .args in
-    by-position-small (a .s) (now (a .records)) (want c) (steps c) v (ten-done (fin c) (position c) v (sym (told-is c) ∙ h))
+    by-position-small (a .s) (now (a .records)) (want c) (steps c) v
+    (renumbered-done (tenNumber (fin c)) (position c) v (sym (told-is c) ∙ h))
 
 returns : tie.Need-returns
 returns c =

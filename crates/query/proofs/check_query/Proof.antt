@@ -1,4 +1,4 @@
--- `query::check_query` meets its contract: the tests before, then 14, then 11; each stops at a refusal.
+-- `query::check_query` meets its contract: the tests before, then 14, then 23 and 11; each stops at a refusal.
 use mathlib.Core.Path.{sym, ap, _∙_}
 use Rattle.lattice.specs.Answers.{outcomeOf}
 use Rattle.lattice.proofs.OutcomeLaws.{first-passed, refused-first}

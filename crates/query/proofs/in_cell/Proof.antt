@@ -1,17 +1,22 @@
--- `query::in_cell` meets its contract: the six numbers are those of the two arrays.
-use mathlib.Core.Path.{ap₂, _∙_}
+-- `query::in_cell` meets its contract: the six numbers are those of the two arrays, and what is read is told by cell.
+use mathlib.Core.Path.{ap, ap₂, _∙_}
 use denote.Ref.{now}
 use borrow.Author.Needs.{needs}
 use Rattle.cell.proofs.CellLaws.{indices}
 use Rattle.evaluate.specs.Wants.{wanted}
+use Rattle.query.specs.Parts.{renumbered, cellNumber}
 use Rattle.query.specs.Queries.{byCell}
+use Rattle.query.proofs.Renumbered.{by-cell-again}
 use Rattle.query.proofs.in_cell.Statement.{statement}
 use Rattle.query.proofs.in_cell.Tie as tie
 
 returns : tie.Need-returns
 returns c =
-    let a = c .before .before .before .args in
-    c .read .ensures ∙ ap₂ (byCell (a .s) (now (a .records)) (wanted (a .q .derivative))) (indices (a .q .cell)) (indices (a .q .step))
+    let r = c .before in
+    let a = r .before .before .before .args in
+    c .by-cell .ensures ∙ ap (renumbered cellNumber) (r .read .ensures)
+    ∙ by-cell-again _ _ (a .s) (now (a .records)) (wanted (a .q .derivative))
+    ∙ ap₂ (byCell (a .s) (now (a .records)) (wanted (a .q .derivative))) (indices (a .q .cell)) (indices (a .q .step))
 
 pub in-cell-spec : {M : Type 1} → statement M
 in-cell-spec =
@@ -23,5 +28,6 @@ in-cell-spec =
     (λ c. search needs)
     (λ c. search needs)
     (λ c. search needs)
+    (λ c κs. search needs)
     (λ c κs. search needs)
     returns)

@@ -1,7 +1,7 @@
 -- `query::read` meets its contract: the tests, and then what is read of the cell.
 use mathlib.Core.Path.{_≡_, refl, sym, ap, _∙_}
 use mathlib.Core.List.{List, [], _∷_}
-use Prim.Native.Nat.{_≤_}
+use Prim.Native.Nat.{ℕ, _≤_}
 use native.Mathlib.Omega.{arith}
 use lib.IntN.{ℤ}
 use lib.ListN.{length}
@@ -9,13 +9,19 @@ use lib.Seq.{take-length}
 use denote.Ref.{now}
 use borrow.Author.Needs.{needs}
 use Rattle.lattice.specs.Answers.{outcomeOf}
-use Rattle.lattice.specs.Outcome.{done}
+use Rattle.lattice.specs.Outcome.{done, refused}
 use Rattle.cell.specs.Cell.{placeAt}
 use Rattle.evaluate.specs.Wants.{wantOf}
+use Rattle.query.specs.Parts.{renumbered, positionNumber}
 use Rattle.query.specs.Queries.{testedOutcome, reading, byCell}
 use Rattle.query.proofs.QueryLaws.{lent, lent-long, near, by-cell-reads, by-cell-stops}
+use Rattle.query.proofs.Renumbered.{kept-reading, position-keeps}
 use Rattle.query.proofs.read.Statement.{statement}
 use Rattle.query.proofs.read.Tie as tie
+
+abbrev number : tie.Start → ℕ → ℕ → ℕ
+number b = positionNumber (placeAt (b .args .i ∷ b .args .j ∷ b .args .k ∷ []))
+    (placeAt (b .args .u ∷ b .args .v ∷ b .args .w ∷ []))
 
 -- not refused before 5
 module _ (c : tie.After-enum-told) where
@@ -30,20 +36,25 @@ module _ (c : tie.After-enum-told) where
   -- what is read of the slice made anew
   gives : reading (b .args .s) (lent (now (b .args .records))) (wantOf (b .args .order) (b .args .axis))
       (placeAt (b .args .i ∷ b .args .j ∷ b .args .k ∷ [])) (placeAt (b .args .u ∷ b .args .v ∷ b .args .w ∷ []))
-      ≡ byCell (b .args .s) (now (b .args .records)) (wantOf (b .args .order) (b .args .axis))
-      (placeAt (b .args .i ∷ b .args .j ∷ b .args .k ∷ [])) (placeAt (b .args .u ∷ b .args .v ∷ b .args .w ∷ []))
+      ≡ renumbered (number b) (byCell (b .args .s) (now (b .args .records)) (wantOf (b .args .order) (b .args .axis))
+      (placeAt (b .args .i ∷ b .args .j ∷ b .args .k ∷ [])) (placeAt (b .args .u ∷ b .args .v ∷ b .args .w ∷ [])))
   gives = rw (take-length (now (b .args .records)))
-      (sym (by-cell-reads (b .args .s) (now (b .args .records)) (wantOf (b .args .order) (b .args .axis)) _ _
-      (passes (now (b .args .records)) refl)))
+      (sym (ap (renumbered (number b)) (by-cell-reads (b .args .s) (now (b .args .records)) (wantOf (b .args .order) (b .args .axis)) _ _
+      (passes (now (b .args .records)) refl))
+      ∙ kept-reading (number b) (position-keeps _ _) (b .args .s) (now (b .args .records))
+      (wantOf (b .args .order) (b .args .axis)) _ _))
 
 refused-before : tie.Need-returns-2
 refused-before c =
-    let d = c .before .before .before in
+    let k = c .before .before in
+    let d = k .before .before in
     let b = d .before in
     let a = b .args in
-    sym (by-cell-stops (a .s) (now (a .records)) (wantOf (a .order) (a .axis)) (placeAt (a .i ∷ a .j ∷ a .k ∷ []))
+    ap (λ (n : ℕ). refused n (k .tested .given .0 .0 .place)) (c .position-number .ensures)
+    ∙ sym (ap (renumbered (number b))
+    (by-cell-stops (a .s) (now (a .records)) (wantOf (a .order) (a .axis)) (placeAt (a .i ∷ a .j ∷ a .k ∷ []))
     (placeAt (a .u ∷ a .v ∷ a .w ∷ []))
-    (sym (d .check-by-axes .ensures (now (a .records)) refl) ∙ ap outcomeOf (c .before .tested .given .1)))
+    (sym (d .check-by-axes .ensures (now (a .records)) refl) ∙ ap outcomeOf (k .tested .given .1))))
 
 -- more than one axis
 two : (c : tie.Else1) → 2 ≤ b (c .before .before) .args .s .axes
@@ -60,6 +71,7 @@ read-spec =
     (tie.spec
     (λ c κs. search needs)
     (λ c. search needs)
+    (λ c κs. search needs)
     (λ c. search needs)
     (λ c. sym (lent-long (now (b (c .before .before .before) .args .records))))
     (λ c κs. let d = c .before .before .before in

@@ -52,7 +52,7 @@ locate-requires c κs =
     (shaped (b .args .s) (b .pre .0 .shape), omega arith)
 
 -- the query at hand
-module _ (c : tie.After-check-step Inv-loop μ-loop) where
+module _ (c : tie.After-check-spot Inv-loop μ-loop) where
   abbrev found-at : tie.After-locate Inv-loop μ-loop
   found-at = c .before .before .before
 
@@ -68,9 +68,9 @@ module _ (c : tie.After-check-step Inv-loop μ-loop) where
   abbrev ps : List ℤ
   ps = now (start .args .positions)
 
-  -- 11 of the in-cell step is 11 of the position
-  told : outcomeOf (c .check-step .result) ≡ tested (start .args .s) rs ps (start .pre .0) (turn .loop .i)
-  told = c .check-step .ensures ∙ found-at .locate .ensures .tests
+  -- the tests of the cell and the in-cell step are those of the position
+  told : outcomeOf (c .check-spot .result) ≡ tested (start .args .s) rs ps (start .pre .0) (turn .loop .i)
+  told = c .check-spot .ensures ∙ found-at .locate .ensures .tests
 
   inside : turn .loop .i < queries ps
   inside = found-at .before .loop-test .taken
@@ -88,7 +88,7 @@ returns c =
 
 -- a query whose position is not refused
 module _ (c : tie.After-is-new Inv-loop μ-loop) where
-  abbrev checked : tie.After-check-step Inv-loop μ-loop
+  abbrev checked : tie.After-check-spot Inv-loop μ-loop
   checked = c .before .before .before
 
   abbrev at : tie.At-loop Inv-loop μ-loop

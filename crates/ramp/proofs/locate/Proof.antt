@@ -10,6 +10,7 @@ use Rattle.cell.proofs.CellLaws.{accepted}
 use Rattle.query.specs.Queries.{positionAt}
 use Rattle.query.proofs.Locate.{stands-for, cell-below, cell-held, located-axes, located-cells, located-tests, located-cell, located-step}
 use Rattle.ramp.specs.Ramp.{queryAt}
+use Rattle.ramp.specs.Parts.{spotOutcome}
 use Rattle.ramp.proofs.locate.Statement.{statement}
 use Rattle.ramp.proofs.locate.Tie as tie
 
@@ -39,7 +40,7 @@ module _ (c : tie.After-cell-of3) where
   three = let ps = now (b .args .positions) in let i = b .args .i in at ps (3 * i) ∷ at ps (3 * i + 1) ∷ at ps (3 * i + 2) ∷ []
 
 returns : tie.Need-returns
-unfolding count queryAt
+unfolding count queryAt spotOutcome
 returns c =
     let s = b c .args .t1 in
     let ok = b c .pre .0 in
