@@ -3,7 +3,8 @@
  * A table is a shape with one sample for each node. lukhtari_estimate makes each node's record
  * from the samples; doses and slopes are then asked for by table position, by cell or by float,
  * doses also by a list of positions, a ramp, and curvatures of quintic tables by table position or
- * by cell.
+ * by cell. A cell's polynomial is given by its coefficients, of two-axis cubic tables also by those
+ * of powers of x and y.
  *
  * Nodes, cells and positions. Axes are x, y, z in this order, numbered 0, 1, 2; a shape uses the
  * first 1, 2 or 3. With cx and cy the node counts of x and y, node (i, j, k) has number
@@ -33,6 +34,11 @@
  * coefficients, divided by 2^axes, of the coefficient times t^a * (1 - t)^(degree - a) along x and
  * alike with b along y and c along z. A cell's corner records are those of the nodes at its 2^axes
  * corners, x fastest; together they have as many entries as the cell has coefficients.
+ *
+ * Power coefficients. In a cell of a two-axis cubic table the exact dose is also a sum of
+ * coefficients times powers of x and y, which run from 0 to 1 in the cell: x = u / 256 along x, y
+ * alike. lukhtari_powers exports them, each times 4, so that it is whole: the number at index
+ * i + 4 * j is that of x^i * y^j, i and j from 0 to 3, and lies within +-10616832.
  *
  * Answers. A dose is in units, a slope, its derivative along an axis, in units per cell, a
  * curvature, the second derivative along an axis, in units per cell squared. Quintic tables alone
@@ -107,7 +113,7 @@ extern "C" {
 #endif
 
 /* The number of this interface; another number means other structs, calls or names. */
-#define LUKHTARI_INTERFACE 5
+#define LUKHTARI_INTERFACE 6
 
 /* Steps of a cell along an axis. */
 #define LUKHTARI_STEPS 256
@@ -123,6 +129,10 @@ extern "C" {
 #define LUKHTARI_ESTIMATE_LIMIT(axes) (LUKHTARI_SAMPLE_LIMIT / (1 << (axes)))
 #define LUKHTARI_ENTRY_LIMIT(orders) (LUKHTARI_SAMPLE_LIMIT * (1 << (orders)))
 #define LUKHTARI_COEFFICIENT_LIMIT 1073741824
+
+/* The numbers of an export of power coefficients, and the largest size of such a number. */
+#define LUKHTARI_POWER_COEFFICIENTS 16
+#define LUKHTARI_POWER_COEFFICIENT_LIMIT 10616832
 
 /* Doses, slopes and curvatures are smaller than this in size. */
 #define LUKHTARI_ANSWER_LIMIT 16777216
@@ -151,9 +161,9 @@ extern "C" {
 #define LUKHTARI_COEFFICIENTS(axes, degree) LUKHTARI_POWER((degree) + 1, axes)
 #define LUKHTARI_FILE_BYTES(axes, nodes) (4 * (2 + (size_t)(axes) + (size_t)(nodes)))
 
-/* Bytes of stack, at most: of lukhtari_estimate; of lukhtari_coefficients and lukhtari_corners; of
- * each dose, slope and curvature; of lukhtari_read and lukhtari_write; of lukhtari_import; of
- * lukhtari_ramp. */
+/* Bytes of stack, at most: of lukhtari_estimate; of lukhtari_coefficients, lukhtari_corners and
+ * lukhtari_powers; of each dose, slope and curvature; of lukhtari_read and lukhtari_write; of
+ * lukhtari_import; of lukhtari_ramp. */
 #define LUKHTARI_STACK_ESTIMATE 8192
 #define LUKHTARI_STACK_CONVERSION 4096
 #define LUKHTARI_STACK_QUERY 2048
@@ -175,8 +185,9 @@ enum lukhtari_refusal {
      * has. */
     LUKHTARI_REFUSED_LENGTH = 4,
     /* A sample of a file or text, or an entry, is beyond its limit; place: its index in the slice.
-     * Queries and lukhtari_coefficients look at the corner records of their cell alone, in corner
-     * order. For lukhtari_ramp the place is the index of the position in the list. */
+     * Queries, lukhtari_coefficients and lukhtari_powers look at the corner records of their cell
+     * alone, in corner order. For lukhtari_ramp the place is the index of the position in the
+     * list. */
     LUKHTARI_REFUSED_BEYOND_LIMIT = 5,
     /* The file's bytes end early; place: the number of bytes lent. */
     LUKHTARI_REFUSED_FILE_ENDS_EARLY = 6,
@@ -217,7 +228,9 @@ enum lukhtari_refusal {
     LUKHTARI_REFUSED_POSITION_BELOW_ZERO = 22,
     /* A position or in-cell step is not 0 on an unused axis; place: as for 11. The cure is 0
      * there. */
-    LUKHTARI_REFUSED_POSITION_UNUSED_AXIS = 23
+    LUKHTARI_REFUSED_POSITION_UNUSED_AXIS = 23,
+    /* Power coefficients are asked for of a table that is not two-axis cubic. */
+    LUKHTARI_REFUSED_POWERS_SHAPE = 24
 };
 
 /* A table's number of axes (1 to 3), degree (3 or 5) and node counts: 2 to 64 on each used axis,
@@ -325,6 +338,12 @@ lukhtari_done lukhtari_coefficients(lukhtari_shape shape, const int32_t *records
  * Refusals in order: 1, 2, 15, 9, 13. */
 lukhtari_done lukhtari_corners(uint32_t axes, uint32_t degree, const int32_t *coefficients,
                                size_t coefficients_len, int32_t *out, size_t out_len);
+
+/* Writes the 16 coefficients of powers of x and y of a cell of a two-axis cubic table, each times
+ * 4.
+ * Refusals in order: 1, 2, 3, 24, 4, 9, 14 (each axis), 5 (the cell's corners in order). */
+lukhtari_done lukhtari_powers(lukhtari_shape shape, const int32_t *records, size_t records_len,
+                              lukhtari_index cell, int32_t *out, size_t out_len);
 
 /* Dose at a table position.
  * Refusals in order: 1, 2, 3, 4, on each axis 23, 22 and then 11, 5 (the cell's corners in

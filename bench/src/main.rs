@@ -1,7 +1,7 @@
 //! The library's calls beside hand-written Rust and C of the same whole calls, the published method
 //! in f64, and LittleCMS where it is installed. All times are of one run, in nanoseconds a call, of
-//! import a byte, of ramps a dose; in brackets is the library's time divided by the other's. The tables are those of
-//! `docs/SPEED.md`.
+//! import a byte, of ramps a dose; in brackets is the library's time divided by the other's. The
+//! tables are those of `docs/SPEED.md`.
 //!
 //! Doses, slopes and curvatures by hand are of two kinds: specialised, with one copy of the code
 //! for each degree, number of axes and axis worked off last; and plain, with one copy for all of
@@ -18,6 +18,7 @@ mod hand;
 mod import;
 mod inputs;
 mod lcms;
+mod powers;
 mod queries;
 mod ramps;
 mod report;
@@ -26,10 +27,11 @@ use std::env;
 
 // All parts, or those named by the arguments.
 fn main() {
-    let parts: [(&str, fn()); 8] = [
+    let parts: [(&str, fn()); 9] = [
         ("import", import::run),
         ("estimation", estimation::run),
         ("conversion", conversion::run),
+        ("powers", powers::run),
         ("queries", queries::run),
         ("ramps", ramps::run),
         ("floats", floats::run),

@@ -166,6 +166,23 @@ extern "C" {
     ) -> Done;
 }
 
+// powers
+extern "C" {
+    /// Writes the power coefficients of a cell: see [`powers`](crate::powers).
+    ///
+    /// # Safety
+    ///
+    /// The slices `records` and `out` are lent as the [module](self) says.
+    pub fn lukhtari_powers(
+        shape: Shape,
+        records: *const i32,
+        records_len: usize,
+        cell: Index,
+        out: *mut i32,
+        out_len: usize,
+    ) -> Done;
+}
+
 // whole
 extern "C" {
     /// Dose at a table position: see [`dose`](crate::dose).

@@ -3,9 +3,11 @@
 //! A table is a [`Shape`] with one sample for each node, from the host, a table file or decimal
 //! text. Estimation makes each node's record from the samples; doses and slopes are then asked for
 //! by table position, by cell or by float, doses also by a list of positions, and curvatures of
-//! quintic tables by table position or by cell. Every call either answers or gives a [`Refusal`]
-//! with its number and place, and a refused call leaves every lent buffer as it was. All calls are
-//! made by the static library `liblukhtari.a`; the crate uses neither `std` nor other crates.
+//! quintic tables by table position or by cell. A cell's polynomial is given by its coefficients, of
+//! two-axis cubic tables also by those of powers of x and y. Every call either answers or gives a
+//! [`Refusal`] with its number and place, and a refused call leaves every lent buffer as it was. All
+//! calls are made by the static library `liblukhtari.a`; the crate uses neither `std` nor other
+//! crates.
 //!
 //! Samples, records and coefficients stand in slices with x fastest. A position counts 256 steps
 //! for each cell. Arrays of three hold one number for each axis, x first, and 0 on unused axes
@@ -28,6 +30,9 @@ pub use estimate::estimate;
 
 mod coefficients;
 pub use coefficients::{coefficients, corners};
+
+mod powers;
+pub use powers::powers;
 
 mod whole;
 pub use whole::{curvature, curvature_in_cell, dose, dose_in_cell, slope, slope_in_cell};

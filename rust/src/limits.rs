@@ -1,7 +1,7 @@
 //! Limits of tables and the largest sizes of buffers, as `lukhtari.h` has them.
 
 /// Number of the C interface; another number means other structs, calls or names.
-pub const INTERFACE: u32 = 5;
+pub const INTERFACE: u32 = 6;
 
 /// Steps of a cell along an axis.
 pub const STEPS: u32 = 256;
@@ -42,6 +42,12 @@ pub const fn entry_limit(orders: u32) -> i32 {
 /// Largest size of a coefficient.
 pub const COEFFICIENT_LIMIT: i32 = 1 << 30;
 
+/// Numbers of an export of power coefficients.
+pub const POWER_COEFFICIENTS: usize = 16;
+
+/// Largest size of such a number, which is 4 times a coefficient.
+pub const POWER_COEFFICIENT_LIMIT: i32 = 10_616_832;
+
 /// Doses, slopes and curvatures are smaller than this in size.
 pub const ANSWER_LIMIT: i32 = 1 << 24;
 
@@ -66,7 +72,7 @@ pub const FILE_BYTES_MAX: usize = 4 * (2 + 3 + NODES_MAX);
 /// Most bytes of stack that an estimation uses.
 pub const STACK_ESTIMATE: usize = 8192;
 
-/// Most bytes of stack that coefficients or corner records use.
+/// Most bytes of stack that coefficients, corner records or power coefficients use.
 pub const STACK_CONVERSION: usize = 4096;
 
 /// Most bytes of stack that a dose, slope or curvature uses.

@@ -13,7 +13,7 @@ use core::fmt;
 /// ```
 #[derive(Clone, Copy, Debug, PartialEq, Eq)]
 pub struct Refusal {
-    /// 1 to 23, the constants below
+    /// 1 to 24, the constants below
     pub number: u32,
     /// An index counted from 0, and 0 where the reason names none; of 5, 11, 22 and 23 of a ramp the
     /// index of the position in the list
@@ -69,6 +69,8 @@ impl Refusal {
     pub const POSITION_BELOW_ZERO: u32 = 22;
     /// A position or in-cell step is not 0 on an unused axis; the place is the axis.
     pub const POSITION_UNUSED_AXIS: u32 = 23;
+    /// Power coefficients are asked for of a table that is not two-axis cubic.
+    pub const POWERS_SHAPE: u32 = 24;
 }
 
 impl fmt::Display for Refusal {
@@ -126,6 +128,7 @@ impl fmt::Display for Refusal {
             Self::POSITION_UNUSED_AXIS => {
                 position(f, place, "is not 0 on an axis that is not used: take 0")
             }
+            Self::POWERS_SHAPE => write!(f, "only two-axis cubic tables have power coefficients"),
             _ => write!(f, "unknown reason"),
         }
     }

@@ -42,8 +42,8 @@ fn calls_keep_to_their_stack() {
     let limit = |line: &str| line.rsplit(' ').next().unwrap().parse().unwrap();
     let most: Vec<usize> = printed.lines().map(limit).collect();
     assert_eq!(most[0], limits::STACK_ESTIMATE);
-    assert_eq!(most[1..3], [limits::STACK_CONVERSION; 2]);
-    assert_eq!(most[3..11], [limits::STACK_QUERY; 8]);
-    assert_eq!(most[11..13], [limits::STACK_FILE; 2]);
-    assert_eq!(most[13..], [limits::STACK_IMPORT, limits::STACK_RAMP]);
+    assert_eq!(most[1..4], [limits::STACK_CONVERSION; 3]);
+    assert_eq!(most[4..12], [limits::STACK_QUERY; 8]);
+    assert_eq!(most[12..14], [limits::STACK_FILE; 2]);
+    assert_eq!(most[14..], [limits::STACK_IMPORT, limits::STACK_RAMP]);
 }

@@ -40,6 +40,13 @@ fn ramp_example() {
 }
 
 #[test]
+fn powers_example() {
+    let example = c::repository().join("examples/powers.c");
+    let printed = "400 800 800 -400\n0 -400 -800 400\n0 0 0 0\n0 0 0 0\n";
+    assert_eq!(c::run("c99", &example), printed);
+}
+
+#[test]
 fn readme_example() {
     let (before, block) = readme_block();
     assert!(before.ends_with(&format!("it prints `{}`.\n", PRINTED.trim_end())));

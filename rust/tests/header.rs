@@ -20,13 +20,14 @@ fn constants() -> BTreeMap<String, u64> {
     add!(all, "LUKHTARI_", limits, SAMPLE_LIMIT, COEFFICIENT_LIMIT, ANSWER_LIMIT);
     add!(all, "LUKHTARI_", limits, RECORD_ENTRIES_MAX, ENTRIES_MAX, COEFFICIENTS_MAX);
     add!(all, "LUKHTARI_", limits, FILE_BYTES_MAX, TOKEN_BYTES_MAX, RAMP_MAX);
+    add!(all, "LUKHTARI_", limits, POWER_COEFFICIENTS, POWER_COEFFICIENT_LIMIT);
     add!(all, "LUKHTARI_", limits, STACK_ESTIMATE, STACK_CONVERSION, STACK_QUERY, STACK_FILE);
     add!(all, "LUKHTARI_", limits, STACK_IMPORT, STACK_RAMP);
     add!(all, "LUKHTARI_REFUSED_", Refusal, AXES, DEGREE, NODE_COUNT, LENGTH, BEYOND_LIMIT);
     add!(all, "LUKHTARI_REFUSED_", Refusal, FILE_ENDS_EARLY, FILE_LEFT_OVER, FILE_SAMPLE_COUNT);
     add!(all, "LUKHTARI_REFUSED_", Refusal, BUFFER_TOO_SHORT, NOT_FINITE, SLOPE_AXIS);
     add!(all, "LUKHTARI_REFUSED_", Refusal, POSITION_BEYOND, POSITION_BELOW_ZERO);
-    add!(all, "LUKHTARI_REFUSED_", Refusal, POSITION_UNUSED_AXIS);
+    add!(all, "LUKHTARI_REFUSED_", Refusal, POSITION_UNUSED_AXIS, POWERS_SHAPE);
     add!(all, "LUKHTARI_REFUSED_", Refusal, NO_CORNER_RECORDS, CELL, COEFFICIENT_COUNT);
     add!(all, "LUKHTARI_REFUSED_", Refusal, TOKEN_TOO_LONG, TOKEN_GRAMMAR, TOKEN_NOT_WHOLE);
     add!(all, "LUKHTARI_REFUSED_", Refusal, BEYOND_ESTIMATE_LIMIT, RAMP_LENGTH, CURVATURE_DEGREE);
@@ -98,14 +99,14 @@ fn constants_have_the_same_values() {
 }
 
 #[test]
-fn refusals_are_numbered_from_1_to_23() {
+fn refusals_are_numbered_from_1_to_24() {
     let refused = |(name, number): (String, u64)| {
         let refused = name.starts_with("LUKHTARI_REFUSED_");
         refused.then_some(number)
     };
     let mut all: Vec<u64> = constants().into_iter().filter_map(refused).collect();
     all.sort();
-    assert_eq!(all, (1..=23).collect::<Vec<u64>>());
+    assert_eq!(all, (1..=24).collect::<Vec<u64>>());
 }
 
 #[test]

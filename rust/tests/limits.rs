@@ -122,6 +122,12 @@ fn coefficients_and_answers() {
         let mut all = vec![0; shape.coefficients()];
         coefficients(shape, &records, [0; 3], &mut all).expect("permitted records");
         assert!(all.iter().all(|number| number.abs() <= COEFFICIENT_LIMIT));
+        let exported = powers(shape, &records, [0; 3], &mut [0; POWER_COEFFICIENTS]);
+        let other = (axes, degree) != (2, 3);
+        assert_eq!(
+            number(exported),
+            if other { Refusal::POWERS_SHAPE } else { 0 }
+        );
         let middle = [0, 1, 2].map(|axis| if axis < axes { 128 } else { 0 });
         assert!(dose(shape, &records, middle).expect("an answer").abs() < ANSWER_LIMIT);
         let curvature = |axis| curvature(shape, &records, middle, axis);

@@ -77,8 +77,9 @@ fn run_table(random: &mut Random, seed: u64, (degree, axes, kind): (u32, u32, Ki
         }
     }
     convert(&query, seed);
+    export(random, &query, seed);
     along_path(random, &query, seed);
-    queries + 6
+    queries + 7
 }
 
 // Records by the library, or its refusal, equal to the model's.
@@ -224,6 +225,21 @@ fn convert(query: &Query, seed: u64) {
     let entries = corner_entries(shape, [0; 3]);
     let same = |(entry, (index, _)): (&i32, &(usize, i32))| *entry == query.records[*index];
     assert!(back.iter().zip(&entries).all(same), "seed {seed}");
+}
+
+// Power coefficients of any cell, or their refusal, in a buffer that may be too short.
+fn export(random: &mut Random, query: &Query, seed: u64) {
+    let (shape, records) = (query.shape, &query.records);
+    let mut cell = random.pick(&cells(shape));
+    if random.chance(8) {
+        cell[random.below(3) as usize] += random.below(3) as u32;
+    }
+    let mut buffer = Lent::new(random.pick(&[16, 16, 17, 40, 15]));
+    let room = buffer.slice().len();
+    let got = plain(powers(shape, records, cell, buffer.slice()));
+    let expected = model::powers::powers(&plain_shape(shape), records, cell, room);
+    assert_eq!(got, outcome(&expected), "seed {seed}");
+    buffer.check(expected.as_deref().unwrap_or_default());
 }
 
 // A ramp on the query's table, some of them with faults, against the model and against own calls.

@@ -38,6 +38,12 @@ fn coefficients(shape: Shape, records: usize, cell: u32, room: usize) -> u32 {
     unsafe { lukhtari_coefficients(shape, nowhere(), records, cell, nowhere(), room) }.number
 }
 
+fn powers(shape: Shape, records: usize, cell: u32, room: usize) -> u32 {
+    let cell = Index { at: [cell, 0, 0] };
+    // SAFETY: nothing is read or written.
+    unsafe { lukhtari_powers(shape, nowhere(), records, cell, nowhere(), room) }.number
+}
+
 fn corners(axes: u32, degree: u32, coefficients: usize, room: usize) -> u32 {
     // SAFETY: nothing is read or written.
     unsafe { lukhtari_corners(axes, degree, nowhere(), coefficients, nowhere(), room) }.number
@@ -202,6 +208,35 @@ fn conversion() {
     }
 }
 
+#[test]
+fn power_coefficients() {
+    for (axes, degree) in KINDS {
+        let shape = cube(axes, degree, 64);
+        let entries = shape.entries();
+        for (records, cell, room) in [(LONG, 63, LONG), (0, 0, 0), (entries, 0, 16)] {
+            assert_eq!(powers(Shape { axes: 0, ..shape }, records, cell, room), 1);
+            assert_eq!(powers(Shape { degree: 4, ..shape }, records, cell, room), 2);
+            assert_eq!(powers(cube(axes, degree, 65), records, cell, room), 3);
+            if (axes, degree) != (2, 3) {
+                assert_eq!(powers(shape, records, cell, room), 24);
+            }
+        }
+    }
+    let shape = cube(2, 3, 64);
+    let entries = shape.entries();
+    for room in [LONG, 16, 15, 0] {
+        for records in [LONG, entries - 1, entries + 1] {
+            assert_eq!(powers(shape, records, 63, room), 4);
+        }
+    }
+    for room in [15, 0] {
+        assert_eq!(powers(shape, entries, 63, room), 9);
+    }
+    for room in [LONG, 16] {
+        assert_eq!(powers(shape, entries, 63, room), 14);
+    }
+}
+
 // The refusals of all queries, where the position or the step in cell 0 is `at` on the x axis.
 fn queries(shape: Shape, records: usize, at: i32, axis: u32) -> [u32; 8] {
     let p = Position { at: [at, 0, 0] };
@@ -349,6 +384,16 @@ fn null_with_length_0_for_cells() {
             ]
         };
         assert_eq!(conversions, [4, 4, 9, 15, 15, 9]);
+        // SAFETY: the same.
+        let exports = unsafe {
+            [
+                lukhtari_powers(shape, null(), 0, cell, null_mut(), 0).number,
+                lukhtari_powers(shape, null(), 0, cell, o, room).number,
+                lukhtari_powers(shape, r, entries, cell, null_mut(), 0).number,
+            ]
+        };
+        let two_axis_cubic = (axes, degree) == (2, 3);
+        assert_eq!(exports, if two_axis_cubic { [4, 4, 9] } else { [24; 3] });
     }
 }
 

@@ -21,12 +21,11 @@ use Rattle.estimate.specs.Estimate.{Estimable, tableRecords, recordsOf, estimat
 use Rattle.estimate.proofs.CallLaws.{estimated, records-length}
 use Rattle.hermite.specs.Hermite.{steps}
 use Rattle.hermite.specs.Stage.{Smooth}
-use Rattle.evaluate.specs.Evaluate.{Want, dose, derivativeAlong, orderWanted, lastAxis, exactSum, exactDivisor, answer, askAt}
+use Rattle.evaluate.specs.Evaluate.{Want, dose, derivativeAlong, orderWanted, lastAxis, exactSum, exactDivisor, answer, askAt, askOf}
 use Rattle.query.specs.Queries.{wantOutcome, askedOutcome, reading}
 use Rattle.query.proofs.QueryLaws.{want-parts, last-used, want-smooth, asked-parts, asked-passes}
 use Rattle.float_query.specs.Answers.{FloatValue, asDose, asSlope, inFloat}
 use Rattle.claims.specs.Third.{Query, queried, cellRead, stepRead, Reads, AcceptedTable, bothCalls, asked, allowedDistance, WithinDistance, Distance, Agreement, recounted, Locality, Askable, NoGap, Claimed, ThirdDemand}
-use Rattle.claims.specs.Straight.{askOf}
 use Rattle.claims.proofs.General.{rejoined}
 use Rattle.claims.proofs.Distance.{Proper, distance}
 use Rattle.claims.proofs.Agree.{agreement}

@@ -21,9 +21,9 @@ use Rattle.hermite.proofs.HermiteLaws.{stage-linear}
 use Rattle.hermite.proofs.Reach.{reach, gain, reach-gain}
 use Rattle.hermite.proofs.Sizes.{divisor-some}
 use Rattle.evaluate.specs.Evaluate.{Ask, orderWanted, orderOn, lastAxis, divisorOn, exactSum, exactDivisor, stageOn, toEighth, toUnit, inEighths, before, answerBy}
+use Rattle.evaluate.proofs.Exact.{exact-last}
 use Rattle.evaluate.proofs.AnswerLaws.{order-before, order-on-last, order-smooth, each-before}
 use Rattle.claims.specs.Third.{Fraction, allowedDistance, WithinDistance}
-use Rattle.claims.proofs.Exact.{exact-last}
 
 -- a question of one of the two degrees and an order that it permits, on up to three axes, the last one worked off among them, at steps of
 -- the cell

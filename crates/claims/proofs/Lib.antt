@@ -1,5 +1,4 @@
 pub mod General
-pub mod Exact
 pub mod Distance
 pub mod Agree
 pub mod Block

@@ -33,15 +33,15 @@ use Rattle.cell.specs.Cell.{Accepted}
 use Rattle.estimate.specs.Estimate.{estimate, records, tableRecords}
 use Rattle.estimate.proofs.EstimateLaws.{estimate-linear}
 use Rattle.estimate.proofs.Straight.{estimate-line}
-use Rattle.evaluate.specs.Evaluate.{Want, dose, derivativeAlong, orderWanted, Ask, orderOn, stageOn, divisorOn, exactSum, exactDivisor, answerBy, answer, askAt}
+use Rattle.evaluate.specs.Evaluate.{Want, dose, derivativeAlong, orderWanted, Ask, orderOn, stageOn, divisorOn, exactSum, exactDivisor, answerBy, answer, askAt, askOf}
+use Rattle.evaluate.proofs.Exact.{exact-stages}
 use Rattle.evaluate.proofs.AnswerLaws.{order-smooth}
 use Rattle.query.specs.Queries.{Position}
 use Rattle.claims.specs.Third.{WithinDistance, allowedDistance, pointOf, cellRead, stepRead, Reads, asked, Askable}
-use Rattle.claims.specs.Straight.{Expression, valueOf, valueAt, derivative, derivativeOf, wantedOf, Straight, askOf, ExactlyStraight, NearlyStraight}
+use Rattle.claims.specs.Straight.{Expression, valueOf, valueAt, derivative, derivativeOf, wantedOf, Straight, ExactlyStraight, NearlyStraight}
 use Rattle.claims.proofs.General.{rejoined}
 use Rattle.claims.proofs.Distance.{distance, same-fraction}
 use Rattle.claims.proofs.Demand.{permitted, known, Taken, taken, third-reads, proper}
-use Rattle.claims.proofs.Exact.{exact-stages}
 
 -- ---- the expression
 

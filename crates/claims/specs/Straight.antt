@@ -7,13 +7,13 @@ use Prim.Native.Nat.{ℕ, zero, suc, _+_, _*_, _≤_, _<_}
 use lib.IntN.{ℤ, pos, negsuc, _+ℤ_, _*ℤ_}
 use Rattle.lattice.specs.declared.Shape.{Shape}
 use Rattle.lattice.specs.Outcome.{done}
-use Rattle.lattice.specs.Shape.{shapeOf, count, orders, Shaped}
+use Rattle.lattice.specs.Shape.{shapeOf, count, Shaped}
 use Rattle.lattice.specs.Axes.{Place, OnUsed}
 use Rattle.lattice.specs.Records.{samplesField}
 use Rattle.hermite.specs.Hermite.{steps}
 use Rattle.cell.specs.Cell.{Accepted}
 use Rattle.estimate.specs.Estimate.{tableRecords}
-use Rattle.evaluate.specs.Evaluate.{Want, dose, derivativeAlong, slopeAlong, orderWanted, Ask, exactSum, exactDivisor}
+use Rattle.evaluate.specs.Evaluate.{Want, dose, derivativeAlong, slopeAlong, orderWanted, exactSum, exactDivisor, askOf}
 use Rattle.query.specs.Queries.{Position}
 use Rattle.claims.specs.Third.{Query, pointOf, bothCalls, Askable, allowedDistance, WithinDistance}
 use Rattle.claims.specs.Examples.{Table, answerTo, Row, _gives_}
@@ -67,10 +67,6 @@ Straight s xs e =
     (p : Place) → OnUsed (s .axes) (λ a i. i < count s a) p → samplesField s xs p ≡ valueAt e (λ a. 1) (λ a. pos (p a))
 
 -- ---- the exact interpolant, and what the calls give
-
--- the question at step u of a cell, where a cell has N a steps on axis a; `askAt` is the one with 256 steps
-abbrev pub askOf : Shape → Want → Place → Place → Place → Ask
-askOf s want N cell u = record { m = orders s; n = s .axes; want = want; N = N; cell = cell; step = u }
 
 -- at every step of every accepted cell, for every number of steps: the exact value is that of the expression, multiplied out
 abbrev pub ExactlyStraight : Type 0

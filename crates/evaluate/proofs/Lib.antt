@@ -1,3 +1,4 @@
+pub mod Exact
 pub mod AnswerLaws
 pub mod EndLaws
 pub mod Sizes

@@ -102,3 +102,7 @@ answer q g = answerBy roundHalfUp q g
 -- of a table of shape s
 unfoldable pub askAt : Shape → Want → Place → Place → Ask
 askAt s want cell step = record { m = orders s; n = s .axes; want = want; N = λ a. steps; cell = cell; step = step }
+
+-- where a cell has N a steps on axis a; `askAt` is the one with 256 steps
+abbrev pub askOf : Shape → Want → Place → Place → Place → Ask
+askOf s want N cell step = record { m = orders s; n = s .axes; want = want; N = N; cell = cell; step = step }

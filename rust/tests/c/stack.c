@@ -42,6 +42,11 @@ static void back(void) {
                  .number;
 }
 
+static void powers(void) {
+    size_t room = LUKHTARI_POWER_COEFFICIENTS;
+    number = lukhtari_powers(shape, records, entries, cell, corners, room).number;
+}
+
 static void dose(void) { number = lukhtari_dose(shape, records, entries, position).number; }
 
 static void slope(void) {
@@ -92,6 +97,7 @@ enum {
     ESTIMATE,
     COEFFICIENTS,
     CORNERS,
+    POWERS,
     DOSE,
     SLOPE,
     DOSE_IN_CELL,
@@ -115,6 +121,7 @@ static const struct {
     {"estimate", estimate, LUKHTARI_STACK_ESTIMATE},
     {"coefficients", forward, LUKHTARI_STACK_CONVERSION},
     {"corners", back, LUKHTARI_STACK_CONVERSION},
+    {"powers", powers, LUKHTARI_STACK_CONVERSION},
     {"dose", dose, LUKHTARI_STACK_QUERY},
     {"slope", slope, LUKHTARI_STACK_QUERY},
     {"dose_in_cell", dose_in_cell, LUKHTARI_STACK_QUERY},
@@ -193,10 +200,17 @@ static void prepare(uint32_t axes, uint32_t degree) {
     float_position.z = axes > 2 ? 0.3f : 0;
 }
 
-/* A cubic table has no curvature, whatever else is to be expected. */
-static uint32_t curved(int which, uint32_t otherwise) {
+/* A cubic table has no curvature, and only a two-axis cubic one has power coefficients, whatever
+ * else is to be expected. */
+static uint32_t due(int which, uint32_t otherwise) {
     int curvature = which == CURVATURE || which == CURVATURE_IN_CELL;
-    return curvature && shape.degree == 3 ? LUKHTARI_REFUSED_CURVATURE_DEGREE : otherwise;
+    if (curvature && shape.degree == 3) {
+        return LUKHTARI_REFUSED_CURVATURE_DEGREE;
+    }
+    if (which == POWERS && (shape.axes != 2 || shape.degree != 3)) {
+        return LUKHTARI_REFUSED_POWERS_SHAPE;
+    }
+    return otherwise;
 }
 
 /* Every call on a table: with its full result, then refused for a number that it reads. */
@@ -205,13 +219,13 @@ static int measure_table(uint32_t axes, uint32_t degree) {
     prepare(axes, degree);
     for (int which = 0; which < CALLS; which++) {
         for (slope_axis = 0; slope_axis < axes; slope_axis++) {
-            right &= measure(which, curved(which, LUKHTARI_NOT_REFUSED));
+            right &= measure(which, due(which, LUKHTARI_NOT_REFUSED));
         }
     }
     slope_axis = axes - 1;
     records[0] = LUKHTARI_SAMPLE_LIMIT + 1;
-    for (int which = DOSE; which <= SLOPE_FLOAT; which++) {
-        right &= measure(which, curved(which, LUKHTARI_REFUSED_BEYOND_LIMIT));
+    for (int which = POWERS; which <= SLOPE_FLOAT; which++) {
+        right &= measure(which, due(which, LUKHTARI_REFUSED_BEYOND_LIMIT));
     }
     right &= measure(COEFFICIENTS, LUKHTARI_REFUSED_BEYOND_LIMIT);
     right &= measure(RAMP, LUKHTARI_REFUSED_BEYOND_LIMIT);

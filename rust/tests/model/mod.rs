@@ -12,6 +12,7 @@ pub mod file;
 pub mod float;
 pub mod int;
 pub mod listing;
+pub mod powers;
 pub mod program;
 pub mod query;
 pub mod ramp;

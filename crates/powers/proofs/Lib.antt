@@ -1,0 +1,4 @@
+pub mod MatrixLaws
+pub mod PolynomialLaws
+pub mod CallLaws
+pub mod Theorems

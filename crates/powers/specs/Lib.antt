@@ -1,0 +1,3 @@
+-- Reading order: Powers, then Parts.
+pub mod Powers
+pub mod Parts
