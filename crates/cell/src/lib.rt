@@ -8,7 +8,7 @@ ghost use lib.IntN.{pos, natAbs};
 ghost use lib.Signed.{nonNeg};
 ghost use lib.ListN.{length, getD};
 ghost use Rattle.arith.specs.Choice.{pick};
-ghost use Rattle.lattice.specs.Outcome.{refuseUnless, firstOf, passed};
+ghost use Rattle.lattice.specs.Outcome.{firstOf, passed};
 ghost use Rattle.lattice.specs.Answers.{outcomeOf};
 ghost use Rattle.lattice.specs.Buffer.{at, tabulate};
 ghost use Rattle.lattice.specs.Digits.{digit};

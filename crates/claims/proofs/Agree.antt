@@ -3,7 +3,6 @@
 use mathlib.Core.Path.{_≡_, ap, _∙_}
 use mathlib.Core.List.{List}
 use Prim.Native.Nat.{ℕ, _+_, _*_, _≤_, _<_}
-use native.Mathlib.Omega.{arith}
 use Rattle.arith.specs.Int.{Rounding}
 use Rattle.lattice.specs.Axes.{Place, Field, Rule, origin, along, sweep, axes, without}
 use Rattle.lattice.proofs.Along.{sweep-rules}

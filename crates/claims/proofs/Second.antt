@@ -31,7 +31,7 @@ use Rattle.coefficients.proofs.TableCell.{cell-same}
 use Rattle.corners.specs.Corners.{entryList, backOutcome}
 use Rattle.corners.proofs.Demand.{Possible, written-coefficients, done-or-13, done-possible, only-records, written-records}
 use Rattle.claims.specs.Third.{AcceptedTable}
-use Rattle.claims.specs.Second.{Converts, Asked, FromEstimates, Measured, FromRecords, BackAsked, CornersOf, ConvertsBack, Back, SecondDemand}
+use Rattle.claims.specs.Second.{Converts, Asked, FromEstimates, FromRecords, BackAsked, CornersOf, Back, SecondDemand}
 use Rattle.estimated.proofs.Estimated.{lent, field-same, field-within}
 
 -- ---- forward

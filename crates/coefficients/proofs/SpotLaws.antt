@@ -12,7 +12,6 @@ use lib.IntN.{ℤ, pos}
 use lib.ListN.{length, set, length-set}
 use lib.Seq.{getD-set-same, getD-set-other}
 use borrow.Author.Tests.{lt-ltb, le-ltb}
-use Rattle.arith.specs.Choice.{pick}
 use Rattle.arith.proofs.Choices.{pick-true, pick-false, by-2}
 use Rattle.lattice.specs.Buffer.{at}
 use Rattle.lattice.specs.Digits.{number, digit}

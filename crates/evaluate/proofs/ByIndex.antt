@@ -1,8 +1,8 @@
 -- The stages by index in the records are those of the definition: number t of a cell stands at its base plus its offset on each axis.
 use mathlib.Core.Path.{_≡_, refl, sym, ap, ap₂, subst, _∙_, fun-ext}
-use mathlib.Core.Bool.{true, false}
+use mathlib.Core.Bool.{true}
 use mathlib.Core.List.{List, [], _∷_}
-use Prim.Native.Nat.{ℕ, _+_, _*_, _/_, _%_, _^_, _≤_, _<_}
+use Prim.Native.Nat.{ℕ, _+_, _*_, _/_, _^_, _≤_, _<_}
 use native.Mathlib.Nat.{zero-div, zero-mod, mul-one, mul-comm, mod-eq-of-lt, add-mod-left, div-eq-of-lt, add-div-left}
 use lib.Pow.{pow-pos}
 use native.Mathlib.Omega.{arith}

@@ -5,7 +5,6 @@ use mathlib.Core.List.{List, [], _∷_}
 use Prim.Native.Nat.{ℕ, _+_, _*_, _-_, _^_, _≤_, _<_}
 use native.Mathlib.Nat.{le-trans, le-of-eq}
 use native.Mathlib.Omega.{arith}
-use native.Mathlib.Decide.{decLt}
 use lib.Dec.{ltb, lit<}
 use lib.IntN.{ℤ, pos, _+ℤ_, _*ℤ_, natAbs}
 use lib.ListN.{length, take, drop, length-take, length-drop}
@@ -24,7 +23,7 @@ use Rattle.hermite.specs.Stage.{weighted, load}
 use Rattle.hermite.proofs.HermiteLaws.{stage-linear}
 use Rattle.hermite.proofs.StageLaws.{end-sum}
 use Rattle.evaluate.specs.declared.Axis.{Axis}
-use Rattle.evaluate.specs.Stages.{numbersAt, IsEnd, AreEnds, AtBoth, placeOf, worked, after, Prepared, Safe}
+use Rattle.evaluate.specs.Stages.{numbersAt, IsEnd, AreEnds, AtBoth, placeOf, worked, Prepared, Safe}
 
 -- ---- a stage of the 2m numbers y, wherever they stand
 

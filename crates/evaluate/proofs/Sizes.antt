@@ -2,17 +2,17 @@
 use mathlib.Core.Path.{_≡_, refl, sym, ap, subst, _∙_}
 use mathlib.Core.List.{List, [], _∷_}
 use Prim.Native.Nat.{ℕ, zero, suc, _+_, _*_, _-_, _%_, _^_, _≤_, _<_}
-use native.Mathlib.Nat.{le-trans, le-of-eq, mul-le-mul, zero-mod, mul-add-mod-self-left, not-suc-le-zero, lt-of-le-of-lt, mod-eq-of-lt, mod-lt, one-le-pow}
+use native.Mathlib.Nat.{le-trans, le-of-eq, zero-mod, mul-add-mod-self-left, not-suc-le-zero, lt-of-le-of-lt, mod-eq-of-lt, mod-lt}
 use native.Mathlib.Omega.{arith}
 use native.Mathlib.Decide.{ℕ-discrete}
 use lib.Dec.{lit≤}
 use lib.ListN.{length}
 use lib.Pow.{pow-add}
 use lib.IntN.{pos, natAbs}
-use Rattle.arith.specs.Int.{Rounding, roundHalfUp}
+use Rattle.arith.specs.Int.{Rounding}
 use Rattle.arith.specs.Sum.{total}
 use Rattle.arith.proofs.Choices.{by-3}
-use Rattle.arith.proofs.Round.{Sound, half-up-sound}
+use Rattle.arith.proofs.Round.{Sound}
 use Rattle.arith.proofs.Abs.{abs-mul}
 use Rattle.arith.proofs.Sums.{total-ext}
 use Rattle.lattice.specs.Axes.{Place, Field, put, sweep}

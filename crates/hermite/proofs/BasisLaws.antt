@@ -7,7 +7,7 @@ use native.Mathlib.Omega.{arith}
 use borrow.Author.Tests.{ltb-true, ltb-false}
 use lib.Dec.{ltb, lit≤, lit<}
 use lib.IntN.{ℤ, pos, negℤ, _-ℤ_, _*ℤ_, natAbs, +ℤ-idl, zero-*ℤ}
-use Rattle.arith.proofs.Choices.{by-m, pick-true, pick-false, on-pick, by-3}
+use Rattle.arith.proofs.Choices.{by-m, on-pick, by-3}
 use Rattle.arith.proofs.Machine.{kept}
 use Rattle.arith.proofs.Sums.{abs-weighted, sum-ext, sum-three, sum-zero}
 use Rattle.arith.specs.Choice.{pick}

@@ -1,8 +1,7 @@
 // One axis: the multiplier table, the basis of a step, and a stage.
 ghost use mathlib.Core.Path.{_≡_};
 ghost use Prim.Native.Nat.{ℕ, _+_, _*_, _-_, _<_, _≤_, _^_};
-ghost use lib.IntN.{pos, negℤ, natAbs, _+ℤ_, _*ℤ_};
-ghost use Rattle.arith.specs.Choice.{pick};
+ghost use lib.IntN.{pos, natAbs, _*ℤ_};
 ghost use Rattle.arith.specs.Int.{roundHalfUp, _^ℤ_};
 ghost use Rattle.arith.specs.Sum.{sum, total};
 ghost use Rattle.lattice.specs.Buffer.{at};

@@ -7,7 +7,7 @@ ghost use lib.Dec.{leb, ltb, eqb};
 ghost use lib.IntN.{ℤ};
 ghost use lib.ListN.{length};
 ghost use Rattle.arith.specs.Choice.{pick};
-ghost use Rattle.lattice.specs.Outcome.{done, refuseUnless, first, passed};
+ghost use Rattle.lattice.specs.Outcome.{done, first, passed};
 ghost use Rattle.lattice.specs.Answers.{outcomeOf};
 ghost use Rattle.lattice.specs.Shape.{size, Shaped};
 ghost use Rattle.hermite.specs.Hermite.{steps};

@@ -2,10 +2,9 @@
 ghost use mathlib.Core.Path.{_≡_};
 ghost use Prim.Native.Nat.{_+_, _*_, _<_, _≤_};
 ghost use lib.Dec.{ltb};
-ghost use lib.ListN.{length, getD, take};
+ghost use lib.ListN.{length, take};
 ghost use Rattle.arith.specs.Choice.{pick};
-ghost use Rattle.lattice.specs.Buffer.{tabulate, overwrite};
-ghost use Rattle.lattice.specs.Digits.{digit};
+ghost use Rattle.lattice.specs.Buffer.{overwrite};
 ghost use Rattle.lattice.specs.Outcome.{done};
 ghost use Rattle.estimate.specs.Estimate.{recordsOf, estimateOutcome};
 ghost use Rattle.cell.specs.Cell.{placeAt, Accepted};

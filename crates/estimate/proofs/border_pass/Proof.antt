@@ -8,7 +8,6 @@ use native.Mathlib.Omega.{arith}
 use lib.IntN.{ℤ, natAbs, _-ℤ_}
 use mir.Syntax.{w32}
 use mir.Val.{SFits, toZ, ofZ}
-use borrow.Author.Needs.{needs}
 use Rattle.arith.specs.Choice.{pick}
 use Rattle.arith.proofs.Abs.{abs-minus}
 use Rattle.arith.proofs.Machine.{Size, sizes, sized, s-bits, fits?, value?}

@@ -1,7 +1,6 @@
 -- `estimate::estimate_limit` meets its contract: a shift is a division by a power of two.
 use mathlib.Core.Path.{refl}
 use native.Mathlib.Omega.{arith}
-use borrow.Author.Needs.{needs}
 use Rattle.estimate.specs.Estimate.{estimateLimit}
 use Rattle.estimate.proofs.estimate_limit.Statement.{statement}
 use Rattle.estimate.proofs.estimate_limit.Tie as tie

@@ -4,7 +4,6 @@ use mathlib.Core.Path.{_≡_}
 use Prim.Native.Nat.{_-_}
 use native.Mathlib.Omega.{arith}
 use lib.ListN.{length}
-use Rattle.lattice.specs.Buffer.{at}
 use Rattle.estimate.specs.Passes.{rowYZ, rowSize, rowOn, planeOf, Ring}
 use Rattle.estimate.proofs.PassesLaws.{node-high, record-high, row-high, row-z-high, row-yz-high}
 use Rattle.estimate.proofs.RowsLaws.{row-same, rows-in, row-seen}

@@ -1,5 +1,5 @@
 -- `evaluate::first` meets its contract: both ends are read from the records, from index p on, and the stage is that of the axis.
-use mathlib.Core.Path.{_≡_, subst, _∙_}
+use mathlib.Core.Path.{subst, _∙_}
 use mathlib.Core.List.{List, [], _∷_}
 use Prim.Native.Nat.{ℕ, _+_, _*_, _<_}
 use native.Mathlib.Omega.{arith}

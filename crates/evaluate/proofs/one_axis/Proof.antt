@@ -1,5 +1,5 @@
 -- `evaluate::one_axis` meets its contract: the stage of the only axis goes from units to units.
-use mathlib.Core.Path.{_≡_, _∙_}
+use mathlib.Core.Path.{_∙_}
 use mathlib.Core.List.{[]}
 use borrow.Author.Needs.{needs}
 use Rattle.arith.proofs.Machine.{read}

@@ -1,6 +1,5 @@
 -- `evaluate::second` meets its contract: the first stage gives the numbers of both ends.
-use mathlib.Core.Path.{_≡_, sym, ap, subst, _∙_}
-use mathlib.Core.Bool.{true, false}
+use mathlib.Core.Path.{sym, subst, _∙_}
 use mathlib.Core.List.{[], _∷_}
 use Prim.Native.Nat.{ℕ, _≤_}
 use native.Mathlib.Omega.{arith}
@@ -8,7 +7,6 @@ use denote.Ref.{now}
 use Rattle.arith.specs.Int.{roundHalfUp}
 use Rattle.arith.proofs.Machine.{read}
 use Rattle.lattice.specs.Buffer.{at}
-use Rattle.hermite.specs.Stage.{shiftOf}
 use Rattle.hermite.proofs.StageLaws.{shifted}
 use Rattle.evaluate.specs.Stages.{AreEnds, worked, after}
 use Rattle.evaluate.proofs.EndLaws.{stage-asks, stage-gives}

@@ -1,7 +1,7 @@
 -- `evaluate::second_ends` meets its contract: the second stage gives the numbers of both ends, one after the other.
 use mathlib.Core.Path.{_≡_, refl, sym, ap, subst, _∙_}
-use mathlib.Core.List.{List, [], _∷_}
-use Prim.Native.Nat.{ℕ, _+_, _*_, _-_, _^_, _≤_, _<_}
+use mathlib.Core.List.{[], _∷_}
+use Prim.Native.Nat.{ℕ, _+_, _*_, _-_, _≤_, _<_}
 use native.Mathlib.Nat.{not-suc-le-zero}
 use native.Mathlib.Omega.{arith}
 use lib.ListN.{length, getD, length-set}
@@ -14,7 +14,7 @@ use Rattle.arith.specs.Int.{roundHalfUp}
 use Rattle.arith.proofs.Machine.{read}
 use Rattle.lattice.specs.Buffer.{at}
 use Rattle.lattice.proofs.BufferLaws.{fill}
-use Rattle.evaluate.specs.Stages.{IsEnd, placeOf, after, Safe}
+use Rattle.evaluate.specs.Stages.{placeOf, after, Safe}
 use Rattle.evaluate.proofs.EndLaws.{place-low, place-high, at-place, safe-index, end-of-two, end-of-three}
 use Rattle.evaluate.proofs.second_ends.Statement.{statement}
 use Rattle.evaluate.proofs.second_ends.Tie as tie

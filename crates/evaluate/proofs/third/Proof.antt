@@ -1,5 +1,5 @@
 -- `evaluate::third` meets its contract: the second stage gives the numbers of both ends.
-use mathlib.Core.Path.{_≡_, _∙_}
+use mathlib.Core.Path.{_∙_}
 use Rattle.arith.specs.Int.{roundHalfUp}
 use Rattle.arith.proofs.Machine.{read}
 use Rattle.evaluate.proofs.EndLaws.{stage-asks, stage-gives}
