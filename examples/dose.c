@@ -11,7 +11,7 @@ static int refused(const char *call, uint32_t number, uint64_t place) {
 }
 
 int main(void) {
-    lukhtari_shape shape = {1, 3, {2, 1, 1}}; /* axes, degree, node counts */
+    lukhtari_shape shape = {1, 3, {2, 1, 1}, false}; /* axes, degree, node counts, edition two */
     int32_t samples[2] = {0, 100};
     int32_t records[LUKHTARI_ENTRIES(1, 3, 2)];
     size_t entries = sizeof records / sizeof records[0];

@@ -6,7 +6,7 @@
 #include <string.h>
 
 int main(void) {
-    lukhtari_shape shape = {2, 3, {3, 3, 1}}; /* axes, degree, node counts */
+    lukhtari_shape shape = {2, 3, {3, 3, 1}, false}; /* axes, degree, node counts, edition two */
     const char *text = "0      1      2.50\n"
                        "-5e-1  0.40   18e-1\n"
                        "-1.2   -0.10  0.9\n";

@@ -5,7 +5,7 @@
 #include <stdio.h>
 
 int main(void) {
-    lukhtari_shape shape = {2, 3, {3, 2, 1}}; /* axes, degree, node counts */
+    lukhtari_shape shape = {2, 3, {3, 2, 1}, false}; /* axes, degree, node counts, edition two */
     int32_t samples[LUKHTARI_NODES(3, 2, 1)] = {0, 100, 400, 0, 100, 200};
     int32_t records[LUKHTARI_ENTRIES(2, 3, LUKHTARI_NODES(3, 2, 1))];
     size_t entries = sizeof records / sizeof records[0];

@@ -44,12 +44,17 @@
  * curvature, the second derivative along an axis, in units per cell squared. Quintic tables alone
  * have curvatures: cubic ones are not smooth to the second derivative. Axes are worked off one by
  * one, in the order x, y, z, the axis of a slope or curvature last; each but the last rounds to an
- * eighth of a unit, the last to a unit, to the nearest and halves up. Answers lie below 2^24 in
- * size. With estimated records a dose is within 1/2, 37/64, 173/256 of the exact dose on 1, 2, 3
- * axes, a slope within 1/2, 13/16, 77/64 of its derivative, a curvature within 1/2, 3/2, 11/4 of
- * its second derivative. Where the samples are a sum of a constant and multiples of x, y, z, xy,
+ * eighth of a unit, the last to a unit, to the nearest; halves go by the edition. Answers lie below
+ * 2^24 in size. With estimated records a dose is within 1/2, 37/64, 173/256 of the exact dose on 1,
+ * 2, 3 axes, a slope within 1/2, 13/16, 77/64 of its derivative, a curvature within 1/2, 3/2, 11/4
+ * of its second derivative. Where the samples are a sum of a constant and multiples of x, y, z, xy,
  * xz, yz and xyz, these being the node indices, the exact dose is that sum everywhere in the table,
  * and the exact curvature is 0.
+ *
+ * Editions. A table is of edition one or of edition two, which is a part of its shape. In edition
+ * one every stage rounds halves up, in edition two to the even number. Nothing else depends on it:
+ * not the estimates, coefficients and positions, not the step of a float, whose halves go up, and
+ * no refusal but those of the file. The distances hold for both.
  *
  * A ramp. A list of at most LUKHTARI_RAMP_MAX positions stands in one slice, three numbers each, x
  * first. lukhtari_ramp writes one dose for each, the one that lukhtari_dose gives. The corner
@@ -63,7 +68,10 @@
  *    byte 0              n
  *    byte 4              n node counts, x first
  *    byte 4 + 4 * n      number of samples, the product of the node counts
- *    byte 8 + 4 * n      the samples in order of node numbers; nothing follows them
+ *    byte 8 + 4 * n      the samples in order of node numbers
+ *
+ * With them a file of edition one ends. One of edition two has a third section behind them: the
+ * count 1 and the number 2, 8 bytes. Nothing follows.
  *
  * The text of a table. One token for each sample, in order of node numbers. Space, tab, line feed
  * and carriage return separate tokens, one or more of them; they may also lead and end the text. A
@@ -84,17 +92,17 @@
  * before a call has no effect on the call.
  *
  * Results. Every result has a number and a place. Number 0 means not refused, and then place is 0.
- * Any other number is a refusal, one of enum lukhtari_refusal: no buffer is written, and value,
- * axes, counts, length and fetches are 0. Place is the first offending index as said there, else 0.
- * A buffer longer than needed keeps its tail.
+ * Any other number is a refusal, one of enum lukhtari_refusal: no buffer is written, value, axes,
+ * counts, length and fetches are 0, and second_edition is false. Place is the first offending index
+ * as said there, else 0. A buffer longer than needed keeps its tail.
  *
  * Refusals come before reading. Every call but lukhtari_read, lukhtari_import and lukhtari_ramp
  * gives each refusal but 5, 13 and 19 by the numbers and lengths handed over, before it reads an
  * element of a slice. lukhtari_ramp gives 1, 2, 3, 20, 4 and 9 so, and then reads no record beyond
  * those of the cells of its positions, up to the first position that is refused. lukhtari_read
- * reads the numbers before the samples one by one, none beyond the bytes lent, and gives each
- * refusal but 5 before it reads a sample. lukhtari_import gives 1, 2 and 3 before it reads a byte
- * of the text. Neither reads the slice that it fills.
+ * reads the numbers before and behind the samples one by one, none beyond the bytes lent, and gives
+ * each refusal but 5 before it reads a sample. lukhtari_import gives 1, 2 and 3 before it reads a
+ * byte of the text. Neither reads the slice that it fills.
  *
  * Surroundings. The archive is for x86-64 Linux. It needs memcpy and memset and nothing else, uses
  * no heap and has no data that changes: calls may run at the same time, in threads and in signal
@@ -105,6 +113,7 @@
 #ifndef LUKHTARI_H
 #define LUKHTARI_H
 
+#include <stdbool.h>
 #include <stddef.h>
 #include <stdint.h>
 
@@ -113,7 +122,7 @@ extern "C" {
 #endif
 
 /* The number of this interface; another number means other structs, calls or names. */
-#define LUKHTARI_INTERFACE 6
+#define LUKHTARI_INTERFACE 7
 
 /* Steps of a cell along an axis. */
 #define LUKHTARI_STEPS 256
@@ -148,10 +157,10 @@ extern "C" {
 #define LUKHTARI_RECORD_ENTRIES_MAX 27
 #define LUKHTARI_ENTRIES_MAX 7077888
 #define LUKHTARI_COEFFICIENTS_MAX 216
-#define LUKHTARI_FILE_BYTES_MAX 1048596
+#define LUKHTARI_FILE_BYTES_MAX 1048604
 
-/* The same sizes for the axes, degree and nodes of an accepted shape; for other numbers they mean
- * nothing. Constant where the arguments are, which may be evaluated more than once. */
+/* The same sizes for the axes, degree, nodes and edition of an accepted shape; for other numbers
+ * they mean nothing. Constant where the arguments are, which may be evaluated more than once. */
 #define LUKHTARI_POWER(base, axes)                                                                 \
     ((size_t)(base) * ((axes) > 1 ? (size_t)(base) : 1) * ((axes) > 2 ? (size_t)(base) : 1))
 #define LUKHTARI_NODES(x, y, z) ((size_t)(x) * (size_t)(y) * (size_t)(z))
@@ -159,7 +168,8 @@ extern "C" {
 #define LUKHTARI_ENTRIES(axes, degree, nodes)                                                      \
     ((size_t)(nodes) * LUKHTARI_RECORD_ENTRIES(axes, degree))
 #define LUKHTARI_COEFFICIENTS(axes, degree) LUKHTARI_POWER((degree) + 1, axes)
-#define LUKHTARI_FILE_BYTES(axes, nodes) (4 * (2 + (size_t)(axes) + (size_t)(nodes)))
+#define LUKHTARI_FILE_BYTES(axes, nodes, second_edition)                                           \
+    (4 * (2 + (size_t)(axes) + (size_t)(nodes) + ((second_edition) ? 2 : 0)))
 
 /* Bytes of stack, at most: of lukhtari_estimate; of lukhtari_coefficients, lukhtari_corners and
  * lukhtari_powers; of each dose, slope and curvature; of lukhtari_read and lukhtari_write; of
@@ -189,7 +199,7 @@ enum lukhtari_refusal {
      * alone, in corner order. For lukhtari_ramp the place is the index of the position in the
      * list. */
     LUKHTARI_REFUSED_BEYOND_LIMIT = 5,
-    /* The file's bytes end early; place: the number of bytes lent. */
+    /* The file's bytes end early, also within a third section; place: the number of bytes lent. */
     LUKHTARI_REFUSED_FILE_ENDS_EARLY = 6,
     /* The file has bytes left over; place: the index of the first. */
     LUKHTARI_REFUSED_FILE_LEFT_OVER = 7,
@@ -230,15 +240,18 @@ enum lukhtari_refusal {
      * there. */
     LUKHTARI_REFUSED_POSITION_UNUSED_AXIS = 23,
     /* Power coefficients are asked for of a table that is not two-axis cubic. */
-    LUKHTARI_REFUSED_POWERS_SHAPE = 24
+    LUKHTARI_REFUSED_POWERS_SHAPE = 24,
+    /* The count of the file's third section is not 1, or its number is not 2. */
+    LUKHTARI_REFUSED_FILE_EDITION = 25
 };
 
-/* A table's number of axes (1 to 3), degree (3 or 5) and node counts: 2 to 64 on each used axis,
- * 1 on an unused one. */
+/* A table's number of axes (1 to 3), degree (3 or 5), node counts, 2 to 64 on each used axis and 1
+ * on an unused one, and whether it is of edition two. */
 typedef struct lukhtari_shape {
     uint32_t axes;
     uint32_t degree;
     uint32_t counts[3];
+    bool second_edition;
 } lukhtari_shape;
 
 /* A cell's indices, in-cell steps, or node counts. */
@@ -278,12 +291,14 @@ typedef struct lukhtari_real {
     float value;
 } lukhtari_real;
 
-/* The number of axes and the node counts of a file that was read, 1 on unused axes. */
+/* The number of axes and the node counts of a file that was read, 1 on unused axes, and whether it
+ * is of edition two. */
 typedef struct lukhtari_table {
     uint32_t number;
     uint64_t place;
     uint32_t axes;
     uint32_t counts[3];
+    bool second_edition;
 } lukhtari_table;
 
 /* The number of bytes that were written. */
@@ -308,14 +323,14 @@ typedef struct lukhtari_ramped {
 #endif
 #ifdef LUKHTARI_SIZE
 LUKHTARI_SIZE(size_t, 8);
-LUKHTARI_SIZE(lukhtari_shape, 20);
+LUKHTARI_SIZE(lukhtari_shape, 24);
 LUKHTARI_SIZE(lukhtari_index, 12);
 LUKHTARI_SIZE(lukhtari_position, 12);
 LUKHTARI_SIZE(lukhtari_float_position, 12);
 LUKHTARI_SIZE(lukhtari_done, 16);
 LUKHTARI_SIZE(lukhtari_whole, 24);
 LUKHTARI_SIZE(lukhtari_real, 24);
-LUKHTARI_SIZE(lukhtari_table, 32);
+LUKHTARI_SIZE(lukhtari_table, 40);
 LUKHTARI_SIZE(lukhtari_written, 24);
 LUKHTARI_SIZE(lukhtari_ramped, 24);
 #undef LUKHTARI_SIZE
@@ -398,16 +413,17 @@ lukhtari_real lukhtari_slope_float(lukhtari_shape shape, const int32_t *records,
                                    uint32_t axis);
 
 /* Reads a table file and writes its samples.
- * Refusals in byte order: 6 where a number is incomplete, 1, 3, 8, 6 for the samples, 7; then 9,
- * 5. */
+ * Refusals in byte order: 6 where a number is incomplete, 1, 3, 8, 6 for the samples; where bytes
+ * follow the samples 6 for the third section, 25, 7; then 9, 5. */
 lukhtari_table lukhtari_read(const uint8_t *bytes, size_t bytes_len, int32_t *samples,
                              size_t samples_len);
 
-/* Writes the table file of a number of axes, node counts and samples: 4 * (2 + axes + samples)
- * bytes.
+/* Writes the table file of a number of axes, node counts, an edition and samples:
+ * 4 * (2 + axes + samples) bytes, 8 more in edition two.
  * Refusals in order: 1, 3, 4, 9, 5. */
-lukhtari_written lukhtari_write(uint32_t axes, lukhtari_index counts, const int32_t *samples,
-                                size_t samples_len, uint8_t *bytes, size_t bytes_len);
+lukhtari_written lukhtari_write(uint32_t axes, lukhtari_index counts, bool second_edition,
+                                const int32_t *samples, size_t samples_len, uint8_t *bytes,
+                                size_t bytes_len);
 
 /* Reads the text of a table of this shape and writes its samples.
  * Refusals in order: 1, 2, 3, 4 (the number of tokens), 9, then token by token 16, 17, 18, 5. */

@@ -1,5 +1,5 @@
-/* The dose at a table position by hand: the whole call, with a copy of the code for each degree and number of axes and
- * the table folded into the weights. */
+/* The dose at a table position by hand: the whole call, with a copy of the code for each degree, number of axes and
+ * edition, and the table folded into the weights. */
 #include "lukhtari.h"
 
 #define INLINE static inline __attribute__((always_inline))
@@ -30,9 +30,10 @@ INLINE void end_basis(unsigned m, int64_t a, int64_t b, int64_t high, int64_t *o
     }
 }
 
-/* x / 2^k to the nearest, halves up. */
-INLINE int64_t rounded(int64_t x, unsigned k) {
-    return (x + ((int64_t)1 << (k - 1))) >> k;
+/* x / 2^k to the nearest: halves up, or to the even number. */
+INLINE int64_t rounded(int64_t x, unsigned k, bool even) {
+    int64_t half = (int64_t)1 << (k - 1);
+    return even ? (x + half - 1 + (x >> k & 1)) >> k : (x + half) >> k;
 }
 
 /* The sum of 2m numbers, which stand `near` apart at each of two ends `far` apart, by their basis. */
@@ -45,7 +46,7 @@ INLINE int64_t stage(unsigned m, const int64_t *basis, const int32_t *at, size_t
     return sum;
 }
 
-INLINE lukhtari_whole dose(unsigned m, unsigned n, lukhtari_shape s, const int32_t *records, size_t length,
+INLINE lukhtari_whole dose(unsigned m, unsigned n, bool even, lukhtari_shape s, const int32_t *records, size_t length,
                            lukhtari_position p) {
     size_t entries = n == 1 ? m : n == 2 ? m * m : m * m * m;
     size_t far[3], near[3], base = 0, stride = entries;
@@ -93,24 +94,29 @@ INLINE lukhtari_whole dose(unsigned m, unsigned n, lukhtari_shape s, const int32
     lukhtari_whole answer = {0, 0, 0};
     int64_t sum = 0;
     if (n == 1) {
-        answer.value = (int32_t)rounded(stage(m, basis[0], records + base, near[0], far[0]), k);
+        answer.value = (int32_t)rounded(stage(m, basis[0], records + base, near[0], far[0]), k, even);
         return answer;
     }
     for (unsigned t = 0; t < 2 * m; t++) {
         size_t last = base + t / m * far[n - 1] + t % m * near[n - 1];
         if (n == 2) {
-            sum += basis[1][t] * rounded(stage(m, basis[0], records + last, near[0], far[0]), k - 3);
+            sum += basis[1][t] * rounded(stage(m, basis[0], records + last, near[0], far[0]), k - 3, even);
             continue;
         }
         int64_t inner = 0;
         for (unsigned v = 0; v < 2 * m; v++) {
             size_t at = last + v / m * far[1] + v % m * near[1];
-            inner += basis[1][v] * rounded(stage(m, basis[0], records + at, near[0], far[0]), k - 3);
+            inner += basis[1][v] * rounded(stage(m, basis[0], records + at, near[0], far[0]), k - 3, even);
         }
-        sum += basis[2][t] * rounded(inner, k);
+        sum += basis[2][t] * rounded(inner, k, even);
     }
-    answer.value = (int32_t)rounded(sum, k + 3);
+    answer.value = (int32_t)rounded(sum, k + 3, even);
     return answer;
+}
+
+INLINE lukhtari_whole by_edition(unsigned m, unsigned n, lukhtari_shape s, const int32_t *records, size_t length,
+                                 lukhtari_position p) {
+    return s.second_edition ? dose(m, n, true, s, records, length, p) : dose(m, n, false, s, records, length, p);
 }
 
 lukhtari_whole dose_by_hand(lukhtari_shape s, const int32_t *records, size_t length, lukhtari_position p) {
@@ -118,14 +124,14 @@ lukhtari_whole dose_by_hand(lukhtari_shape s, const int32_t *records, size_t len
         return refused(1, 0);
     }
     if (s.degree == 3) {
-        return s.axes == 1   ? dose(2, 1, s, records, length, p)
-               : s.axes == 2 ? dose(2, 2, s, records, length, p)
-                             : dose(2, 3, s, records, length, p);
+        return s.axes == 1   ? by_edition(2, 1, s, records, length, p)
+               : s.axes == 2 ? by_edition(2, 2, s, records, length, p)
+                             : by_edition(2, 3, s, records, length, p);
     }
     if (s.degree == 5) {
-        return s.axes == 1   ? dose(3, 1, s, records, length, p)
-               : s.axes == 2 ? dose(3, 2, s, records, length, p)
-                             : dose(3, 3, s, records, length, p);
+        return s.axes == 1   ? by_edition(3, 1, s, records, length, p)
+               : s.axes == 2 ? by_edition(3, 2, s, records, length, p)
+                             : by_edition(3, 3, s, records, length, p);
     }
     return refused(2, 0);
 }

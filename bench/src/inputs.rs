@@ -50,13 +50,14 @@ impl Want {
 
 pub const KINDS: [(u32, u32); 6] = [(3, 1), (3, 2), (3, 3), (5, 1), (5, 2), (5, 3)];
 
-// A shape with the same number of nodes on each used axis.
+// A shape of edition one with the same number of nodes on each used axis.
 pub fn cube(degree: u32, axes: u32, count: u32) -> Shape {
     let counts = [0, 1, 2].map(|axis| if axis < axes { count } else { 1 });
     Shape {
         axes,
         degree,
         counts,
+        second_edition: false,
     }
 }
 

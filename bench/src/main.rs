@@ -4,14 +4,15 @@
 //! tables are those of `docs/SPEED.md`.
 //!
 //! Doses, slopes and curvatures by hand are of two kinds: specialised, with one copy of the code
-//! for each degree, number of axes and axis worked off last; and plain, with one copy for all of
-//! them. Each kind works off an axis in two ways: as printed, and with the table folded into the
-//! weights.
+//! for each degree, number of axes, axis worked off last and edition; and plain, with one copy for
+//! all of them. Each kind works off an axis in two ways: as printed, and with the table folded into
+//! the weights.
 
 mod c;
 mod clock;
 mod conversion;
 mod double;
+mod editions;
 mod estimation;
 mod floats;
 mod hand;
@@ -27,12 +28,13 @@ use std::env;
 
 // All parts, or those named by the arguments.
 fn main() {
-    let parts: [(&str, fn()); 9] = [
+    let parts: [(&str, fn()); 10] = [
         ("import", import::run),
         ("estimation", estimation::run),
         ("conversion", conversion::run),
         ("powers", powers::run),
         ("queries", queries::run),
+        ("editions", editions::run),
         ("ramps", ramps::run),
         ("floats", floats::run),
         ("c", c::run),

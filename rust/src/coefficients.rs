@@ -9,7 +9,7 @@ use crate::{ffi, Refusal, Shape};
 ///
 /// ```
 /// use lukhtari::{coefficients, Refusal, Shape};
-/// let shape = Shape { axes: 1, degree: 3, counts: [2, 1, 1] };
+/// let shape = Shape { axes: 1, degree: 3, counts: [2, 1, 1], second_edition: false };
 /// let mut out = [0; 4];
 /// coefficients(shape, &[0, 200, 100, 200], [0, 0, 0], &mut out)?;
 /// assert_eq!(out, [0, 200, 400, 200]);

@@ -15,7 +15,7 @@ use crate::{ffi, Refusal, Shape};
 ///
 /// ```
 /// use lukhtari::{estimate, Refusal, Shape};
-/// let shape = Shape { axes: 1, degree: 3, counts: [2, 1, 1] };
+/// let shape = Shape { axes: 1, degree: 3, counts: [2, 1, 1], second_edition: false };
 /// let mut records = [0; 4];
 /// estimate(shape, &[0, 100], &mut records)?;
 /// assert_eq!(records, [0, 200, 100, 200]);

@@ -6,7 +6,7 @@
 //! with any pointer, null included: the pointer is not used, and every call but `lukhtari_ramp` is
 //! refused.
 
-/// Number of axes, degree and node counts of a table.
+/// Number of axes, degree, node counts and edition of a table.
 #[repr(C)]
 #[derive(Clone, Copy, Debug, PartialEq, Eq)]
 pub struct Shape {
@@ -16,6 +16,8 @@ pub struct Shape {
     pub degree: u32,
     /// 2 to 64 on a used axis, 1 on an unused one
     pub counts: [u32; 3],
+    /// Edition two, in which every stage rounds halves to the even number; else they go up
+    pub second_edition: bool,
 }
 
 /// A cell's indices, the steps within a cell, or node counts.
@@ -81,7 +83,7 @@ pub struct Real {
     pub value: f32,
 }
 
-/// Number of axes and node counts that were read, or a refusal.
+/// Number of axes, node counts and edition that were read, or a refusal.
 #[repr(C)]
 #[derive(Clone, Copy, Debug, PartialEq, Eq)]
 pub struct Table {
@@ -93,6 +95,8 @@ pub struct Table {
     pub axes: u32,
     /// 1 on unused axes, and 0 where refused
     pub counts: [u32; 3],
+    /// Edition two, and false where refused
+    pub second_edition: bool,
 }
 
 /// Number of bytes written, or a refusal.
@@ -315,6 +319,7 @@ extern "C" {
     pub fn lukhtari_write(
         axes: u32,
         counts: Index,
+        second_edition: bool,
         samples: *const i32,
         samples_len: usize,
         bytes: *mut u8,

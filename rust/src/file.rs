@@ -3,13 +3,15 @@
 use crate::answer::answer;
 use crate::{ffi, Refusal};
 
-/// Number of axes and node counts of a file that was read.
+/// Number of axes, node counts and edition of a file that was read.
 #[derive(Clone, Copy, Debug, PartialEq, Eq)]
 pub struct Table {
     /// 1, 2 or 3
     pub axes: u32,
     /// 1 on unused axes
     pub counts: [u32; 3],
+    /// Whether the file is of edition two
+    pub second_edition: bool,
 }
 
 impl Table {
@@ -21,14 +23,16 @@ impl Table {
 
 /// Reads a table file and writes its samples to the front of `samples`.
 ///
-/// Refusals in byte order: 6, 1, 3, 8, 6, 7, then 9, 5.
+/// A file that ends with its samples is of edition one; one of edition two has a third section.
+///
+/// Refusals in byte order: 6, 1, 3, 8, 6, then 6 and 25 of the third section, 7; then 9, 5.
 ///
 /// ```
 /// use lukhtari::{read, Refusal};
 /// let bytes = [1, 0, 0, 0, 2, 0, 0, 0, 2, 0, 0, 0, 0, 0, 0, 0, 100, 0, 0, 0];
 /// let mut samples = [0; 2];
 /// let table = read(&bytes, &mut samples)?;
-/// assert_eq!((table.axes, table.counts), (1, [2, 1, 1]));
+/// assert_eq!((table.axes, table.counts, table.second_edition), (1, [2, 1, 1], false));
 /// assert_eq!(samples, [0, 100]);
 ///
 /// let refusal = read(&bytes[..19], &mut samples).unwrap_err();
@@ -45,27 +49,35 @@ pub fn read(bytes: &[u8], samples: &mut [i32]) -> Result<Table, Refusal> {
             samples.len(),
         )
     };
-    let (axes, counts) = (result.axes, result.counts);
-    answer(result.number, result.place, Table { axes, counts })
+    let table = Table {
+        axes: result.axes,
+        counts: result.counts,
+        second_edition: result.second_edition,
+    };
+    answer(result.number, result.place, table)
 }
 
-/// Writes a table file to the front of `bytes` and returns its length.
+/// Writes a table file to the front of `bytes` and returns its length, which is 8 more in edition
+/// two.
 ///
 /// Refusals in order: 1, 3, 4, 9, 5.
 ///
 /// ```
 /// use lukhtari::{write, Refusal};
-/// let mut bytes = [0; 24];
-/// assert_eq!(write(1, [2, 1, 1], &[0, 100], &mut bytes)?, 20);
+/// let mut bytes = [0; 28];
+/// assert_eq!(write(1, [2, 1, 1], false, &[0, 100], &mut bytes)?, 20);
 /// assert_eq!(bytes[16..20], [100, 0, 0, 0]);
+/// assert_eq!(write(1, [2, 1, 1], true, &[0, 100], &mut bytes)?, 28);
+/// assert_eq!(bytes[20..], [1, 0, 0, 0, 2, 0, 0, 0]);
 ///
-/// let refusal = write(1, [2, 1, 2], &[0, 100], &mut bytes).unwrap_err();
+/// let refusal = write(1, [2, 1, 2], false, &[0, 100], &mut bytes).unwrap_err();
 /// assert_eq!(refusal, Refusal { number: 3, place: 2 });
 /// # Ok::<(), Refusal>(())
 /// ```
 pub fn write(
     axes: u32,
     counts: [u32; 3],
+    second_edition: bool,
     samples: &[i32],
     bytes: &mut [u8],
 ) -> Result<usize, Refusal> {
@@ -74,6 +86,7 @@ pub fn write(
         ffi::lukhtari_write(
             axes,
             ffi::Index { at: counts },
+            second_edition,
             samples.as_ptr(),
             samples.len(),
             bytes.as_mut_ptr(),

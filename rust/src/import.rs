@@ -14,7 +14,7 @@ use crate::{ffi, Refusal, Shape};
 ///
 /// ```
 /// use lukhtari::{import, Refusal, Shape};
-/// let shape = Shape { axes: 1, degree: 3, counts: [3, 1, 1] };
+/// let shape = Shape { axes: 1, degree: 3, counts: [3, 1, 1], second_edition: false };
 /// let mut samples = [0; 3];
 /// import(shape, b"5e-1 0.5\n-327.68", &mut samples)?;
 /// assert_eq!(samples, [50, 50, -32768]);

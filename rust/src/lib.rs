@@ -12,6 +12,9 @@
 //! Samples, records and coefficients stand in slices with x fastest. A position counts 256 steps
 //! for each cell. Arrays of three hold one number for each axis, x first, and 0 on unused axes
 //! (node counts hold 1 there).
+//!
+//! A table has one of two editions, a part of its shape: the stages of an answer round halves up in
+//! edition one and to the even number in edition two. Nothing else depends on it.
 
 #![no_std]
 #![warn(missing_docs)]

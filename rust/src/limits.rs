@@ -1,7 +1,7 @@
 //! Limits of tables and the largest sizes of buffers, as `lukhtari.h` has them.
 
 /// Number of the C interface; another number means other structs, calls or names.
-pub const INTERFACE: u32 = 6;
+pub const INTERFACE: u32 = 7;
 
 /// Steps of a cell along an axis.
 pub const STEPS: u32 = 256;
@@ -67,7 +67,7 @@ pub const ENTRIES_MAX: usize = NODES_MAX * RECORD_ENTRIES_MAX;
 pub const COEFFICIENTS_MAX: usize = 216;
 
 /// Most bytes of a table file.
-pub const FILE_BYTES_MAX: usize = 4 * (2 + 3 + NODES_MAX);
+pub const FILE_BYTES_MAX: usize = 4 * (2 + 3 + NODES_MAX + 2);
 
 /// Most bytes of stack that an estimation uses.
 pub const STACK_ESTIMATE: usize = 8192;

@@ -14,14 +14,14 @@ use crate::{ffi, Refusal, Shape};
 /// ```
 /// use lukhtari::{estimate, powers, Refusal, Shape};
 /// // The samples are 100xy.
-/// let shape = Shape { axes: 2, degree: 3, counts: [2, 2, 1] };
+/// let shape = Shape { axes: 2, degree: 3, counts: [2, 2, 1], second_edition: false };
 /// let mut records = [0; 16];
 /// estimate(shape, &[0, 0, 0, 100], &mut records)?;
 /// let mut out = [0; 16];
 /// powers(shape, &records, [0, 0, 0], &mut out)?;
 /// assert_eq!(out, [0, 0, 0, 0, 0, 400, 0, 0, 0, 0, 0, 0, 0, 0, 0, 0]);
 ///
-/// let line = Shape { axes: 1, degree: 3, counts: [2, 1, 1] };
+/// let line = Shape { axes: 1, degree: 3, counts: [2, 1, 1], second_edition: false };
 /// let refusal = powers(line, &records[..4], [0, 0, 0], &mut out).unwrap_err();
 /// assert_eq!(refusal, Refusal { number: 24, place: 0 });
 /// # Ok::<(), Refusal>(())

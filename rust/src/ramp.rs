@@ -16,7 +16,7 @@ use crate::{ffi, Refusal, Shape};
 ///
 /// ```
 /// use lukhtari::{estimate, ramp, Refusal, Shape};
-/// let shape = Shape { axes: 1, degree: 3, counts: [3, 1, 1] };
+/// let shape = Shape { axes: 1, degree: 3, counts: [3, 1, 1], second_edition: false };
 /// let mut records = [0; 6];
 /// estimate(shape, &[0, 100, 200], &mut records)?;
 /// let mut answers = [0; 3];

@@ -15,7 +15,7 @@ fn float_position([x, y, z]: [f32; 3]) -> ffi::FloatPosition {
 ///
 /// ```
 /// use lukhtari::{dose_float, estimate, Refusal, Shape};
-/// let shape = Shape { axes: 1, degree: 3, counts: [2, 1, 1] };
+/// let shape = Shape { axes: 1, degree: 3, counts: [2, 1, 1], second_edition: false };
 /// let mut records = [0; 4];
 /// estimate(shape, &[0, 100], &mut records)?;
 /// assert_eq!(dose_float(shape, &records, [0.25, 0.0, 0.0])?, 25.0);
@@ -40,7 +40,7 @@ pub fn dose_float(shape: Shape, records: &[i32], position: [f32; 3]) -> Result<f
 ///
 /// ```
 /// use lukhtari::{estimate, slope_float, Refusal, Shape};
-/// let shape = Shape { axes: 1, degree: 3, counts: [2, 1, 1] };
+/// let shape = Shape { axes: 1, degree: 3, counts: [2, 1, 1], second_edition: false };
 /// let mut records = [0; 4];
 /// estimate(shape, &[0, 100], &mut records)?;
 /// assert_eq!(slope_float(shape, &records, [0.5, 0.0, 0.0], 0)?, 100.0);

@@ -13,7 +13,7 @@ use core::fmt;
 /// ```
 #[derive(Clone, Copy, Debug, PartialEq, Eq)]
 pub struct Refusal {
-    /// 1 to 24, the constants below
+    /// 1 to 25, the constants below
     pub number: u32,
     /// An index counted from 0, and 0 where the reason names none; of 5, 11, 22 and 23 of a ramp the
     /// index of the position in the list
@@ -71,6 +71,8 @@ impl Refusal {
     pub const POSITION_UNUSED_AXIS: u32 = 23;
     /// Power coefficients are asked for of a table that is not two-axis cubic.
     pub const POWERS_SHAPE: u32 = 24;
+    /// The third section of the file is not the one of edition two.
+    pub const FILE_EDITION: u32 = 25;
 }
 
 impl fmt::Display for Refusal {
@@ -129,6 +131,12 @@ impl fmt::Display for Refusal {
                 position(f, place, "is not 0 on an axis that is not used: take 0")
             }
             Self::POWERS_SHAPE => write!(f, "only two-axis cubic tables have power coefficients"),
+            Self::FILE_EDITION => {
+                write!(
+                    f,
+                    "the file's third section is not the count 1 and the number 2"
+                )
+            }
             _ => write!(f, "unknown reason"),
         }
     }

@@ -13,11 +13,13 @@ impl Shape {
     ///
     /// ```
     /// use lukhtari::Shape;
-    /// let shape = Shape { axes: 2, degree: 5, counts: [4, 3, 1] };
+    /// let shape = Shape { axes: 2, degree: 5, counts: [4, 3, 1], second_edition: false };
     /// assert_eq!(shape.nodes(), 12);
     /// assert_eq!(shape.entries(), 12 * 9);
     /// assert_eq!(shape.coefficients(), 36);
     /// assert_eq!(shape.file_bytes(), 4 * (2 + 2 + 12));
+    /// let second = Shape { second_edition: true, ..shape };
+    /// assert_eq!(second.file_bytes(), 4 * (2 + 2 + 12) + 8);
     /// ```
     pub fn entries(&self) -> usize {
         let orders = self.degree as usize / 2 + 1;
@@ -33,7 +35,8 @@ impl Shape {
 
     /// Number of bytes of the table's file.
     pub fn file_bytes(&self) -> usize {
-        let numbers = (self.axes as usize).saturating_add(2);
+        let section = if self.second_edition { 2 } else { 0 };
+        let numbers = (self.axes as usize).saturating_add(2 + section);
         numbers.saturating_add(self.nodes()).saturating_mul(4)
     }
 }

@@ -9,7 +9,7 @@ use crate::{ffi, Refusal, Shape};
 ///
 /// ```
 /// use lukhtari::{dose, estimate, Refusal, Shape};
-/// let shape = Shape { axes: 1, degree: 3, counts: [2, 1, 1] };
+/// let shape = Shape { axes: 1, degree: 3, counts: [2, 1, 1], second_edition: false };
 /// let mut records = [0; 4];
 /// estimate(shape, &[0, 100], &mut records)?;
 /// assert_eq!(dose(shape, &records, [64, 0, 0])?, 25);
@@ -35,7 +35,7 @@ pub fn dose(shape: Shape, records: &[i32], position: [i32; 3]) -> Result<i32, Re
 ///
 /// ```
 /// use lukhtari::{estimate, slope, Refusal, Shape};
-/// let shape = Shape { axes: 1, degree: 3, counts: [2, 1, 1] };
+/// let shape = Shape { axes: 1, degree: 3, counts: [2, 1, 1], second_edition: false };
 /// let mut records = [0; 4];
 /// estimate(shape, &[0, 100], &mut records)?;
 /// assert_eq!(slope(shape, &records, [128, 0, 0], 0)?, 100);
@@ -59,7 +59,7 @@ pub fn slope(shape: Shape, records: &[i32], position: [i32; 3], axis: u32) -> Re
 ///
 /// ```
 /// use lukhtari::{dose_in_cell, estimate, Refusal, Shape};
-/// let shape = Shape { axes: 1, degree: 3, counts: [2, 1, 1] };
+/// let shape = Shape { axes: 1, degree: 3, counts: [2, 1, 1], second_edition: false };
 /// let mut records = [0; 4];
 /// estimate(shape, &[0, 100], &mut records)?;
 /// assert_eq!(dose_in_cell(shape, &records, [0, 0, 0], [256, 0, 0])?, 100);
@@ -85,7 +85,7 @@ pub fn dose_in_cell(
 ///
 /// ```
 /// use lukhtari::{estimate, slope_in_cell, Refusal, Shape};
-/// let shape = Shape { axes: 1, degree: 3, counts: [2, 1, 1] };
+/// let shape = Shape { axes: 1, degree: 3, counts: [2, 1, 1], second_edition: false };
 /// let mut records = [0; 4];
 /// estimate(shape, &[0, 100], &mut records)?;
 /// assert_eq!(slope_in_cell(shape, &records, [0, 0, 0], [0, 0, 0], 0)?, 100);
@@ -114,7 +114,7 @@ pub fn slope_in_cell(
 ///
 /// ```
 /// use lukhtari::{curvature, estimate, Refusal, Shape};
-/// let shape = Shape { axes: 1, degree: 5, counts: [3, 1, 1] };
+/// let shape = Shape { axes: 1, degree: 5, counts: [3, 1, 1], second_edition: false };
 /// let mut records = [0; 9];
 /// estimate(shape, &[0, 100, 400], &mut records)?;
 /// assert_eq!(curvature(shape, &records, [256, 0, 0], 0)?, 200);
@@ -144,7 +144,7 @@ pub fn curvature(
 ///
 /// ```
 /// use lukhtari::{curvature_in_cell, estimate, Refusal, Shape};
-/// let shape = Shape { axes: 1, degree: 5, counts: [3, 1, 1] };
+/// let shape = Shape { axes: 1, degree: 5, counts: [3, 1, 1], second_edition: false };
 /// let mut records = [0; 9];
 /// estimate(shape, &[0, 100, 400], &mut records)?;
 /// assert_eq!(curvature_in_cell(shape, &records, [0, 0, 0], [256, 0, 0], 0)?, 200);

@@ -23,6 +23,15 @@ fn setting(name: &str, default: u64) -> u64 {
     }
 }
 
+// What is searched.
+#[derive(Clone, Copy)]
+struct Kind {
+    axes: u32,
+    degree: u32,
+    order: u32,
+    second_edition: bool,
+}
+
 // A table and a point in it.
 #[derive(Clone)]
 struct Trial {
@@ -33,8 +42,10 @@ struct Trial {
 
 impl Trial {
     // A random table of small samples, which have the widest choice of fractions.
-    fn new(random: &mut Random, axes: u32, degree: u32, order: u32) -> Trial {
-        let shape = random.shape(axes, degree, 4);
+    fn new(random: &mut Random, kind: Kind) -> Trial {
+        let (axes, order) = (kind.axes, kind.order);
+        let shape = random.shape(axes, kind.degree, 4);
+        let shape = in_edition(shape, kind.second_edition);
         let size = random.pick(&[1, 2, 8, 100, 1000]);
         let samples = (0..shape.nodes()).map(|_| random.range(-size, size) as i32);
         let samples = samples.collect();
@@ -164,12 +175,12 @@ fn interpolant(shape: Shape, records: &[i32], point: &Point) -> f64 {
 }
 
 // Climbs from random starts and returns the trial with the largest guess.
-fn search(random: &mut Random, axes: u32, degree: u32, order: u32, trials: u64) -> Trial {
-    let mut best = Trial::new(random, axes, degree, order);
+fn search(random: &mut Random, kind: Kind, trials: u64) -> Trial {
+    let mut best = Trial::new(random, kind);
     let mut best_guess = best.guess();
     let climb = 400;
     for _ in 0..trials / climb {
-        let mut here = Trial::new(random, axes, degree, order);
+        let mut here = Trial::new(random, kind);
         // About every second climb goes on from the best so far.
         if random.chance(2) {
             here = best.clone();
@@ -190,22 +201,33 @@ fn search(random: &mut Random, axes: u32, degree: u32, order: u32, trials: u64) 
 }
 
 fn run(axes: u32, degree: u32, order: u32) {
+    for second_edition in [false, true] {
+        let kind = Kind {
+            axes,
+            degree,
+            order,
+            second_edition,
+        };
+        run_kind(kind);
+    }
+}
+
+fn run_kind(kind: Kind) {
     let trials = setting("LUKHTARI_SEARCH", 200_000);
     let mut random = Random::new(setting("LUKHTARI_SEED", 1));
-    let best = search(&mut random, axes, degree, order, trials);
-    let (distance, bound) = (best.distance(), distance_bound(axes, order));
-    let kind = ["dose", "slope", "curvature"][order as usize];
+    let best = search(&mut random, kind, trials);
+    let (distance, bound) = (best.distance(), distance_bound(kind.axes, kind.order));
+    let asked = ["dose", "slope", "curvature"][kind.order as usize];
+    let edition = if kind.second_edition { "two" } else { "one" };
+    let name = format!(
+        "{asked}, degree {}, axes {}, edition {edition}",
+        kind.degree, kind.axes
+    );
     let (found, most) = (distance.to_f64(), bound.to_f64());
     // Written past the test harness, so that the figures always show.
-    let line = format!(
-        "largest distance, {kind}, degree {degree}, axes {axes}: \
-         {found:.6}, bound {bound:?} = {most:.6}\n"
-    );
+    let line = format!("largest distance, {name}: {found:.6}, bound {bound:?} = {most:.6}\n");
     stdout().write_all(line.as_bytes()).expect("output");
-    assert!(
-        distance <= bound,
-        "{kind}, degree {degree}, axes {axes}: {distance:?}"
-    );
+    assert!(distance <= bound, "{name}: {distance:?}");
     assert!(
         (best.guess() - found).abs() < 1e-4,
         "the search follows the distance"

@@ -1,5 +1,5 @@
-//! The third demand, about estimation and then a query: agreement, locality and no gap.
-//! (Distances: see `random.rs` and `adversarial.rs`.)
+//! The third demand, about estimation and then a query: agreement, locality and no gap; and where
+//! both editions agree. (Distances: see `random.rs` and `adversarial.rs`.)
 
 mod common;
 mod estimated;
@@ -10,6 +10,7 @@ use common::*;
 use estimated::*;
 use lukhtari::*;
 use model::query::Where;
+use model::stages::{meets_half, Point};
 use model::Want::{Curvature, Dose};
 
 #[test]
@@ -151,6 +152,36 @@ fn every_sample_of_the_block_counts() {
             });
             assert!(shows, "node {node}, {want:?}");
         }
+    }
+}
+
+#[test]
+fn editions_agree_where_no_stage_meets_a_half() {
+    // Small samples at multiples of 16 steps meet many halves, and any samples at any step few.
+    let mut random = Random::new(6);
+    for (axes, degree) in KINDS {
+        let mut counts = [0; 3];
+        for trial in 0..400 {
+            let shape = in_edition(random.shape(axes, degree, 3), false);
+            let (size, grain) = [(20, 16), (4000, 1)][trial % 2];
+            let samples = (0..shape.nodes()).map(|_| random.range(-size, size) as i32);
+            let table = Estimated::new(shape, &samples.collect::<Vec<_>>());
+            let cell = random.pick(&cells(shape));
+            let mut u = [0; 3];
+            u[..axes as usize].fill_with(|| (grain * random.range(0, 256 / grain)) as u32);
+            let want = random.pick(&wants(shape));
+            let answers = editions(shape).map(|shape| {
+                let records = table.records.clone();
+                Estimated { shape, records }.ask(Where::Cell(cell, u), want)
+            });
+            let point = Point { cell, u, want };
+            let met = meets_half(&plain_shape(shape), &table.records, &point);
+            let differ = answers[0] != answers[1];
+            assert!(met || !differ, "{shape:?} {cell:?} {u:?} {want:?}");
+            counts[usize::from(met) + usize::from(differ)] += 1;
+        }
+        // No half, halves that change nothing, and halves that change the answer.
+        assert!(counts.iter().all(|&count| count > 0), "{counts:?}");
     }
 }
 

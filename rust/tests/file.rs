@@ -17,9 +17,18 @@ fn worked_examples() {
     let mut cut = call.clone();
     cut.bytes.pop();
     assert_eq!(run_read(&cut), refused(6, 19));
+    assert!(!table.second_edition);
+    // A spare byte begins a third section.
     let mut longer = call.clone();
     longer.bytes.push(0);
-    assert_eq!(run_read(&longer), refused(7, 20));
+    assert_eq!(run_read(&longer), refused(6, 21));
+    longer.bytes.pop();
+    longer.bytes.extend(words(&SECTION));
+    let table = run_read_table(&longer).expect("permitted file");
+    assert!(table.second_edition);
+    assert_eq!(table.samples, [0, 100]);
+    longer.bytes.push(0);
+    assert_eq!(run_read(&longer), refused(7, 28));
     let mut other = call.clone();
     other.bytes[8] = 3;
     assert_eq!(run_read(&other), refused(8, 0));
@@ -29,12 +38,14 @@ fn worked_examples() {
 fn round_trips() {
     let mut random = Random::new(1);
     for _ in 0..300 {
-        for axes in 1..=3 {
-            let table = table(&mut random, axes, 6);
+        for (axes, edition) in FILES {
+            let table = table(&mut random, axes, 6, edition);
             let bytes = run_write_bytes(&table).expect("permitted table");
+            assert_eq!(bytes.len(), table.room);
             let room = table.samples.len();
             let again = run_read_table(&Read { bytes, room }).expect("permitted file");
             assert_eq!((again.axes, again.counts), (axes, table.counts));
+            assert_eq!(again.second_edition, edition);
             assert_eq!(again.samples, table.samples);
         }
     }
@@ -51,17 +62,18 @@ fn border_shapes() {
         (3, [2, 2, 64]),
         (3, [64, 64, 64]),
     ] {
-        let samples = random.samples(shape(axes, 3, counts).nodes());
-        let room = 4 * (2 + axes as usize + samples.len());
-        let call = Write {
-            axes,
-            counts,
-            samples,
-            room,
-        };
-        let bytes = run_write_bytes(&call).expect("permitted table");
-        let room = call.samples.len();
-        assert_eq!(run_read(&Read { bytes, room }), Ok(()));
+        for shape in editions(shape(axes, 3, counts)) {
+            let call = Write {
+                axes,
+                counts,
+                second_edition: shape.second_edition,
+                samples: random.samples(shape.nodes()),
+                room: shape.file_bytes(),
+            };
+            let bytes = run_write_bytes(&call).expect("permitted table");
+            let room = call.samples.len();
+            assert_eq!(run_read(&Read { bytes, room }), Ok(()));
+        }
     }
 }
 
@@ -69,8 +81,8 @@ fn border_shapes() {
 fn damaged_bytes() {
     // Each byte of small files changed to every value.
     let mut random = Random::new(5);
-    for axes in 1..=3 {
-        let call = file(&mut random, axes, 3);
+    for (axes, edition) in FILES {
+        let call = file(&mut random, axes, 3, edition);
         for index in 0..call.bytes.len() {
             for value in 0..=255 {
                 let mut damaged = call.clone();
@@ -118,6 +130,7 @@ fn samples_at_and_beyond_the_limit() {
             let write = Write {
                 axes: 2,
                 counts: [2, 2, 1],
+                second_edition: false,
                 samples,
                 room: 32,
             };
@@ -129,19 +142,20 @@ fn samples_at_and_beyond_the_limit() {
 #[test]
 fn short_and_long_buffers() {
     let mut random = Random::new(7);
-    for axes in 1..=3 {
-        let right = file(&mut random, axes, 4);
+    for (axes, edition) in FILES {
+        let right = file(&mut random, axes, 4, edition);
         let needed = right.room;
         for room in [0, 1, needed - 1, needed, needed + 1, needed + 100] {
             let expected = if room < needed { refused(9, 0) } else { Ok(()) };
             let bytes = right.bytes.clone();
             assert_eq!(run_read(&Read { bytes, room }), expected);
         }
-        let right = table(&mut random, axes, 4);
+        let right = table(&mut random, axes, 4, edition);
         let needed = right.room;
         for room in [
             0,
             4,
+            needed - 8,
             needed - 4,
             needed - 1,
             needed,

@@ -11,12 +11,18 @@ use lukhtari::ffi;
 #[test]
 fn every_shorter_file_ends_early() {
     let mut random = Random::new(3);
-    for axes in 1..=3 {
-        let call = file(&mut random, axes, 4);
-        for length in 0..call.bytes.len() {
+    for (axes, edition) in FILES {
+        let call = file(&mut random, axes, 4, edition);
+        let all = call.bytes.len();
+        for length in 0..all {
             let mut cut = call.clone();
             cut.bytes.truncate(length);
-            assert_eq!(run_read(&cut), refused(6, length as u64));
+            // Cut behind its samples, a file of edition two is one of edition one.
+            let expected = match edition && length == all - 8 {
+                true => Ok(()),
+                false => refused(6, length as u64),
+            };
+            assert_eq!(run_read(&cut), expected);
         }
     }
 }
@@ -25,12 +31,75 @@ fn every_shorter_file_ends_early() {
 fn bytes_left_over() {
     let mut random = Random::new(4);
     for axes in 1..=3 {
-        let call = file(&mut random, axes, 4);
+        let call = file(&mut random, axes, 4, true);
         let length = call.bytes.len();
         for spare in [1, 2, 3, 4, 5, 100] {
             let mut longer = call.clone();
             longer.bytes.extend(vec![0; spare]);
             assert_eq!(run_read(&longer), refused(7, length as u64));
+        }
+    }
+}
+
+// Third sections: the one of edition two, and wrong ones, of which some are right in part.
+const SECTIONS: [[u32; 2]; 12] = [
+    SECTION,
+    [2, 1],
+    [1, 1],
+    [2, 2],
+    [1, 0],
+    [0, 2],
+    [0, 0],
+    [1, 3],
+    [1, 2 + 256],
+    [1 + (1 << 24), 2],
+    [1 << 24, 2 << 24],
+    [u32::MAX, u32::MAX],
+];
+
+#[test]
+fn every_length_from_the_samples_end_on() {
+    // With the right third section and with wrong ones, up to 12 bytes beyond the samples.
+    let mut random = Random::new(11);
+    for axes in 1..=3 {
+        let call = file(&mut random, axes, 4, false);
+        let end = call.bytes.len();
+        for section in SECTIONS {
+            for fill in [0, 1, 255] {
+                let mut whole = call.clone();
+                whole.bytes.extend(words(&section));
+                whole.bytes.extend([fill; 4]);
+                for beyond in 0..=12 {
+                    let mut cut = whole.clone();
+                    cut.bytes.truncate(end + beyond);
+                    let expected = match beyond {
+                        0 => Ok(()),
+                        1..=7 => refused(6, (end + beyond) as u64),
+                        _ if section != SECTION => refused(25, 0),
+                        8 => Ok(()),
+                        _ => refused(7, end as u64 + 8),
+                    };
+                    assert_eq!(run_read(&cut), expected, "{section:?}, {beyond} bytes");
+                    // Rooms and samples are tested after them.
+                    cut.room = 0;
+                    cut.bytes[end - 1] ^= 0x40;
+                    let expected = expected.and(refused(9, 0));
+                    assert_eq!(run_read(&cut), expected, "{section:?}, {beyond} bytes");
+                }
+            }
+        }
+    }
+}
+
+#[test]
+fn every_bit_of_the_third_section_counts() {
+    for axes in 1..=3 {
+        let call = file(&mut Random::new(12), axes, 4, true);
+        let end = call.bytes.len() - 8;
+        for bit in 0..64 {
+            let mut other = call.clone();
+            other.bytes[end + bit / 8] ^= 1 << (bit % 8);
+            assert_eq!(run_read(&other), refused(25, 0), "bit {bit}");
         }
     }
 }
@@ -63,8 +132,8 @@ fn wrong_numbers() {
 
 #[test]
 fn wrong_tables_are_not_written() {
-    for right_axes in 1..=3 {
-        let right = table(&mut Random::new(8), right_axes, 2);
+    for (right_axes, edition) in FILES {
+        let right = table(&mut Random::new(8), right_axes, 2, edition);
         for (shape, number, place) in wrong_shapes(right_axes, 3) {
             let (axes, counts) = (shape.axes, shape.counts);
             let call = Write {
@@ -90,8 +159,8 @@ fn wrong_tables_are_not_written() {
 
 #[test]
 fn faults_in_order_of_writing() {
-    for axes in 1..=3u32 {
-        let mut call = table(&mut Random::new(9), axes, 4);
+    for (axes, edition) in FILES {
+        let mut call = table(&mut Random::new(9), axes, 4, edition);
         call.samples.fill(7);
         let mut faults = vec![fault(1, 0, |call: &mut Write| call.axes = 0)];
         for axis in 0..3 {
@@ -114,8 +183,9 @@ fn put(call: &mut Read, index: usize, number: u32) {
 #[test]
 fn faults_in_order_of_reading() {
     for axes in 1..=3usize {
-        let mut call = file(&mut Random::new(10), axes as u32, 4);
-        for index in 2 + axes..2 + axes + call.room {
+        let mut call = file(&mut Random::new(10), axes as u32, 4, true);
+        let section = 2 + axes + call.room;
+        for index in 2 + axes..section {
             put(&mut call, index, 7);
         }
         let length = call.bytes.len();
@@ -125,6 +195,10 @@ fn faults_in_order_of_reading() {
             faults.push(fault(3, axis as u64, make));
         }
         faults.push(fault(8, 0, move |call: &mut Read| put(call, 1 + axes, 1)));
+        for (index, number) in [(section, 2), (section + 1, 1)] {
+            let make = move |call: &mut Read| put(call, index, number);
+            faults.push(fault(25, 0, make));
+        }
         faults.push(fault(7, length as u64, |call: &mut Read| {
             call.bytes.push(1)
         }));
@@ -139,6 +213,7 @@ fn faults_in_order_of_reading() {
 
 // A file cut at any length: a fault in a number that is whole comes first, if it is before 6.
 fn faults_in_order_with_early_end(call: &Read, faults: &[Fault<Read>], axes: usize) {
+    let end = call.bytes.len() - 8;
     for fault in faults
         .iter()
         .filter(|fault| [1, 3, 8].contains(&fault.number))
@@ -148,7 +223,7 @@ fn faults_in_order_with_early_end(call: &Read, faults: &[Fault<Read>], axes: usi
             3 => 1 + fault.place as usize,
             _ => 1 + axes,
         };
-        for length in 0..call.bytes.len() {
+        for length in 0..end {
             let mut cut = call.clone();
             (fault.make)(&mut cut);
             cut.bytes.truncate(length);
@@ -164,32 +239,39 @@ fn faults_in_order_with_early_end(call: &Read, faults: &[Fault<Read>], axes: usi
 
 #[test]
 fn refused_results_are_empty() {
-    let bytes = words(&EXAMPLE);
+    let bytes = words(&[&EXAMPLE[..], &SECTION].concat());
     let mut samples = [0; 2];
     let out = samples.as_mut_ptr();
-    // SAFETY: pointers and lengths are those of the arrays.
-    let (done, refused) = unsafe {
-        (
-            ffi::lukhtari_read(bytes.as_ptr(), 20, out, 2),
-            ffi::lukhtari_read(bytes.as_ptr(), 20, out, 1),
-        )
-    };
-    assert_eq!((done.number, done.place), (0, 0));
-    assert_eq!((done.axes, done.counts), (1, [2, 1, 1]));
-    assert_eq!(
-        (refused.number, refused.axes, refused.counts),
-        (9, 0, [0; 3])
-    );
+    for (length, edition) in [(20, false), (28, true)] {
+        // SAFETY: pointers and lengths are those of the arrays.
+        let (done, refused) = unsafe {
+            (
+                ffi::lukhtari_read(bytes.as_ptr(), length, out, 2),
+                ffi::lukhtari_read(bytes.as_ptr(), length, out, 1),
+            )
+        };
+        assert_eq!((done.number, done.place), (0, 0));
+        assert_eq!((done.axes, done.counts), (1, [2, 1, 1]));
+        assert_eq!(done.second_edition, edition);
+        assert_eq!(
+            (refused.number, refused.axes, refused.counts),
+            (9, 0, [0; 3])
+        );
+        assert!(!refused.second_edition);
+    }
     let counts = ffi::Index { at: [2, 1, 1] };
-    let mut file = [0; 20];
-    let out = file.as_mut_ptr();
-    // SAFETY: pointers and lengths are those of the arrays.
-    let (done, refused) = unsafe {
-        (
-            ffi::lukhtari_write(1, counts, samples.as_ptr(), 2, out, 20),
-            ffi::lukhtari_write(1, counts, samples.as_ptr(), 2, out, 19),
-        )
-    };
-    assert_eq!((done.number, done.place, done.length), (0, 0, 20));
-    assert_eq!((refused.number, refused.length), (9, 0));
+    let mut file = [0; 28];
+    let (from, out) = (samples.as_ptr(), file.as_mut_ptr());
+    for (length, edition) in [(20, false), (28, true)] {
+        // SAFETY: pointers and lengths are those of the arrays.
+        let (done, refused) = unsafe {
+            (
+                ffi::lukhtari_write(1, counts, edition, from, 2, out, length),
+                ffi::lukhtari_write(1, counts, edition, from, 2, out, length - 1),
+            )
+        };
+        let written = (done.number, done.place, done.length);
+        assert_eq!(written, (0, 0, length as u64));
+        assert_eq!((refused.number, refused.length), (9, 0));
+    }
 }

@@ -28,6 +28,7 @@ fn constants() -> BTreeMap<String, u64> {
     add!(all, "LUKHTARI_REFUSED_", Refusal, BUFFER_TOO_SHORT, NOT_FINITE, SLOPE_AXIS);
     add!(all, "LUKHTARI_REFUSED_", Refusal, POSITION_BEYOND, POSITION_BELOW_ZERO);
     add!(all, "LUKHTARI_REFUSED_", Refusal, POSITION_UNUSED_AXIS, POWERS_SHAPE);
+    add!(all, "LUKHTARI_REFUSED_", Refusal, FILE_EDITION);
     add!(all, "LUKHTARI_REFUSED_", Refusal, NO_CORNER_RECORDS, CELL, COEFFICIENT_COUNT);
     add!(all, "LUKHTARI_REFUSED_", Refusal, TOKEN_TOO_LONG, TOKEN_GRAMMAR, TOKEN_NOT_WHOLE);
     add!(all, "LUKHTARI_REFUSED_", Refusal, BEYOND_ESTIMATE_LIMIT, RAMP_LENGTH, CURVATURE_DEGREE);
@@ -99,14 +100,14 @@ fn constants_have_the_same_values() {
 }
 
 #[test]
-fn refusals_are_numbered_from_1_to_24() {
+fn refusals_are_numbered_from_1_to_25() {
     let refused = |(name, number): (String, u64)| {
         let refused = name.starts_with("LUKHTARI_REFUSED_");
         refused.then_some(number)
     };
     let mut all: Vec<u64> = constants().into_iter().filter_map(refused).collect();
     all.sort();
-    assert_eq!(all, (1..=24).collect::<Vec<u64>>());
+    assert_eq!(all, (1..=25).collect::<Vec<u64>>());
 }
 
 #[test]
@@ -120,7 +121,8 @@ int main(void) {
             size_t nodes = LUKHTARI_NODES(c, n > 1 ? c : 1, n > 2 ? c : 1);
             printf(\"%zu %zu %zu \", nodes, LUKHTARI_RECORD_ENTRIES(n, d) * nodes,
                    LUKHTARI_ENTRIES(n, d, nodes));
-            printf(\"%zu %zu\\n\", LUKHTARI_COEFFICIENTS(n, d), LUKHTARI_FILE_BYTES(n, nodes));
+            printf(\"%zu %zu %zu\\n\", LUKHTARI_COEFFICIENTS(n, d),
+                   LUKHTARI_FILE_BYTES(n, nodes, false), LUKHTARI_FILE_BYTES(n, nodes, true));
         }
     }
     return 0;
@@ -135,9 +137,18 @@ int main(void) {
                 axes,
                 degree,
                 counts,
+                second_edition: false,
+            };
+            let second = Shape {
+                second_edition: true,
+                ..shape
             };
             let (nodes, entries) = (shape.nodes(), shape.entries());
-            let others = [shape.coefficients(), shape.file_bytes()];
+            let others = [
+                shape.coefficients(),
+                shape.file_bytes(),
+                second.file_bytes(),
+            ];
             expected.extend([nodes, entries, entries].map(|size| size as u64));
             expected.extend(others.map(|size| size as u64));
         }
@@ -148,9 +159,10 @@ int main(void) {
         limits::ENTRIES_MAX,
         limits::ENTRIES_MAX,
         limits::COEFFICIENTS_MAX,
+        limits::FILE_BYTES_MAX - 8,
         limits::FILE_BYTES_MAX,
     ];
-    let last = expected.rchunks(5).next().expect("a shape");
+    let last = expected.rchunks(6).next().expect("a shape");
     assert_eq!(last, largest.map(|size| size as u64));
 }
 
@@ -159,7 +171,8 @@ const USE: &str = "#include \"lukhtari.h\"
 #include \"lukhtari.h\"
 int32_t records[LUKHTARI_ENTRIES(2, 5, LUKHTARI_NODES(4, 3, 1))];
 int32_t most = LUKHTARI_ESTIMATE_LIMIT(2);
-uint8_t file[LUKHTARI_FILE_BYTES(2, 12)];
+uint8_t file[LUKHTARI_FILE_BYTES(2, 12, true)];
+lukhtari_shape shape = {2, 5, {4, 3, 1}, true};
 int refused(lukhtari_done done);
 int refused(lukhtari_done done) {
     switch (done.number) {

@@ -32,14 +32,31 @@ macro_rules! layout {
 
 fn layouts() -> Layout {
     let mut all = Layout(Vec::new());
-    layout!(all, Shape, "lukhtari_shape", axes, degree, counts);
+    layout!(
+        all,
+        Shape,
+        "lukhtari_shape",
+        axes,
+        degree,
+        counts,
+        second_edition
+    );
     layout!(all, Index, "lukhtari_index", at);
     layout!(all, Position, "lukhtari_position", at);
     layout!(all, FloatPosition, "lukhtari_float_position", x, y, z);
     layout!(all, Done, "lukhtari_done", number, place);
     layout!(all, Whole, "lukhtari_whole", number, place, value);
     layout!(all, Real, "lukhtari_real", number, place, value);
-    layout!(all, Table, "lukhtari_table", number, place, axes, counts);
+    layout!(
+        all,
+        Table,
+        "lukhtari_table",
+        number,
+        place,
+        axes,
+        counts,
+        second_edition
+    );
     layout!(all, Written, "lukhtari_written", number, place, length);
     layout!(all, Ramped, "lukhtari_ramped", number, place, fetches);
     all
@@ -96,9 +113,13 @@ fn rattle_source() -> String {
 #[test]
 fn rattle_declares_the_same_as_the_header() {
     let source = rattle_source();
-    // A shape and a float position are structs of the crates that take them.
+    // Shapes and a float position are structs of the crates that take them.
     let mut structs = rust_structs(&source);
-    for (folder, name) in [("lattice", "Shape"), ("float_query", "FloatPosition")] {
+    for (folder, name) in [
+        ("lattice", "Shape"),
+        ("lattice", "FullShape"),
+        ("float_query", "FloatPosition"),
+    ] {
         let code = text(&format!("crates/{folder}/src/lib.rt"));
         assert!(code.contains(&format!("#[repr(C)]\npub struct {name} ")));
         let fields = rust_structs(&code).remove(name).expect("a struct");
@@ -115,16 +136,18 @@ fn reading_of_declarations() {
         // pub struct Old { pub at: u8 }
         #[repr(C)]
         pub struct Shape { pub axes: u32, pub counts: [u32; 3] }
+        pub struct Full { pub shape: Shape, pub second: bool }
         pub struct Done { pub number: u32, pub place: usize }
         #[no_mangle]
-        pub extern \"C\" fn lukhtari_fill(shape: Shape, from: &[i32], to: &mut [u8]) -> Done
+        pub extern \"C\" fn lukhtari_fill(full: Full, from: &[i32], to: &mut [u8]) -> Done
             ensures { true }
         {
             Done { number: 0, place: 0 }
         }";
     let calls = rust_calls(rattle, &rust_structs(rattle));
     let fill = &calls["fill"];
-    let expected = ["{u32, [u32; 3]}", "*const i32", "u64", "*mut u8", "u64"];
+    let shape = "{u32, [u32; 3], bool}";
+    let expected = [shape, "*const i32", "u64", "*mut u8", "u64"];
     assert_eq!(fill.parameters, expected);
     assert_eq!(fill.result, "{u32, u64}");
 }

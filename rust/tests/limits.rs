@@ -3,7 +3,7 @@
 mod common;
 mod model;
 
-use common::{cube, plain_shape, KINDS};
+use common::{cube, in_edition, plain_shape, KINDS};
 use lukhtari::limits::*;
 use lukhtari::*;
 
@@ -15,7 +15,10 @@ fn number<T>(answer: Result<T, Refusal>) -> u32 {
 #[test]
 fn samples() {
     for sign in [1, -1] {
-        let refused = |sample| number(write(1, [2, 1, 1], &[0, sign * sample], &mut [0; 20]));
+        let refused = |sample| {
+            let samples = [0, sign * sample];
+            number(write(1, [2, 1, 1], false, &samples, &mut [0; 20]))
+        };
         assert_eq!(refused(SAMPLE_LIMIT), 0);
         assert_eq!(refused(SAMPLE_LIMIT + 1), Refusal::BEYOND_LIMIT);
     }
@@ -77,7 +80,8 @@ fn largest_table() {
     assert_eq!(shape.nodes(), NODES_MAX);
     assert_eq!(shape.entries(), ENTRIES_MAX);
     assert_eq!(shape.coefficients(), COEFFICIENTS_MAX);
-    assert_eq!(shape.file_bytes(), FILE_BYTES_MAX);
+    assert_eq!(in_edition(shape, true).file_bytes(), FILE_BYTES_MAX);
+    assert_eq!(shape.file_bytes(), FILE_BYTES_MAX - 8);
     assert_eq!(ENTRIES_MAX, NODES_MAX * RECORD_ENTRIES_MAX);
 }
 

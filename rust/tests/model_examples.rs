@@ -1,6 +1,6 @@
 //! The reference model on all worked examples and traps of document 01, as request U2 of document
-//! 02 works them out anew, on the texts of request U1, on ramps of request U5 and on curvatures of
-//! request U6.
+//! 02 works them out anew, on the texts of request U1, on ramps of request U5, on curvatures of
+//! request U6 and on the editions of request U9.
 
 mod model;
 
@@ -127,7 +127,7 @@ fn sample_limits() {
     assert_eq!(estimate(&shape, &[-16385, 32769], 4), refused(19, 0));
     assert_eq!(estimate(&shape, &[0, 40000], 4), refused(19, 1));
     // Files keep theirs.
-    let file = |samples| write(1, [2, 1, 1], samples, 20);
+    let file = |samples| write(1, [2, 1, 1], false, samples, 20);
     let bytes = file(&[32768, -32768]).expect("a file");
     assert_eq!(
         read(&bytes, 2).map(|table| table.samples),
@@ -198,7 +198,7 @@ fn file_of_0_100() {
     let table = read(&FILE, 2).expect("accepted file");
     assert_eq!((table.axes, table.counts), (1, [2, 1, 1]));
     assert_eq!(table.samples, [0, 100]);
-    let bytes = write(1, [2, 1, 1], &[0, 100], 20);
+    let bytes = write(1, [2, 1, 1], false, &[0, 100], 20);
     assert_eq!(bytes, Ok(FILE.to_vec()));
     assert_eq!(output(&FILE), "0 0 0 50 50\n");
 }
@@ -209,10 +209,58 @@ fn damaged_files() {
     longer.push(0);
     let mut other_count = FILE;
     other_count[8] = 3;
-    let cases = [(&FILE[..19], 6, 19), (&longer, 7, 20), (&other_count, 8, 0)];
+    let cases = [(&FILE[..19], 6, 19), (&longer, 6, 21), (&other_count, 8, 0)];
     for (bytes, number, place) in cases {
         assert_eq!(read(bytes, 2), refused(number, place));
         assert_eq!(output(bytes), format!("refused {number}\n"));
+    }
+}
+
+#[test]
+fn files_of_edition_two() {
+    // The samples 0, 1 with a third section: half way is 1/2.
+    let first = write(1, [2, 1, 1], false, &[0, 1], 20).expect("a file");
+    let second = write(1, [2, 1, 1], true, &[0, 1], 28).expect("a file");
+    assert_eq!(second, [&first[..], &[1, 0, 0, 0, 2, 0, 0, 0]].concat());
+    assert_eq!(write(1, [2, 1, 1], true, &[0, 1], 27), refused(9, 0));
+    let edition = |bytes: &[u8]| read(bytes, 2).map(|table| table.second_edition);
+    assert_eq!([edition(&first), edition(&second)], [Ok(false), Ok(true)]);
+    assert_eq!(output(&first), "0 0 0 1 1\n");
+    assert_eq!(output(&second), "0 0 0 0 0\n");
+    for length in 21..28 {
+        assert_eq!(edition(&second[..length]), refused(6, length as u64));
+    }
+    let longer = [&second[..], &[0]].concat();
+    assert_eq!(edition(&longer), refused(7, 28));
+    for index in [20, 24] {
+        let mut other = longer.clone();
+        other[index] += 1;
+        assert_eq!(edition(&other), refused(25, 0));
+        assert_eq!(output(&other), "refused 25\n");
+    }
+}
+
+#[test]
+fn halves_to_even() {
+    for (half, even) in [(-5, -2), (-3, -2), (-1, 0), (1, 0), (3, 2), (5, 2)] {
+        assert_eq!(Rational::ratio(half, 2).round_even(), Int::from(even));
+    }
+    for (dividend, nearest) in [(-7, -2), (-5, -1), (-1, 0), (3, 1), (5, 1), (7, 2)] {
+        assert_eq!(
+            Rational::ratio(dividend, 4).round_even(),
+            Int::from(nearest)
+        );
+    }
+    // Cubic samples on 2 by 2 nodes, where the first stage and the last one decide.
+    let plane = Shape::new(2, 3, [2, 2, 1]);
+    for (samples, at, first, second) in [
+        ([0, -7, -3, 6], [16, 16, 0], 0, -1),
+        ([0, 7, -8, -8], [16, 0, 0], 1, 0),
+    ] {
+        let records = records(&plane, &samples);
+        let dose = |shape: Shape| query(&shape, &records, Where::Position(at), Dose);
+        assert_eq!(dose(plane), Ok(first));
+        assert_eq!(dose(plane.in_edition(true)), Ok(second));
     }
 }
 

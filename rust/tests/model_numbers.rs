@@ -83,5 +83,8 @@ fn rational_numbers() {
         );
         assert_eq!(x.floor(), Int::from(a.div_euclid(b)));
         assert_eq!(x.round(), Int::from((2 * a + b).div_euclid(2 * b)));
+        // Halves to the even number are those up, or else those down, which are -round(-x).
+        let (up, down) = (x.round(), -(-x).round());
+        assert_eq!(x.round_even(), if up.is_even() { up } else { down });
     }
 }

@@ -8,7 +8,7 @@ mod printed;
 mod queries;
 
 use common::*;
-use files::{words, EXAMPLE};
+use files::{words, EXAMPLE, SECTION};
 use lukhtari::{dose_float, read};
 use model::query::Where::{Cell, Position};
 use model::Rational;
@@ -74,7 +74,7 @@ fn lengths_before_rooms() {
     for (length, number) in [(0, 4), (1, 4), (4, 9)] {
         let samples = vec![0; length];
         assert_eq!(estimated(plane, &samples, 0), refused(number, 0));
-        assert_eq!(written(2, plane.counts, &samples, 0), refused(number, 0));
+        assert_eq!(written(plane, &samples, 0), refused(number, 0));
         let entries = vec![0; 4 * length];
         assert_eq!(forward(plane, &entries, ORIGIN, 0), refused(number, 0));
     }
@@ -85,7 +85,7 @@ fn lengths_before_rooms() {
 
 #[test]
 fn samples_of_a_file_are_within_32768() {
-    let said = |samples: &[i32]| written(1, [3, 1, 1], samples, 24);
+    let said = |samples: &[i32]| written(cube(1, 3, 3), samples, 24);
     assert_eq!(said(&[32768, -32768, 32768]), Ok(24));
     assert_eq!(said(&[32768, -32768, 32769]), refused(5, 2));
     let file = |third: i32| {
@@ -235,8 +235,56 @@ fn curvatures_at_both_nodes_and_between() {
 
 #[test]
 fn place_of_7_is_the_first_spare_byte() {
+    let second = [&EXAMPLE[..], &SECTION].concat();
     for spare in [1, 2, 5] {
-        assert_eq!(read_numbers(&EXAMPLE, spare), refused(7, 20));
+        assert_eq!(read_numbers(&second, spare), refused(7, 28));
+    }
+}
+
+#[test]
+fn a_third_section_is_whole_and_right() {
+    // Fewer than 8 bytes behind the samples are 6, other numbers 25, more bytes 7.
+    for (spare, number, place) in [(1, 6, 21), (7, 6, 27), (8, 25, 0), (9, 25, 0)] {
+        assert_eq!(read_numbers(&EXAMPLE, spare), refused(number, place));
+    }
+    for section in [[1, 1], [2, 2], [2, 1], [0, 2], [1, 0]] {
+        let file = [&EXAMPLE[..], &section].concat();
+        for spare in [0, 1, 4] {
+            assert_eq!(read_numbers(&file, spare), refused(25, 0));
+        }
+    }
+    let second = [&EXAMPLE[..], &SECTION].concat();
+    assert_eq!(read_numbers(&second, 0), refused(9, 0));
+}
+
+#[test]
+fn halves_to_even_in_every_stage() {
+    // Each pair is the answer of edition one and of edition two.
+    let line = |samples: [i32; 2], p, answers: [i32; 2]| {
+        for degree in [3, 5] {
+            let shape = cube(1, degree, 2);
+            let records = estimated(shape, &samples, shape.entries()).expect("samples");
+            for (shape, answer) in editions(shape).into_iter().zip(answers) {
+                let at = Position([p, 0, 0]);
+                check(shape, &records, at, Dose, Ok(answer));
+            }
+        }
+    };
+    line([0, 1], 128, [1, 0]);
+    line([2, 3], 128, [3, 2]);
+    line([0, -1], 128, [0, 0]);
+    line([-2, -3], 128, [-2, -2]);
+    line([0, 100], 64, [25, 25]);
+    // The first stage decides the one, the last the other.
+    let plane = cube(2, 3, 2);
+    for (samples, at, answers) in [
+        ([0, -7, -3, 6], [16, 16, 0], [0, -1]),
+        ([0, 7, -8, -8], [16, 0, 0], [1, 0]),
+    ] {
+        let records = estimated(plane, &samples, 16).expect("samples");
+        for (shape, answer) in editions(plane).into_iter().zip(answers) {
+            check(shape, &records, Position(at), Dose, Ok(answer));
+        }
     }
 }
 

@@ -53,15 +53,18 @@ impl Call {
     }
 }
 
-// Makes the call, compares answer and buffer with the model's, and returns what was written.
+// Makes the call in both editions, which do not matter here, compares answer and buffer with the
+// model's, and returns what was written.
 #[track_caller]
 fn run_out(call: &Call) -> Answer<Vec<i32>> {
-    let Call { shape, cell, .. } = *call;
-    let mut buffer = Lent::new(call.room);
-    let got = plain(powers(shape, &call.records, cell, buffer.slice()));
-    let expected = model::powers::powers(&plain_shape(shape), &call.records, cell, call.room);
-    assert_eq!(got, outcome(&expected), "{shape:?} {cell:?}");
-    buffer.check(expected.as_deref().unwrap_or_default());
+    let Call { cell, room, .. } = *call;
+    let expected = model::powers::powers(&plain_shape(call.shape), &call.records, cell, room);
+    for shape in editions(call.shape) {
+        let mut buffer = Lent::new(room);
+        let got = plain(powers(shape, &call.records, cell, buffer.slice()));
+        assert_eq!(got, outcome(&expected), "{shape:?} {cell:?}");
+        buffer.check(expected.as_deref().unwrap_or_default());
+    }
     expected
 }
 

@@ -49,13 +49,18 @@ fn words(numbers: &[u32]) -> Vec<u8> {
     numbers.iter().flat_map(|n| n.to_le_bytes()).collect()
 }
 
-// The table file of these samples.
+// The table file of these samples, of edition one.
 fn file_of(counts: &[u32], samples: &[i32]) -> Vec<u8> {
     let mut numbers = vec![counts.len() as u32];
     numbers.extend(counts);
     numbers.push(samples.len() as u32);
     numbers.extend(samples.iter().map(|&sample| sample as u32));
     words(&numbers)
+}
+
+// The file with the third section of edition two.
+fn second_edition(file: &[u8]) -> Vec<u8> {
+    [file, &words(&[1, 2])].concat()
 }
 
 // The shape of a table with these node counts.
@@ -77,8 +82,30 @@ fn worked_examples() {
     assert_eq!(check(&file[..19]), "refused 6\n");
     let mut longer = file.clone();
     longer.push(0);
-    assert_eq!(check(&longer), "refused 7\n");
+    assert_eq!(check(&longer), "refused 6\n");
     assert_eq!(check(&words(&[1, 2, 3, 0, 100])), "refused 8\n");
+}
+
+#[test]
+fn editions() {
+    // Half way between 0 and 1, and between 2 and 3.
+    for (samples, first, second) in [([0, 1], 1, 0), ([2, 3], 3, 2), ([-1, 0], 0, 0)] {
+        let file = file_of(&[2], &samples);
+        assert_eq!(check(&file), format!("0 0 0 {first} {first}\n"));
+        let file = second_edition(&file);
+        assert_eq!(check(&file), format!("0 0 0 {second} {second}\n"));
+        assert_eq!(check(&[&file[..], &[0]].concat()), "refused 7\n");
+        for length in 21..28 {
+            assert_eq!(check(&file[..length]), "refused 6\n");
+        }
+        for index in [20, 23, 24, 27] {
+            let mut other = file.clone();
+            other[index] ^= 1;
+            assert_eq!(check(&other), "refused 25\n");
+            other.push(0);
+            assert_eq!(check(&other), "refused 25\n");
+        }
+    }
 }
 
 #[test]
@@ -105,7 +132,9 @@ fn random_tables() {
             let most = if axes == 3 { 5 } else { 9 };
             let counts = random.shape(axes, 3, most).counts;
             let counts = &counts[..axes as usize];
-            check(&file(&mut random, counts));
+            let file = file(&mut random, counts);
+            check(&file);
+            check(&second_edition(&file));
             // Samples of which many are beyond the limit of estimation.
             let nodes = counts.iter().product::<u32>() as usize;
             check(&file_of(counts, &random.samples(nodes)));
@@ -118,8 +147,10 @@ fn largest_tables_that_fit() {
     let mut random = Random::new(3);
     assert_eq!(8 * 8 * 8, NODES);
     for counts in [&[8, 8, 8][..], &[2, 64, 4], &[64, 8], &[64]] {
-        let text = check(&file(&mut random, counts));
-        assert!(!text.starts_with("refused"));
+        let file = file(&mut random, counts);
+        for file in [second_edition(&file), file] {
+            assert!(!check(&file).starts_with("refused"));
+        }
     }
 }
 
@@ -133,6 +164,10 @@ fn tables_that_do_not_fit() {
         // Bytes that end early or are left over come first.
         assert_eq!(check(&file[..file.len() - 1]), "refused 6\n");
         let longer = [&file[..], &[0]].concat();
+        assert_eq!(check(&longer), "refused 6\n");
+        let second = second_edition(&file);
+        assert_eq!(check(&second), "refused 9\n");
+        let longer = [&second[..], &[0]].concat();
         assert_eq!(check(&longer), "refused 7\n");
     }
 }
@@ -143,10 +178,12 @@ fn inputs_of_all_lengths() {
     let file = file(&mut random, &[15, 64]);
     assert_eq!(check(&[]), "refused 6\n");
     for length in [4095, 4096, 4097, 100_000] {
-        let number = if length > BYTES { 9 } else { 7 };
-        let mut longer = file.clone();
-        longer.resize(length, 0);
-        assert_eq!(check(&longer), format!("refused {number}\n"));
+        for (start, number) in [(file.clone(), 25), (second_edition(&file), 7)] {
+            let number = if length > BYTES { 9 } else { number };
+            let mut longer = start;
+            longer.resize(length, 0);
+            assert_eq!(check(&longer), format!("refused {number}\n"));
+        }
         // Too long an input is refused before its contents.
         let number = if length > BYTES { 9 } else { 1 };
         assert_eq!(check(&vec![0; length]), format!("refused {number}\n"));
@@ -221,7 +258,11 @@ fn samples_that_estimation_does_not_take() {
         let mut samples = vec![limit + 1; nodes];
         let file = file_of(counts, &samples);
         assert_eq!(check(&file[..file.len() - 1]), "refused 6\n");
-        assert_eq!(check(&[&file[..], &[0]].concat()), "refused 7\n");
+        assert_eq!(check(&[&file[..], &[0]].concat()), "refused 6\n");
+        assert_eq!(check(&[&file[..], &[0; 8]].concat()), "refused 25\n");
+        let second = second_edition(&file);
+        assert_eq!(check(&second), "refused 19\n");
+        assert_eq!(check(&[&second[..], &[0]].concat()), "refused 7\n");
         samples[nodes - 1] = -32769;
         assert_eq!(check(&file_of(counts, &samples)), "refused 5\n");
         samples.pop();
@@ -250,8 +291,8 @@ fn short_reads() {
 #[test]
 fn damaged_files() {
     let mut random = Random::new(7);
-    let file = file(&mut random, &[2, 3]);
-    for _ in 0..200 {
+    let file = second_edition(&file(&mut random, &[2, 3]));
+    for _ in 0..400 {
         let mut damaged = file.clone();
         let index = random.below(file.len() as u64) as usize;
         damaged[index] ^= 1 << random.below(8);

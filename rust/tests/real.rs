@@ -86,9 +86,22 @@ fn raw(query: &Query) -> ffi::Real {
     }
 }
 
-// Makes the call, compares the answer's bits with the model's, and returns the outcome.
+// Makes the call in both editions, compares each with the model, and returns the outcome, which is
+// that of both.
 #[track_caller]
 fn run(query: &Query) -> Answer<()> {
+    let mut query = query.clone();
+    let [first, second] = editions(query.shape).map(|shape| {
+        query.shape = shape;
+        run_edition(&query)
+    });
+    assert_eq!(first, second);
+    first
+}
+
+// Makes the call, compares the answer's bits with the model's, and returns the outcome.
+#[track_caller]
+fn run_edition(query: &Query) -> Answer<()> {
     let got = plain(call(query)).map(f32::to_bits);
     let shape = plain_shape(query.shape);
     let expected = query_float(&shape, &query.records, position(query), query.want);

@@ -85,10 +85,11 @@ fn refusals_in_words() {
         (3, words(&[1, 65])),
         (5, words(&[1, 2, 2, 0, 32769])),
         (6, vec![]),
-        (7, words(&[1, 2, 2, 0, 100, 0])),
+        (7, words(&[1, 2, 2, 0, 100, 1, 2, 0])),
         (8, words(&[1, 2, 3, 0, 100])),
         (9, vec![0; 4097]),
         (19, words(&[1, 2, 2, 0, 16385])),
+        (25, words(&[1, 2, 2, 0, 100, 1, 1])),
     ];
     for (number, file) in cases {
         fs::write(here.join("table"), file).unwrap();

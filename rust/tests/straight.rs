@@ -121,6 +121,14 @@ impl Straight {
         let sum = sum(&self.numbers, at, 256, want);
         (answer.expect("accepted query"), sum)
     }
+
+    // A sum times 256^3 as the nearest whole number: halves up, in edition two to the even one.
+    fn rounded(&self, sum: i64) -> i64 {
+        let up = (2 * sum + CUBE).div_euclid(2 * CUBE);
+        let half = (2 * sum + CUBE).rem_euclid(2 * CUBE) == 0;
+        let down = self.table.shape.second_edition && half && up % 2 != 0;
+        up - i64::from(down)
+    }
 }
 
 const CUBE: i64 = 256 * 256 * 256;
@@ -259,7 +267,7 @@ fn places(shape: Shape, at: [u32; 3], want: Want) -> Vec<Where> {
 }
 
 // The fraction of answers at random steps that are the sum, or its derivative of this order,
-// rounded once, halves up.
+// rounded once by the table's edition.
 fn nearest(random: &mut Random, axes: u32, degree: u32, order: u32) -> f64 {
     let (mut asked, mut equal) = (0, 0);
     for _ in 0..200 {
@@ -272,7 +280,7 @@ fn nearest(random: &mut Random, axes: u32, degree: u32, order: u32) -> f64 {
             let want = [Dose, Slope(axis), Curvature(axis)][order as usize];
             let (answer, sum) = straight.ask(cell, u, want);
             asked += 1;
-            equal += u32::from(answer as i64 == rounded(sum));
+            equal += u32::from(answer as i64 == straight.rounded(sum));
         }
     }
     f64::from(equal) / f64::from(asked)
@@ -302,11 +310,6 @@ fn most_answers_are_the_nearest_whole_number() {
     }
 }
 
-// A sum times 256^3 as the nearest whole number, halves up.
-fn rounded(sum: i64) -> i64 {
-    (2 * sum + CUBE).div_euclid(2 * CUBE)
-}
-
 // Every answer at these steps of every cell is the sum, rounded once.
 fn check_all(straight: &Straight, steps: &[u32]) {
     let shape = straight.table.shape;
@@ -320,7 +323,8 @@ fn check_all(straight: &Straight, steps: &[u32]) {
             for want in wants(shape) {
                 let (answer, sum) = straight.ask(cell, u, want);
                 let numbers = straight.numbers;
-                assert_eq!(answer as i64, rounded(sum), "{numbers:?} {cell:?} {u:?}");
+                let nearest = straight.rounded(sum);
+                assert_eq!(answer as i64, nearest, "{numbers:?} {cell:?} {u:?}");
             }
         }
     }
@@ -366,7 +370,7 @@ fn blocks_at_every_step_of_an_axis() {
     // Sums without products, whose numbers are multiples of 32, are rounded once at every step.
     let mut random = Random::new(9);
     for degree in [3, 5] {
-        let shape = cube(3, degree, 3);
+        let shape = in_edition(cube(3, degree, 3), random.chance(2));
         let straight = Straight::new(shape, [-96, 416, -352, 0, 640, 0, 0, 0]);
         for axis in 0..3 {
             for step in 0..=256 {
@@ -375,7 +379,8 @@ fn blocks_at_every_step_of_an_axis() {
                 for cell in cells(shape) {
                     for want in wants(shape) {
                         let (answer, sum) = straight.ask(cell, u, want);
-                        assert_eq!(answer as i64, rounded(sum), "{cell:?} {u:?} {want:?}");
+                        let nearest = straight.rounded(sum);
+                        assert_eq!(answer as i64, nearest, "{cell:?} {u:?} {want:?}");
                     }
                 }
             }

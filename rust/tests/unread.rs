@@ -9,7 +9,7 @@
 mod common;
 mod model;
 
-use common::{cube, KINDS};
+use common::{cube, editions, KINDS};
 use lukhtari::ffi::*;
 use std::ptr::{null, null_mut, NonNull};
 
@@ -26,10 +26,11 @@ fn estimate(shape: Shape, samples: usize, room: usize) -> u32 {
     unsafe { lukhtari_estimate(shape, nowhere(), samples, nowhere(), room) }.number
 }
 
-fn write(axes: u32, counts: [u32; 3], samples: usize, room: usize) -> u32 {
-    let counts = Index { at: counts };
+fn write(shape: Shape, samples: usize, room: usize) -> u32 {
+    let (axes, edition) = (shape.axes, shape.second_edition);
+    let counts = Index { at: shape.counts };
     // SAFETY: nothing is read or written.
-    unsafe { lukhtari_write(axes, counts, nowhere(), samples, nowhere(), room) }.number
+    unsafe { lukhtari_write(axes, counts, edition, nowhere(), samples, nowhere(), room) }.number
 }
 
 fn coefficients(shape: Shape, records: usize, cell: u32, room: usize) -> u32 {
@@ -176,19 +177,20 @@ fn estimation() {
 #[test]
 fn writing() {
     for axes in 1..=3 {
-        let shape = cube(axes, 3, 64);
-        let nodes = shape.nodes();
-        let needed = 4 * (2 + axes as usize + nodes);
-        for samples in [LONG, nodes + 1, nodes - 1] {
-            for room in [LONG, needed, needed - 1, 0] {
-                assert_eq!(write(axes, shape.counts, samples, room), 4);
+        for shape in editions(cube(axes, 3, 64)) {
+            let (nodes, needed) = (shape.nodes(), shape.file_bytes());
+            for samples in [LONG, nodes + 1, nodes - 1] {
+                for room in [LONG, needed, needed - 1, 0] {
+                    assert_eq!(write(shape, samples, room), 4);
+                }
             }
+            for room in [needed - 1, needed - 8, nodes, 0] {
+                assert_eq!(write(shape, nodes, room), 9);
+            }
+            assert_eq!(write(Shape { axes: 4, ..shape }, LONG, LONG), 1);
+            let counts = [1; 3];
+            assert_eq!(write(Shape { counts, ..shape }, LONG, LONG), 3);
         }
-        for room in [needed - 1, nodes, 0] {
-            assert_eq!(write(axes, shape.counts, nodes, room), 9);
-        }
-        assert_eq!(write(4, shape.counts, LONG, LONG), 1);
-        assert_eq!(write(axes, [1; 3], LONG, LONG), 3);
     }
 }
 
@@ -405,10 +407,10 @@ fn null_with_length_0_for_files() {
     // SAFETY: the slices are lent; one of length 0 may be NULL.
     let files = unsafe {
         [
-            lukhtari_write(1, counts, null(), 0, null_mut(), 0).number,
-            lukhtari_write(1, counts, null(), 0, b, 20).number,
-            lukhtari_write(1, counts, s, 2, null_mut(), 0).number,
-            lukhtari_write(1, counts, s, 2, b, 20).number,
+            lukhtari_write(1, counts, false, null(), 0, null_mut(), 0).number,
+            lukhtari_write(1, counts, false, null(), 0, b, 20).number,
+            lukhtari_write(1, counts, false, s, 2, null_mut(), 0).number,
+            lukhtari_write(1, counts, false, s, 2, b, 20).number,
             lukhtari_read(null(), 0, null_mut(), 0).number,
             lukhtari_read(null(), 0, s, 2).number,
             lukhtari_read(b, 20, null_mut(), 0).number,

@@ -7,7 +7,7 @@ use super::checks::{first_beyond, Answer};
 use super::method::{Folded, Printed};
 use super::point::Point;
 use super::query::Form;
-use super::stages::Limits;
+use super::stages::{round, Limits};
 use lukhtari::Shape;
 use std::marker::PhantomData;
 
@@ -30,7 +30,8 @@ fn by_point<X: Way>(shape: Shape, records: &[i32], point: Point) -> Answer<i32> 
         (3, Some(1)) => [0, 2, 1],
         _ => [0, 1, 2],
     };
-    let stage = |place: usize| cell.stage::<X>(place, order[place], point);
+    let even = shape.second_edition;
+    let stage = |place: usize| cell.stage::<X>(place, order[place], point, even);
     let first = stage(0);
     let second = stage(1);
     let third = stage(2);
@@ -97,7 +98,7 @@ impl Cell {
     }
 
     // The stage of an axis at its place in the order.
-    fn stage<X: Way>(&self, place: usize, axis: usize, point: Point) -> Stage {
+    fn stage<X: Way>(&self, place: usize, axis: usize, point: Point, even: bool) -> Stage {
         if place >= self.axes {
             return UNUSED;
         }
@@ -113,6 +114,7 @@ impl Cell {
             offsets: self.offsets(axis),
             weights: X::weights(count, point.u[axis], order),
             bits: divisor_bits + from_eighths - to_eighths,
+            even,
         }
     }
 
@@ -131,12 +133,14 @@ fn is_beyond(entry: i32, limit: i32) -> bool {
     entry.wrapping_add(limit) as u32 > 2 * limit as u32
 }
 
-// One axis: where its numbers stand, their weights, and the bits that are rounded off.
+// One axis: where its numbers stand, their weights, the bits that are rounded off, and whether
+// halves go to the even number.
 struct Stage {
     count: usize,
     offsets: [usize; 6],
     weights: [i64; 6],
     bits: u32,
+    even: bool,
 }
 
 // An unused axis has one number, which stays as it is.
@@ -145,6 +149,7 @@ const UNUSED: Stage = Stage {
     offsets: [0; 6],
     weights: [0; 6],
     bits: 0,
+    even: false,
 };
 
 impl Stage {
@@ -162,13 +167,13 @@ impl Stage {
         [number(0), number(1), number(2), number(3), fifth, sixth]
     }
 
-    // The rounded sum, halves up.
+    // The rounded sum.
     fn work_off<X: Way>(&self, numbers: &[i64; 6]) -> i64 {
         if self.count == 1 {
             return numbers[0];
         }
         let sum = X::sum(self.count, numbers, &self.weights);
-        (sum + (1 << (self.bits - 1))) >> self.bits
+        round(sum, self.bits, self.even)
     }
 }
 

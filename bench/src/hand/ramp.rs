@@ -1,4 +1,4 @@
-//! Ramps of doses specialised by degree and number of axes: where the cell changes, its corner
+//! Ramps of doses specialised by degree, number of axes and edition: where the cell changes, its corner
 //! records are found and tested, and the stages work on them until it changes again.
 
 use super::checks::*;
@@ -30,13 +30,9 @@ pub fn ramp(
         records,
         positions,
     };
-    match (shape.degree, shape.axes) {
-        (3, 1) => list.fill::<4, 2, 2>(answers, line_stage::<Folded, 4, 2>),
-        (3, 2) => list.fill::<4, 4, 4>(answers, square_stages::<Folded, 4, 4, 0, 1>),
-        (3, _) => list.fill::<4, 8, 8>(answers, cube_stages::<Folded, 4, 8, 0, 1, 2>),
-        (_, 1) => list.fill::<6, 3, 2>(answers, line_stage::<Folded, 6, 3>),
-        (_, 2) => list.fill::<6, 9, 4>(answers, square_stages::<Folded, 6, 9, 0, 1>),
-        (_, _) => list.fill::<6, 27, 8>(answers, cube_stages::<Folded, 6, 27, 0, 1, 2>),
+    match shape.second_edition {
+        false => list.by_shape::<false>(answers),
+        true => list.by_shape::<true>(answers),
     }
 }
 
@@ -48,6 +44,18 @@ struct List<'a> {
 }
 
 impl List<'_> {
+    // E is edition two.
+    fn by_shape<const E: bool>(&self, answers: &mut [i32]) -> Answer<u64> {
+        match (self.shape.degree, self.shape.axes) {
+            (3, 1) => self.fill::<4, 2, 2>(answers, line_stage::<Folded, 4, 2, E>),
+            (3, 2) => self.fill::<4, 4, 4>(answers, square_stages::<Folded, 4, 4, 0, 1, E>),
+            (3, _) => self.fill::<4, 8, 8>(answers, cube_stages::<Folded, 4, 8, 0, 1, 2, E>),
+            (_, 1) => self.fill::<6, 3, 2>(answers, line_stage::<Folded, 6, 3, E>),
+            (_, 2) => self.fill::<6, 9, 4>(answers, square_stages::<Folded, 6, 9, 0, 1, E>),
+            (_, _) => self.fill::<6, 27, 8>(answers, cube_stages::<Folded, 6, 27, 0, 1, 2, E>),
+        }
+    }
+
     // S numbers on a line, records of R entries, C corners.
     #[inline(always)]
     fn fill<const S: usize, const R: usize, const C: usize>(

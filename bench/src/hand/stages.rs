@@ -1,7 +1,7 @@
-//! Doses, slopes and curvatures specialised by degree and number of axes: the stages, straight from
-//! the corner records.
+//! Doses, slopes and curvatures specialised by degree, number of axes and edition: the stages,
+//! straight from the corner records.
 //!
-//! S is degree + 1, the numbers of a line; R is the entries of a record.
+//! S is degree + 1, the numbers of a line; R is the entries of a record; E is edition two.
 
 use super::checks::{first_beyond, Answer};
 use super::method::Method;
@@ -10,17 +10,17 @@ use super::query::Form;
 use lukhtari::Shape;
 use std::marker::PhantomData;
 
-// One copy of the code for each degree and number of axes.
+// One copy of the code for each degree, number of axes and edition.
 pub struct Specialised<X>(PhantomData<X>);
 
 impl<X: Method> Form for Specialised<X> {
     #[inline(always)]
     fn at(shape: Shape, records: &[i32], point: Point) -> Answer<i32> {
         match (shape.degree, shape.axes) {
-            (3, 1) => line::<X, 4, 2>(records, point),
+            (3, 1) => line::<X, 4, 2>(shape, records, point),
             (3, 2) => square::<X, 4, 4>(shape, records, point),
             (3, _) => cube::<X, 4, 8>(shape, records, point),
-            (_, 1) => line::<X, 6, 3>(records, point),
+            (_, 1) => line::<X, 6, 3>(shape, records, point),
             (_, 2) => square::<X, 6, 9>(shape, records, point),
             (_, _) => cube::<X, 6, 27>(shape, records, point),
         }
@@ -60,9 +60,14 @@ pub fn record<const S: usize, const R: usize>(records: &[i32], node: usize) -> A
     Ok(record)
 }
 
+// To the nearest: halves up, or to the even number.
 #[inline(always)]
-fn round(sum: i64, bits: u32) -> i64 {
-    (sum + (1 << (bits - 1))) >> bits
+pub fn round(sum: i64, bits: u32, even: bool) -> i64 {
+    let half = 1 << (bits - 1);
+    match even {
+        false => (sum + half) >> bits,
+        true => (sum + half - 1 + (sum >> bits & 1)) >> bits,
+    }
 }
 
 // Bits of the divisor of a stage: 2 256^d, 2 256^(d-1) of a slope's, 2 256^(d-2) of a curvature's.
@@ -87,21 +92,28 @@ fn ends<const S: usize, const R: usize>(
     line
 }
 
-fn line<X: Method, const S: usize, const R: usize>(records: &[i32], point: Point) -> Answer<i32> {
+fn line<X: Method, const S: usize, const R: usize>(
+    shape: Shape,
+    records: &[i32],
+    point: Point,
+) -> Answer<i32> {
     let x = point.cell[0] as usize;
     let corners = [record::<S, R>(records, x)?, record::<S, R>(records, x + 1)?];
-    Ok(line_stage::<X, S, R>(corners, point))
+    Ok(match shape.second_edition {
+        false => line_stage::<X, S, R, false>(corners, point),
+        true => line_stage::<X, S, R, true>(corners, point),
+    })
 }
 
 #[inline(always)]
-pub fn line_stage<X: Method, const S: usize, const R: usize>(
+pub fn line_stage<X: Method, const S: usize, const R: usize, const E: bool>(
     corners: [&[i32; R]; 2],
     point: Point,
 ) -> i32 {
     let order = point.want.order();
     let weights = X::weights::<S>(point.u[0], order);
     let sum = X::sum(&ends(corners, 0, 1), &weights);
-    round(sum, divisor_bits::<S>(order)) as i32
+    round(sum, divisor_bits::<S>(order), E) as i32
 }
 
 fn square<X: Method, const S: usize, const R: usize>(
@@ -116,15 +128,24 @@ fn square<X: Method, const S: usize, const R: usize>(
         let offset = (corner & 1) + cx * (corner >> 1);
         corners[corner] = record::<S, R>(records, node + offset)?;
     }
-    Ok(match point.want.axis() {
-        Some(0) => square_stages::<X, S, R, 1, 0>(corners, point),
-        _ => square_stages::<X, S, R, 0, 1>(corners, point),
+    Ok(match (point.want.axis(), shape.second_edition) {
+        (Some(0), false) => square_stages::<X, S, R, 1, 0, false>(corners, point),
+        (Some(0), true) => square_stages::<X, S, R, 1, 0, true>(corners, point),
+        (_, false) => square_stages::<X, S, R, 0, 1, false>(corners, point),
+        (_, true) => square_stages::<X, S, R, 0, 1, true>(corners, point),
     })
 }
 
 // Axis P first, then Q.
 #[inline(always)]
-pub fn square_stages<X: Method, const S: usize, const R: usize, const P: usize, const Q: usize>(
+pub fn square_stages<
+    X: Method,
+    const S: usize,
+    const R: usize,
+    const P: usize,
+    const Q: usize,
+    const E: bool,
+>(
     corners: [&[i32; R]; 4],
     point: Point,
 ) -> i32 {
@@ -137,11 +158,11 @@ pub fn square_stages<X: Method, const S: usize, const R: usize, const P: usize, 
         let corner = (j / m) << Q;
         let pair = [corners[corner], corners[corner + (1 << P)]];
         let numbers = ends(pair, j % m * stride[Q], stride[P]);
-        line[j] = round(X::sum(&numbers, &weights), bits - 3);
+        line[j] = round(X::sum(&numbers, &weights), bits - 3, E);
     }
     let order = point.want.order();
     let weights = X::weights::<S>(point.u[Q], order);
-    round(X::sum(&line, &weights), divisor_bits::<S>(order) + 3) as i32
+    round(X::sum(&line, &weights), divisor_bits::<S>(order) + 3, E) as i32
 }
 
 fn cube<X: Method, const S: usize, const R: usize>(
@@ -157,10 +178,13 @@ fn cube<X: Method, const S: usize, const R: usize>(
         let offset = (corner & 1) + cx * ((corner >> 1 & 1) + cy * (corner >> 2));
         corners[corner] = record::<S, R>(records, node + offset)?;
     }
-    Ok(match point.want.axis() {
-        Some(0) => cube_stages::<X, S, R, 1, 2, 0>(corners, point),
-        Some(1) => cube_stages::<X, S, R, 0, 2, 1>(corners, point),
-        _ => cube_stages::<X, S, R, 0, 1, 2>(corners, point),
+    Ok(match (point.want.axis(), shape.second_edition) {
+        (Some(0), false) => cube_stages::<X, S, R, 1, 2, 0, false>(corners, point),
+        (Some(0), true) => cube_stages::<X, S, R, 1, 2, 0, true>(corners, point),
+        (Some(1), false) => cube_stages::<X, S, R, 0, 2, 1, false>(corners, point),
+        (Some(1), true) => cube_stages::<X, S, R, 0, 2, 1, true>(corners, point),
+        (_, false) => cube_stages::<X, S, R, 0, 1, 2, false>(corners, point),
+        (_, true) => cube_stages::<X, S, R, 0, 1, 2, true>(corners, point),
     })
 }
 
@@ -173,6 +197,7 @@ pub fn cube_stages<
     const P: usize,
     const Q: usize,
     const T: usize,
+    const E: bool,
 >(
     corners: [&[i32; R]; 8],
     point: Point,
@@ -189,11 +214,11 @@ pub fn cube_stages<
             let pair = [corners[corner], corners[corner + (1 << P)]];
             let entry = j % m * stride[Q] + k % m * stride[T];
             let numbers = ends(pair, entry, stride[P]);
-            line[j] = round(X::sum(&numbers, &weights[0]), bits - 3);
+            line[j] = round(X::sum(&numbers, &weights[0]), bits - 3, E);
         }
-        last[k] = round(X::sum(&line, &weights[1]), bits);
+        last[k] = round(X::sum(&line, &weights[1]), bits, E);
     }
     let order = point.want.order();
     let weights = X::weights::<S>(point.u[T], order);
-    round(X::sum(&last, &weights), divisor_bits::<S>(order) + 3) as i32
+    round(X::sum(&last, &weights), divisor_bits::<S>(order) + 3, E) as i32
 }

@@ -68,3 +68,8 @@ sfits-abs x h = record { sfits = omega (arith, mag≤abs x) }
 -- so does a quotient rounded down
 pub sfits-shr : {w : Width} (z : ℤ) (m : ℕ) → SFits w z → SFits w (shrZ z m)
 sfits-shr z m h = record { sfits = lt-of-le-of-lt (mag-shr z m) (h .sfits) }
+
+-- and it is no larger
+pub abs-shr : (z : ℤ) (m : ℕ) → natAbs (shrZ z m) ≤ natAbs z
+abs-shr (pos n) m = mag-shr (pos n) m
+abs-shr (negsuc n) m = omega (arith, mag-shr (negsuc n) m)

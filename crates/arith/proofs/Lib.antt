@@ -6,7 +6,9 @@ pub mod Order
 pub mod Linear
 pub mod Abs
 pub mod Round
+pub mod Editions
 pub mod Machine
 pub mod Sums
 pub mod Choices
 pub mod Twos
+pub mod Bits

@@ -6,7 +6,8 @@
 --     value? (search (sizes, sized ..)) (omega arith)      that u is v
 use mathlib.Core.Path.{_≡_, refl, sym, _∙_, ap, ap₂, subst}
 use Prim.Native.Nat.{ℕ, _+_, _*_, _%_, _^_, _≤_, _<_}
-use native.Mathlib.Nat.{le-refl, le-trans, lt-of-le-of-lt, add-le-add, mod-eq-of-lt, one-mul}
+use native.Mathlib.Nat.{le-refl, le-trans, lt-of-le-of-lt, add-le-add, mod-eq-of-lt, one-mul, two-pow-succ}
+use native.Mathlib.Numerals.{add-one}
 use native.Mathlib.Omega.{arith}
 use lib.Dec.{T, leb, lit<}
 use lib.IntN.{ℤ, pos, negsuc, natAbs, _+ℤ_, _-ℤ_, _*ℤ_}
@@ -14,7 +15,7 @@ use lib.Pow.{pow-mono}
 use lib.Signed.{mag}
 use mir.Syntax.{Width, w32, w64}
 use mir.Val.{SFits, hbits, toZ, ofZ}
-use mir.Facts.{toZ-ofZ, sfits-widen}
+use mir.Facts.{toZ-ofZ, toZ-pos, sfits-widen}
 use Rattle.arith.proofs.Abs.{abs-add, abs-minus, abs-mul-le, sfits-abs}
 
 pub record Size (u : ℤ) : Type 1 where
@@ -115,6 +116,18 @@ kept-low x B h l = rw (kept x B h l) h
 -- 1 shifted by the number of axes
 pub shifted : (n : ℕ) → n ≤ 3 → 1 * 2 ^ n % 18446744073709551616 ≡ 2 ^ n
 shifted n h = rw (one-mul (2 ^ n)) (mod-eq-of-lt (lt-of-le-of-lt (pow-mono h) (lit< tt)))
+
+-- 1 shifted to a power that fits, as a signed number
+pub power-held : (k : ℕ) → k ≤ 61 → toZ w64 (1 * 2 ^ k % 18446744073709551616) ≡ pos (2 ^ k)
+power-held k h =
+    let l : 2 ^ k ≤ 2 ^ 61 = pow-mono h in
+    rw (one-mul (2 ^ k), mod-eq-of-lt (lt-of-le-of-lt l (lit< tt)), toZ-pos w64 {n = 2 ^ k} (lt-of-le-of-lt l (lit< tt)))
+
+pub power-double : (k : ℕ) → 2 ^ (k + 1) ≡ 2 * 2 ^ k
+power-double k = ap (λ (i : ℕ). 2 ^ i) (add-one k) ∙ two-pow-succ k ∙ twice (2 ^ k)
+  where
+    twice : (h : ℕ) → h + h ≡ 2 * h
+    twice h = omega arith
 
 -- ---- the answers
 

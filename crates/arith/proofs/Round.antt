@@ -59,6 +59,12 @@ floor-unique {z} {q} {p} f g = go (≤ℤ-total q p)
     go (inl h) = one-way′ f g h
     go (inr h) = sym (one-way′ g f h)
 
+-- and so is what is left
+pub floor-rest : {z q : ℤ} {m : ℕ} (f g : Floor z m q) → f .rest ≡ g .rest
+floor-rest {z} {q} {m} f g =
+    let e : f .rest ≡ m * 0 + g .rest = one-way q q m (f .rest) (g .rest) 0 (sym (+ℤ-idr q)) (sym (f .is) ∙ g .is) in
+    omega arith
+
 -- ---- to the nearest, halves up: −y < 2 (q y − x) ≤ y
 pub record Nearest (x : ℤ) (y : ℕ) (q : ℤ) : Type 0 where
   pub above : negℤ (pos y) <ℤ (pos 2 *ℤ (q *ℤ pos y -ℤ x))

@@ -2,15 +2,37 @@
 ghost use mathlib.Core.Path.{_≡_};
 ghost use Prim.Native.Nat.{_+_, _≤_, _<_, _^_};
 ghost use lib.IntN.{natAbs};
-ghost use Rattle.arith.specs.Int.{roundHalfUp, unsignedOf};
+ghost use Rattle.arith.specs.Int.{roundHalfUp, roundHalfEven, roundingOf, unsignedOf};
 
 // x / 2^(k+1) to the nearest, halves up.
-pub fn rounded(x: i64, k: u32) -> i64
+pub fn half_up(x: i64, k: u32) -> i64
     requires { ⌜ (k ≤ 61) × (natAbs x + 2 ^ k < 2 ^ 63) ⌝ }
     ensures { λ r. ⌜ r ≡ roundHalfUp x (2 ^ (k + 1)) ⌝ }
 {
     let half: i64 = 1 << k;
     (x + half) >> (k + 1)
+}
+
+// x / 2^(k+1) to the nearest, halves to the even number: they go down where the quotient below is even.
+fn half_even(x: i64, k: u32) -> i64
+    requires { ⌜ (k ≤ 61) × (natAbs x + 2 ^ k < 2 ^ 63) ⌝ }
+    ensures { λ r. ⌜ r ≡ roundHalfEven x (2 ^ (k + 1)) ⌝ }
+{
+    let half: i64 = 1 << k;
+    let below = x >> (k + 1);
+    let odd = below - 2 * (below >> 1);
+    (x + (half - (1 - odd))) >> (k + 1)
+}
+
+// x / 2^(k+1) to the nearest, halves to the even number where `even` is set, else up.
+pub fn rounded(even: bool, x: i64, k: u32) -> i64
+    requires { ⌜ (k ≤ 61) × (natAbs x + 2 ^ k < 2 ^ 63) ⌝ }
+    ensures { λ r. ⌜ r ≡ roundingOf even x (2 ^ (k + 1)) ⌝ }
+{
+    if even {
+        return half_even(x, k);
+    }
+    half_up(x, k)
 }
 
 // The distance of x from 0.

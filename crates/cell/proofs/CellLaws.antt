@@ -3,7 +3,7 @@ use mathlib.Core.Path.{_≡_, refl, sym, ap, _∙_, fun-ext}
 use mathlib.Core.Bool.{Bool, true}
 use mathlib.Core.List.{List, [], _∷_}
 use Prim.Native.Nat.{ℕ, _+_, _*_, _/_, _%_, _^_, _≤_, _<_}
-use native.Mathlib.Nat.{le-of-lt, mul-le-mul, mul-add-div, mul-add-mod-self-left, mul-zero, zero-div, zero-mod, pow-zero, le-trans, div-lt-iff-lt-mul}
+use native.Mathlib.Nat.{le-refl, le-of-lt, mul-le-mul, mul-add-div, mul-add-mod-self-left, mul-zero, zero-div, zero-mod, pow-zero, le-trans, div-lt-iff-lt-mul}
 use native.Mathlib.Decide.{decLt}
 use native.Mathlib.Omega.{arith}
 use lib.Dec.{leb, ltb, eqb, lit<, lit≤}
@@ -184,12 +184,16 @@ far-high s ok =
     let y = mul-le-mul {m₂ = 27} (ok .high 0 (lit< tt)) x in
     (x, y, mul-le-mul {m₂ = 1728} (ok .high 1 (lit< tt)) y)
 
-base-high : (s : Shape) (cell : Place) → Shaped s → Accepted s cell → base s cell ≤ 7077888
+pub base-in : (s : Shape) (cell : Place) → Shaped s → Accepted s cell → base s cell ≤ size s
 unfolding base size
-base-high s cell ok here = mul-le-mul (le-trans (le-of-lt (node-below s cell within)) (nodes-high s ok)) (entries-high s ok)
+base-in s cell ok here = mul-le-mul (le-of-lt (node-below s cell within)) (le-refl (entries s))
   where
     within : InTable s cell
     within = in-table s cell ok (λ a l. let h = here .used a l in omega arith) (here .unused)
+
+base-high : (s : Shape) (cell : Place) → Shaped s → Accepted s cell → base s cell ≤ 7077888
+unfolding size
+base-high s cell ok here = le-trans (base-in s cell ok here) (mul-le-mul (nodes-high s ok) (entries-high s ok))
 
 pub laid-small : (s : Shape) (cell : Place) (l : Layout) → Shaped s → Accepted s cell → Laid s cell l → Small l
 laid-small s cell l ok here laid =

@@ -1,16 +1,19 @@
--- The limit test of one entry, as the code makes it.
-use mathlib.Core.Path.{_≡_, refl, ap, _∙_}
-use mathlib.Core.Bool.{Bool, true, false}
+-- The limit test of one entry, and the bits of the entries of two records, as the code makes them.
+use mathlib.Core.Path.{_≡_, refl, sym, ap, ap₂, _∙_}
+use mathlib.Core.Bool.{Bool, true, false, _&&_}
 use mathlib.Core.List.{List}
 use Prim.Native.Nat.{ℕ, _+_, _^_, _<_}
-use lib.Dec.{leb, ltb}
+use lib.Bits.{bitOr}
+use lib.Dec.{leb, ltb, eqb}
 use lib.IntN.{ℤ, natAbs}
 use lib.Signed.{mag}
 use mir.Syntax.{w32}
-use mir.Val.{toZ, ofZ}
+use mir.Val.{toZ, ofZ, boolByte}
 use borrow.Author.Tests.{ltb-true, ltb-false, le-leb, lt-leb}
-use Rattle.lattice.specs.Outcome.{Check, done, refused, refuseUnless}
+use Rattle.lattice.specs.Outcome.{Check, done, refused, refuseUnless, firstOf, passed}
 use Rattle.lattice.specs.Buffer.{at}
+use Rattle.lattice.proofs.OutcomeLaws.{passed-next}
+use Rattle.arith.proofs.Bits.{or-none}
 use Rattle.arith.proofs.Machine.{element}
 use Rattle.cell.specs.Cell.{limitIn}
 
@@ -33,3 +36,23 @@ module _ (limits rs : List ℤ) (start e : ℕ) where
   test-passed h =
       ap (λ (b : Bool). refuseUnless b 5 (start + e))
       (le-leb (natAbs (at rs (start + e))) (limitIn limits e) (ltb-false (limitIn limits e) (natAbs (at rs (start + e))) h))
+
+  -- its bit is 0 where the test is passed
+  pub test-bit : (r : Bool) → r ≡ ltb (limitIn limits e) (natAbs (at rs (start + e))) → eqb (boolByte r) 0 ≡ passed (test limits rs start e)
+  test-bit true h = sym (ap passed (test-stopped (sym h)))
+  test-bit false h = sym (ap passed (test-passed (sym h)))
+
+-- the bits of one entry more of two records
+pub bits-more : (over e : ℕ) (low high : Bool) (f g : ℕ → Check) → eqb over 0 ≡ (passed (firstOf e f) && passed (firstOf e g))
+    → eqb (boolByte low) 0 ≡ passed (f e) → eqb (boolByte high) 0 ≡ passed (g e)
+    → eqb (bitOr (bitOr over (boolByte low)) (boolByte high)) 0 ≡ (passed (firstOf (e + 1) f) && passed (firstOf (e + 1) g))
+bits-more over e low high f g so-far at-low at-high =
+    or-none (bitOr over (boolByte low)) (boolByte high) ∙ ap₂ _&&_ (or-none over (boolByte low) ∙ ap₂ _&&_ so-far at-low) at-high
+    ∙ turned (passed (firstOf e f)) (passed (firstOf e g)) (passed (f e)) (passed (g e))
+    ∙ sym (ap₂ _&&_ (passed-next e f) (passed-next e g))
+  where
+    turned : (p q x y : Bool) → (((p && q) && x) && y) ≡ ((p && x) && (q && y))
+    turned true true x y = refl
+    turned true false true y = refl
+    turned true false false y = refl
+    turned false q x y = refl

@@ -4,7 +4,7 @@ use Prim.Native.Nat.{ℕ, zero, suc, _+_, _*_, _/_, _%_, _^_, _≤_, _<_}
 use mathlib.Core.List.{List}
 use lib.Dec.{leb, ltb, eqb}
 use lib.IntN.{ℤ, natAbs}
-use lib.ListN.{getD}
+use lib.ListN.{length, getD}
 use lib.Signed.{nonNeg}
 use mathlib.Core.Bool.{true}
 use Rattle.arith.specs.Choice.{pick}
@@ -112,3 +112,12 @@ pub record Small (l : Layout) : Type 0 where
   pub x-low : getD (l .strides) 0 0 ≤ 2 ^ 32
   pub y-low : getD (l .strides) 1 0 ≤ 2 ^ 32
   pub z-low : getD (l .strides) 2 0 ≤ 2 ^ 32
+
+-- rows of two records of e entries, which are neighbours along x, lie in the records
+pub record CornerRows (l : Layout) (rs : List ℤ) (e rows : ℕ) : Type 0 where
+  pub some : 1 ≤ e
+  pub low : e ≤ 27
+  pub few : rows ≤ 4
+  pub small : Small l
+  pub next : getD (l .strides) 0 0 ≡ e
+  pub inside : (r : ℕ) → r < rows → startOf l (2 * r) + 2 * e ≤ length rs

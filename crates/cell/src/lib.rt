@@ -8,13 +8,13 @@ ghost use lib.IntN.{pos, natAbs};
 ghost use lib.Signed.{nonNeg};
 ghost use lib.ListN.{length, getD};
 ghost use Rattle.arith.specs.Choice.{pick};
-ghost use Rattle.lattice.specs.Outcome.{firstOf, passed};
+ghost use Rattle.lattice.specs.Outcome.{first, firstOf, passed};
 ghost use Rattle.lattice.specs.Answers.{outcomeOf};
 ghost use Rattle.lattice.specs.Buffer.{at, tabulate};
 ghost use Rattle.lattice.specs.Digits.{digit};
 ghost use Rattle.lattice.specs.Shape.{count, orders, entries, size, Shaped};
 ghost use Rattle.cell.specs.Cells.{cellsAlong, Between};
-ghost use Rattle.cell.specs.Cell.{placeAt, cellOutcome, cornersOutcome, Accepted, Laid, Small, startOf, limitOf, limitIn, Limits, recordOutcome};
+ghost use Rattle.cell.specs.Cell.{placeAt, cellOutcome, cornersOutcome, Accepted, Laid, Small, startOf, limitOf, limitIn, Limits, recordOutcome, CornerRows};
 use lattice::Check;
 use lattice::Shape;
 
@@ -187,20 +187,20 @@ fn check_record(limits: &[i32; 27], n: usize, records: &[i32], start: usize) -> 
     Check::Done
 }
 
-// Whether the limit test of the record that starts at `start` is passed.
-fn record_within(limits: &[i32; 27], n: usize, records: &[i32], start: usize) -> bool
-    requires { ⌜ (n ≤ 27) × (start + n ≤ length (now records)) × Limits n (now limits) ⌝ }
-    ensures { λ r. ⌜ r ≡ passed (recordOutcome (limitIn (now (limits .entry))) n (now (records .entry)) start) ⌝ }
+// Not 0 where an entry of two records, one directly after the other from `start`, is beyond its limit.
+fn beyond_in(limits: &[i32; 27], n: usize, records: &[i32], start: usize) -> u32
+    requires { ⌜ (n ≤ 27) × (start + 2 * n ≤ length (now records)) × Limits n (now limits) ⌝ }
+    ensures { λ r. ⌜ eqb r 0 ≡ passed (first (recordOutcome (limitIn (now (limits .entry))) n (now (records .entry)) start) (recordOutcome (limitIn (now (limits .entry))) n (now (records .entry)) (start + n))) ⌝ }
 {
-    let mut within = true;
+    let mut over: u32 = 0;
     let mut e: usize = 0;
     while e < n {
-        if beyond(records[start + e], limits[e]) {
-            within = false;
-        }
+        let low = beyond(records[start + e], limits[e]);
+        let high = beyond(records[start + n + e], limits[e]);
+        over = over | (low as u32) | (high as u32);
         e += 1;
     }
-    within
+    over
 }
 
 // Where the record of corner c starts.
@@ -214,19 +214,18 @@ pub fn corner_start(l: Layout, c: usize) -> usize
     l.base + (c % 2 * x + (c / 2 % 2 * y + c / 2 / 2 * z))
 }
 
-// Whether the limit test of the first `corners` records of a cell is passed.
-pub fn all_within(limits: &[i32; 27], n: usize, corners: usize, records: &[i32], l: Layout) -> bool
-    requires { ⌜ (n ≤ 27) × (corners ≤ 8) × Small l × Limits n (now limits) ⌝ }
-    requires { ⌜ ((c : ℕ) → c < corners → startOf l c + n ≤ length (now records)) ⌝ }
-    ensures { λ r. ⌜ r ≡ passed (firstOf corners (λ c. recordOutcome (limitIn (now (limits .entry))) n (now (records .entry)) (startOf l c))) ⌝ }
+// Whether the limit test of the first 2·rows corner records is passed, those of a row at once.
+pub fn all_within(limits: &[i32; 27], n: usize, rows: usize, records: &[i32], l: Layout) -> bool
+    requires { ⌜ CornerRows l (now records) n rows × Limits n (now limits) ⌝ }
+    ensures { λ r. ⌜ r ≡ passed (firstOf (2 * rows) (λ c. recordOutcome (limitIn (now (limits .entry))) n (now (records .entry)) (startOf l c))) ⌝ }
 {
-    let mut c: usize = 0;
-    while c < corners {
-        let start = corner_start(l, c);
-        if !record_within(limits, n, records, start) {
+    let mut row: usize = 0;
+    while row < rows {
+        let start = corner_start(l, 2 * row);
+        if beyond_in(limits, n, records, start) != 0 {
             return false;
         }
-        c += 1;
+        row += 1;
     }
     true
 }
@@ -252,28 +251,36 @@ pub fn check_corners(s: Shape, records: &[i32], cell: [u32; 3], l: Layout) -> Ch
     Check::Done
 }
 
-// Whether refusal 5 does not arise: no entry of the corners is beyond its limit.
-pub fn corners_within(n: u32, s: Shape, records: &[i32], cell: [u32; 3], l: Layout) -> bool
-    requires { ⌜ Shaped s × (length (now records) ≡ size s) × (n ≡ s .axes) ⌝ }
+// Whether refusal 5 does not arise on one axis: no entry of the corners is beyond its limit.
+pub fn line_within(s: Shape, records: &[i32], cell: [u32; 3], l: Layout) -> bool
+    requires { ⌜ Shaped s × (length (now records) ≡ size s) ⌝ }
     requires { ⌜ Accepted s (placeAt cell) × Laid s (placeAt cell) l ⌝ }
+    requires { ⌜ s .axes ≡ 1 ⌝ }
+    ensures { λ r. ⌜ r ≡ passed (cornersOutcome s (now (records .entry)) (placeAt cell)) ⌝ }
+{
+    if l.orders == 2 {
+        return all_within(&entry_limits(2), 2, 1, records, l);
+    }
+    all_within(&entry_limits(3), 3, 1, records, l)
+}
+
+// The same on two or three axes.
+pub fn lattice_within(n: u32, s: Shape, records: &[i32], cell: [u32; 3], l: Layout) -> bool
+    requires { ⌜ Shaped s × (length (now records) ≡ size s) ⌝ }
+    requires { ⌜ Accepted s (placeAt cell) × Laid s (placeAt cell) l ⌝ }
+    requires { ⌜ (n ≡ s .axes) × (2 ≤ n) ⌝ }
     ensures { λ r. ⌜ r ≡ passed (cornersOutcome s (now (records .entry)) (placeAt cell)) ⌝ }
 {
     if l.orders == 2 {
         let limits = entry_limits(2);
-        if n == 1 {
-            return all_within(&limits, 2, 2, records, l);
-        }
         if n == 2 {
-            return all_within(&limits, 4, 4, records, l);
+            return all_within(&limits, 4, 2, records, l);
         }
-        return all_within(&limits, 8, 8, records, l);
+        return all_within(&limits, 8, 4, records, l);
     }
     let limits = entry_limits(3);
-    if n == 1 {
-        return all_within(&limits, 3, 2, records, l);
-    }
     if n == 2 {
-        return all_within(&limits, 9, 4, records, l);
+        return all_within(&limits, 9, 2, records, l);
     }
-    all_within(&limits, 27, 8, records, l)
+    all_within(&limits, 27, 4, records, l)
 }

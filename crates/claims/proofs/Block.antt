@@ -4,7 +4,7 @@ use mathlib.Core.List.{List}
 use Prim.Native.Nat.{ℕ, suc, _+_, _/_, _≤_, _<_}
 use native.Mathlib.Omega.{arith}
 use lib.IntN.{ℤ}
-use Rattle.arith.specs.Int.{roundHalfUp}
+use Rattle.arith.specs.Int.{Rounding}
 use Rattle.lattice.specs.declared.Shape.{Shape}
 use Rattle.lattice.specs.Shape.{count, orders}
 use Rattle.lattice.specs.Axes.{Place}
@@ -13,20 +13,20 @@ use Rattle.cell.specs.Cell.{Accepted}
 use Rattle.estimate.specs.Estimate.{NextTo, tableRecords}
 use Rattle.estimate.proofs.EstimateLaws.{entry-local, entry-recounted}
 use Rattle.estimated.proofs.Estimated.{at-node, inside}
-use Rattle.evaluate.specs.Evaluate.{Want, lastAxis, answer, askAt}
+use Rattle.evaluate.specs.Evaluate.{Want, lastAxis, answerBy, askAt}
 use Rattle.evaluate.proofs.AnswerLaws.{answer-local}
 use Rattle.claims.specs.Third.{NearCell, recounted, AgreeOnBlock}
 use Rattle.claims.proofs.General.{leb-same}
 
 module _ (s : Shape) (xs : List ℤ) (cell : Place) (here : Accepted s cell) where
   -- two tables that agree on the block
-  pub block-local : (counts : List ℕ) (ys : List ℤ) → AgreeOnBlock s (recounted s counts) cell xs ys → (want : Want) (step : Place)
-      → lastAxis (s .axes) want < s .axes
-      → answer (askAt s want cell step) (tableRecords s xs) ≡ answer (askAt (recounted s counts) want cell step)
-      (tableRecords (recounted s counts) ys)
+  pub block-local : (round : Rounding) (counts : List ℕ) (ys : List ℤ) → AgreeOnBlock s (recounted s counts) cell xs ys
+      → (want : Want) (step : Place) → lastAxis (s .axes) want < s .axes
+      → answerBy round (askAt s want cell step) (tableRecords s xs)
+      ≡ answerBy round (askAt (recounted s counts) want cell step) (tableRecords (recounted s counts) ys)
   unfolding askAt tableRecords
-  block-local counts ys same want step last =
-      answer-local roundHalfUp (askAt s want cell step) last (tableRecords s xs) (tableRecords t ys)
+  block-local round counts ys same want step last =
+      answer-local round (askAt s want cell step) last (tableRecords s xs) (tableRecords t ys)
       (λ p x. entry-local (orders s) (s .axes) (count s) p (λ a l. two-nodes (cell a) (here .used a l)) (inside s cell here p x) (x .unused)
       (samplesField s xs) (samplesField t ys)
       (λ q y. same .samples q (record

@@ -8,12 +8,12 @@ use lib.Dec.{ltb, eqb, lit<}
 use lib.ListN.{length, take}
 use lib.IntN.{ℤ}
 use borrow.Author.Tests.{lt-ltb, eq-eqb}
-use Rattle.arith.specs.Int.{roundHalfUp}
 use Rattle.arith.proofs.Order.{pos-inj}
-use Rattle.arith.proofs.Round.{half-up-sound}
+use Rattle.arith.proofs.Editions.{edition-sound}
 use Rattle.lattice.specs.declared.Shape.{Shape}
+use Rattle.lattice.specs.declared.FullShape.{FullShape}
 use Rattle.lattice.specs.Outcome.{Outcome, Check, done, refused, refuseUnless, first}
-use Rattle.lattice.specs.Shape.{orders, size, shapeOutcome, Shaped}
+use Rattle.lattice.specs.Shape.{fullShape, roundingIn, orders, size, shapeOutcome, Shaped}
 use Rattle.lattice.specs.Axes.{Place}
 use Rattle.lattice.proofs.OutcomeLaws.{first-done, first-passed, first-after, refused-first, done-same, passes}
 use Rattle.lattice.proofs.ShapeLaws.{orders-range}
@@ -21,7 +21,7 @@ use Rattle.estimate.specs.Estimate.{Estimable, tableRecords, recordsOf, estimat
 use Rattle.estimate.proofs.CallLaws.{estimated, records-length}
 use Rattle.hermite.specs.Hermite.{steps}
 use Rattle.hermite.specs.Stage.{Smooth}
-use Rattle.evaluate.specs.Evaluate.{Want, dose, derivativeAlong, orderWanted, lastAxis, exactSum, exactDivisor, answer, askAt, askOf}
+use Rattle.evaluate.specs.Evaluate.{Want, dose, derivativeAlong, orderWanted, lastAxis, exactSum, exactDivisor, answerBy, askAt, askOf}
 use Rattle.query.specs.Queries.{wantOutcome, askedOutcome, reading}
 use Rattle.query.proofs.QueryLaws.{want-parts, last-used, want-smooth, asked-parts, asked-passes}
 use Rattle.float_query.specs.Answers.{FloatValue, asDose, asSlope, inFloat}
@@ -59,26 +59,33 @@ used-last s want l h = last-used s want l (want-passes s want h)
 pub permitted : (s : Shape) (want : Want) → Askable s want → Smooth (orderWanted want) (orders s)
 permitted s want h = want-smooth s want (want-passes s want h)
 
-asked-known : (s : Shape) (rs : List ℤ) (want : Want) → askedOutcome s rs want ≡ done tt → Askable s want
+pub asked-known : (s : Shape) (rs : List ℤ) (want : Want) → askedOutcome s rs want ≡ done tt → Askable s want
 asked-known s rs want h = askable s want (asked-parts s rs want h .1)
 
 -- ---- what the two calls give
 
 -- what a query reads of the records that estimation wrote
-abbrev readHere : Shape → List ℤ → Want → Query → Outcome ℤ
-readHere s xs want q = reading s (recordsOf s xs) want (cellRead s q) (stepRead s q)
+abbrev pub readHere : FullShape → List ℤ → Want → Query → Outcome ℤ
+readHere t xs want q = reading t (recordsOf (t .shape) xs) want (cellRead (t .shape) q) (stepRead (t .shape) q)
 
-module _ (s : Shape) (xs old : List ℤ) (taken : AcceptedTable s xs old) where
+-- the stages' number
+abbrev pub answerHere : FullShape → List ℤ → Want → Query → ℤ
+answerHere t xs want q = answerBy (roundingIn t) (asked (t .shape) want q) (tableRecords (t .shape) xs)
+
+module _ (t : FullShape) (xs old : List ℤ) (taken : AcceptedTable (t .shape) xs old) where
+  abbrev s : Shape
+  s = t .shape
+
   pub known : Estimable s xs (length old)
   known = estimated s xs (length old) taken
 
   -- the tests of the query, then what it reads
-  both-is : (want : Want) (q : Query)
-      → bothCalls s xs old want q ≡ first (askedOutcome s (recordsOf s xs) want) (first (gate s q) (readHere s xs want q))
+  pub both-is : (want : Want) (q : Query)
+      → bothCalls t xs old want q ≡ first (askedOutcome s (recordsOf s xs) want) (first (gate s q) (readHere t xs want q))
   unfolding bothCalls
   both-is want q =
-      first-passed (estimateOutcome s xs (length old)) (queried s _ want q) taken
-      ∙ ap (λ (rs : List ℤ). queried s rs want q) (lent s xs old taken) ∙ by-gate s (recordsOf s xs) want q
+      first-passed (estimateOutcome s xs (length old)) (queried t _ want q) taken
+      ∙ ap (λ (rs : List ℤ). queried t rs want q) (lent s xs old taken) ∙ by-gate t (recordsOf s xs) want q
 
   -- of the tests before the query's own, the derivative's axis and order alone can be refused
   asked-is : (want : Want) → askedOutcome s (recordsOf s xs) want ≡ wantOutcome s want
@@ -92,33 +99,34 @@ module _ (s : Shape) (xs old : List ℤ) (taken : AcceptedTable s xs old) where
   askable-passes want a = asked-passes s (recordsOf s xs) want (records-length s xs) (known .passed) (want-passes s want a)
 
   -- what a query whose tests are passed reads
-  read-is : (want : Want) (q : Query) → Askable s want → gate s q ≡ done tt
-      → readHere s xs want q ≡ done (answer (asked s want q) (tableRecords s xs))
-  read-is want q a h = reading-is s xs (length old) known (cellRead s q) (gated s (known .shape) q h .accepted) want (stepRead s q)
+  pub read-is : (want : Want) (q : Query) → Askable s want → gate s q ≡ done tt → readHere t xs want q ≡ done (answerHere t xs want q)
+  read-is want q a h =
+      reading-is s xs (length old) known (cellRead s q) (gated s (known .shape) q h .accepted) (t .«second_edition») want (stepRead s q)
       (used-last s want (known .shape .axes-low) a)
 
-  both-done : (want : Want) (q : Query) → Askable s want → gate s q ≡ done tt
-      → bothCalls s xs old want q ≡ done (answer (asked s want q) (tableRecords s xs))
+  both-done : (want : Want) (q : Query) → Askable s want → gate s q ≡ done tt → bothCalls t xs old want q ≡ done (answerHere t xs want q)
   both-done want q a h =
-      both-is want q ∙ first-passed (askedOutcome s (recordsOf s xs) want) (first (gate s q) (readHere s xs want q)) (askable-passes want a)
-      ∙ first-passed (gate s q) (readHere s xs want q) h ∙ read-is want q a h
+      both-is want q ∙ first-passed (askedOutcome s (recordsOf s xs) want) (first (gate s q) (readHere t xs want q)) (askable-passes want a)
+      ∙ first-passed (gate s q) (readHere t xs want q) h ∙ read-is want q a h
 
 -- the facts behind a dose or derivative that is taken: neither call is refused
-pub record Taken (s : Shape) (xs old : List ℤ) (want : Want) (q : Query) (v : ℤ) : Type 0 where
-  pub table : AcceptedTable s xs old
-  pub can : Askable s want
-  pub passed : gate s q ≡ done tt
-  pub is : v ≡ answer (asked s want q) (tableRecords s xs)
+pub record Taken (t : FullShape) (xs old : List ℤ) (want : Want) (q : Query) (v : ℤ) : Type 0 where
+  pub table : AcceptedTable (t .shape) xs old
+  pub can : Askable (t .shape) want
+  pub passed : gate (t .shape) q ≡ done tt
+  pub is : v ≡ answerHere t xs want q
 
-pub taken : (s : Shape) (xs old : List ℤ) (want : Want) (q : Query) (v : ℤ) → bothCalls s xs old want q ≡ done v → Taken s xs old want q v
+pub taken : (t : FullShape) (xs old : List ℤ) (want : Want) (q : Query) (v : ℤ) → bothCalls t xs old want q ≡ done v
+    → Taken t xs old want q v
 unfolding bothCalls
-taken s xs old want q v h =
-    let t = first-done (estimateOutcome s xs (length old)) (queried s _ want q) v h .0 in
-    let f = first-done (askedOutcome s (recordsOf s xs) want) (first (gate s q) (readHere s xs want q)) v
-    (sym (both-is s xs old t want q) ∙ h) in
-    let g = first-done (gate s q) (readHere s xs want q) v (f .1) in
+taken t xs old want q v h =
+    let s = t .shape in
+    let e = first-done (estimateOutcome s xs (length old)) (queried t _ want q) v h .0 in
+    let f = first-done (askedOutcome s (recordsOf s xs) want) (first (gate s q) (readHere t xs want q)) v
+    (sym (both-is t xs old e want q) ∙ h) in
+    let g = first-done (gate s q) (readHere t xs want q) v (f .1) in
     let a = asked-known s (recordsOf s xs) want (f .0) in
-    record { table = t; can = a; passed = g .0; is = done-same v _ (sym (g .1) ∙ read-is s xs old t want q a (g .0)) }
+    record { table = e; can = a; passed = g .0; is = done-same v _ (sym (g .1) ∙ read-is t xs old e want q a (g .0)) }
 
 -- what is asked of a table of an accepted shape, for every number of steps
 pub proper : (s : Shape) (want : Want) (N cell u : Place) → Shaped s → Askable s want → ((a : ℕ) → 0 < N a)
@@ -135,73 +143,82 @@ proper s want N cell u ok a stepped inside = record {
 
 -- ---- the parts of the demand
 
-module _ (s : Shape) (xs old : List ℤ) (want : Want) (q : Query) where
-  pub third-reads : (v : ℤ) → bothCalls s xs old want q ≡ done v → Reads s q
-  third-reads v h = let t = taken s xs old want q v h in gated s (known s xs old (t .table) .shape) q (t .passed)
+module _ (t : FullShape) (xs old : List ℤ) (want : Want) (q : Query) where
+  abbrev shape : Shape
+  shape = t .shape
 
-  is-proper : (v : ℤ) → bothCalls s xs old want q ≡ done v → Proper (asked s want q)
+  pub third-reads : (v : ℤ) → bothCalls t xs old want q ≡ done v → Reads shape q
+  third-reads v h = let k = taken t xs old want q v h in gated shape (known t xs old (k .table) .shape) q (k .passed)
+
+  is-proper : (v : ℤ) → bothCalls t xs old want q ≡ done v → Proper (asked shape want q)
   unfolding askAt
   is-proper v h =
-      let t = taken s xs old want q v h in
-      proper s want (λ a. steps) (cellRead s q) (stepRead s q) (known s xs old (t .table) .shape) (t .can) (λ a. lit< tt)
+      let k = taken t xs old want q v h in
+      proper shape want (λ a. steps) (cellRead shape q) (stepRead shape q) (known t xs old (k .table) .shape) (k .can) (λ a. lit< tt)
       (third-reads v h .contains .upto)
 
-  pub third-distance : Distance s xs want q (bothCalls s xs old want q)
+  pub third-distance : Distance shape xs want q (bothCalls t xs old want q)
   unfolding askAt
   third-distance v h =
-      subst (λ z. WithinDistance (allowedDistance (orderWanted want) (s .axes)) z (exactSum (asked s want q) (tableRecords s xs))
-      (exactDivisor (asked s want q)))
-      (sym (taken s xs old want q v h .is)) (distance roundHalfUp half-up-sound (asked s want q) (is-proper v h) (tableRecords s xs))
+      subst (λ z. WithinDistance (allowedDistance (orderWanted want) (shape .axes)) z
+      (exactSum (asked shape want q) (tableRecords shape xs))
+      (exactDivisor (asked shape want q)))
+      (sym (taken t xs old want q v h .is))
+      (distance (roundingIn t) (edition-sound (t .«second_edition»)) (asked shape want q) (is-proper v h) (tableRecords shape xs))
 
-  pub third-agreement : Agreement s xs want q (bothCalls s xs old want q)
+  pub third-agreement : Agreement t xs want q (bothCalls t xs old want q)
   unfolding askAt
   third-agreement new r p v w c d h k =
-      taken s xs old want q v h .is
-      ∙ agreement roundHalfUp (asked s want q) (is-proper v h) (cellRead s r) (stepRead s r) (d .upto)
-      (λ a l. pos-inj (rejoined (p a) (steps * cellRead s q a) (stepRead s q a) (c .is a l)
-      ∙ sym (rejoined (p a) (steps * cellRead s r a) (stepRead s r a) (d .is a l)))) (tableRecords s xs)
-      ∙ sym (taken s xs new want r w k .is)
+      taken t xs old want q v h .is
+      ∙ agreement (roundingIn t) (asked shape want q) (is-proper v h) (cellRead shape r) (stepRead shape r) (d .upto)
+      (λ a l. pos-inj (rejoined (p a) (steps * cellRead shape q a) (stepRead shape q a) (c .is a l)
+      ∙ sym (rejoined (p a) (steps * cellRead shape r a) (stepRead shape r a) (d .is a l)))) (tableRecords shape xs)
+      ∙ sym (taken t xs new want r w k .is)
 
-  pub third-locality : Locality s xs old want q (bothCalls s xs old want q)
-  third-locality counts ys new t u same e =
-      both-is s xs old t want q
-      ∙ ap (λ (c : Check). first c (first (gate s q) (readHere s xs want q)))
-      (asked-is s xs old t want ∙ want-same s counts want ∙ sym (asked-is r ys new u want))
-      ∙ ap (λ (c : Check). first (askedOutcome r (recordsOf r ys) want) (first c (readHere s xs want q))) gates
-      ∙ first-after (askedOutcome r (recordsOf r ys) want) (first (gate r q) (readHere s xs want q))
-      (first (gate r q) (readHere r ys want q))
-      (λ f. first-after (gate r q) (readHere s xs want q) (readHere r ys want q)
+  pub third-locality : Locality t xs old want q (bothCalls t xs old want q)
+  third-locality counts ys new e u same c =
+      both-is t xs old e want q
+      ∙ ap (λ (c : Check). first c (first (gate shape q) (readHere t xs want q))) asked-same
+      ∙ ap (λ (c : Check). first (askedOutcome r (recordsOf r ys) want) (first c (readHere t xs want q))) gates
+      ∙ first-after (askedOutcome r (recordsOf r ys) want) (first (gate r q) (readHere t xs want q))
+      (first (gate r q) (readHere full ys want q))
+      (λ f. first-after (gate r q) (readHere t xs want q) (readHere full ys want q)
       (λ g. let a = asked-known r (recordsOf r ys) want f in
-      let h : Askable s want = asked-known s (recordsOf s xs) want
-      (asked-is s xs old t want ∙ want-same s counts want ∙ sym (asked-is r ys new u want) ∙ f) in
+      let h : Askable shape want = asked-known shape (recordsOf shape xs) want (asked-same ∙ f) in
       let p = gates ∙ g in
-      read-is s xs old t want q h p
-      ∙ ap done (block-local s xs (cellRead s q)
-      (gated s (known s xs old t .shape) q p .accepted) counts ys same want (stepRead s q)
-      (used-last s want (known s xs old t .shape .axes-low) h)
-      ∙ ap (λ (c : Place). answer (askAt r want c (stepRead s q)) (tableRecords r ys)) (sym e)
-      ∙ ap (λ (i : Place). answer (askAt r want (cellRead r q) i) (tableRecords r ys))
-      (sym (step-same s (known s xs old t .shape) counts (known r ys new u .shape) q e)))
-      ∙ sym (read-is r ys new u want q a g)))
-      ∙ sym (both-is r ys new u want q)
+      read-is t xs old e want q h p
+      ∙ ap done (block-local shape xs (cellRead shape q)
+      (gated shape (known t xs old e .shape) q p .accepted) (roundingIn t) counts ys same want (stepRead shape q)
+      (used-last shape want (known t xs old e .shape .axes-low) h)
+      ∙ ap (λ (c : Place). answerBy (roundingIn t) (askAt r want c (stepRead shape q)) (tableRecords r ys)) (sym c)
+      ∙ ap (λ (i : Place). answerBy (roundingIn t) (askAt r want (cellRead r q) i) (tableRecords r ys))
+      (sym (step-same shape (known t xs old e .shape) counts (known full ys new u .shape) q c)))
+      ∙ sym (read-is full ys new u want q a g)))
+      ∙ sym (both-is full ys new u want q)
     where
       r : Shape
-      r = recounted s counts
+      r = recounted shape counts
 
-      gates : gate s q ≡ gate r q
-      gates = gate-same s (known s xs old t .shape) counts (known r ys new u .shape) q xs ys same e
+      full : FullShape
+      full = fullShape r (t .«second_edition»)
 
-  pub third-no-gap : NoGap s xs old want q (bothCalls s xs old want q)
-  third-no-gap t a i = (_, both-done s xs old t want q a (gate-passes s (known s xs old t .shape) q i))
+      asked-same : askedOutcome shape (recordsOf shape xs) want ≡ askedOutcome r (recordsOf r ys) want
+      asked-same = asked-is t xs old e want ∙ want-same shape counts want ∙ sym (asked-is full ys new u want)
+
+      gates : gate shape q ≡ gate r q
+      gates = gate-same shape (known t xs old e .shape) counts (known full ys new u .shape) q xs ys same c
+
+  pub third-no-gap : NoGap shape xs old want q (bothCalls t xs old want q)
+  third-no-gap e a i = (_, both-done t xs old e want q a (gate-passes shape (known t xs old e .shape) q i))
 
 -- for all tables and all queries
 pub third-demand : ThirdDemand
-third-demand s xs old want q = record {
-  reads = third-reads s xs old want q;
-  distance = third-distance s xs old want q;
-  agreement = third-agreement s xs old want q;
-  locality = third-locality s xs old want q;
-  no-gap = third-no-gap s xs old want q;
+third-demand t xs old want q = record {
+  reads = third-reads t xs old want q;
+  distance = third-distance t xs old want q;
+  agreement = third-agreement t xs old want q;
+  locality = third-locality t xs old want q;
+  no-gap = third-no-gap t xs old want q;
 }
 
 -- ---- for a function that makes the two calls
@@ -223,16 +240,20 @@ outcome-of want (refused n p) = refl
 same-held : (want : Want) (o p : Outcome ℤ) → inFloat want o ≡ inFloat want p → o ≡ p
 same-held want o p e = sym (outcome-of want o) ∙ ap outcomeOf e ∙ outcome-of want p
 
-module _ (s : Shape) (xs old : List ℤ) (want : Want) (q : Query) where
-  pub both-refused : {n k : ℕ} → estimateOutcome s xs (length old) ≡ refused n k → refused n k ≡ bothCalls s xs old want q
-  unfolding bothCalls
-  both-refused e = sym (refused-first (queried s (take (size s) (estimateWrites s xs old)) want q) e)
+module _ (t : FullShape) (xs old : List ℤ) (want : Want) (q : Query) where
+  -- the query of the records that estimation wrote
+  abbrev pub query : Outcome ℤ
+  query = queried t (take (size (t .shape)) (estimateWrites (t .shape) xs old)) want q
 
-  pub both-asked : AcceptedTable s xs old → queried s (take (size s) (estimateWrites s xs old)) want q ≡ bothCalls s xs old want q
+  pub both-refused : {n k : ℕ} → estimateOutcome (t .shape) xs (length old) ≡ refused n k → refused n k ≡ bothCalls t xs old want q
   unfolding bothCalls
-  both-asked t = sym (first-passed (estimateOutcome s xs (length old)) (queried s (take (size s) (estimateWrites s xs old)) want q) t)
+  both-refused e = sym (refused-first query e)
+
+  pub both-asked : AcceptedTable (t .shape) xs old → query ≡ bothCalls t xs old want q
+  unfolding bothCalls
+  both-asked e = sym (first-passed (estimateOutcome (t .shape) xs (length old)) query e)
 
   -- what the two calls give, told as a float or as a whole number
-  pub claimed-told : (told : Outcome FloatValue) → told ≡ inFloat want (bothCalls s xs old want q) → (outcome : Outcome ℤ)
-      → told ≡ inFloat want outcome → Claimed s xs old want q outcome
-  claimed-told told e outcome h = rw (same-held want outcome (bothCalls s xs old want q) (sym h ∙ e)) (third-demand s xs old want q)
+  pub claimed-told : (told : Outcome FloatValue) → told ≡ inFloat want (bothCalls t xs old want q) → (outcome : Outcome ℤ)
+      → told ≡ inFloat want outcome → Claimed t xs old want q outcome
+  claimed-told told e outcome h = rw (same-held want outcome (bothCalls t xs old want q) (sym h ∙ e)) (third-demand t xs old want q)

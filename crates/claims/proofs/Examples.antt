@@ -1,17 +1,18 @@
 -- The worked examples with a star, and the further rows: every row computes what is printed. An example of straight data.
 use mathlib.Core.Path.{_≡_, refl, sym, ap₂, _∙_}
+use mathlib.Core.Bool.{false}
 use mathlib.Core.List.{List, _++_, map-append}
 use Prim.Native.Nat.{ℕ, _+_, _*_, _<_}
 use lib.Dec.{lit<}
 use lib.IntN.{pos}
-use Rattle.arith.specs.Int.{roundHalfUp, unsignedOf}
+use Rattle.arith.specs.Int.{roundHalfUp, isEven, roundHalfEven, roundingOf, unsignedOf}
 use Rattle.arith.specs.Sum.{sum, total, product, times}
 use Rattle.arith.specs.Choice.{pick}
 use Rattle.arith.proofs.Choices.{by-2, by-3}
 use Rattle.lattice.specs.Outcome.{firstOf}
 use Rattle.lattice.specs.Buffer.{at, tabulate}
 use Rattle.lattice.specs.Digits.{number, span, digit}
-use Rattle.lattice.specs.Shape.{count, ordersOf, nodes, entries, size, axesOutcome, degreeOutcome, countAllowed, countsOutcome, shapeOutcome}
+use Rattle.lattice.specs.Shape.{fullShape, count, ordersOf, nodes, entries, size, axesOutcome, degreeOutcome, countAllowed, countsOutcome, shapeOutcome}
 use Rattle.lattice.specs.Axes.{put, sweep, axes, without}
 use Rattle.lattice.specs.Records.{nodeNumber, samplesField, entryNumber, entryIndex, recordsField, entryPlace, totalOrder, entryLimit, limitOutcome}
 use Rattle.hermite.specs.Hermite.{steps, multiplier, mirrored, share, forward, solved, backward, weight, weightAt, divisor, stageSum}
@@ -19,7 +20,7 @@ use Rattle.cell.specs.Cell.{placeAt, cellOutcome, cornerPlace, cornerEntries, e
 use Rattle.cell.specs.Coefficients.{coefficients}
 use Rattle.cell.specs.Corners.{cornerNumbers}
 use Rattle.table_file.specs.Numbers.{numberAt, bytesOf, bytesOfAll, signedOf}
-use Rattle.table_file.specs.File.{sectionOne, sectionTwo, fileOf, complete, countIn, nodesIn, samplesIn, countOutcome, oneOutcome, nothingAfter, twoOutcome, readCheck}
+use Rattle.table_file.specs.File.{sectionOne, sectionTwo, sectionThree, fileOf, complete, countIn, nodesIn, samplesIn, startOfThree, secondIn, countOutcome, oneOutcome, twoOutcome, nothingAfter, threeOutcome, readCheck}
 use Rattle.estimate.specs.Estimate.{left, right, byOrder, estimate, records, tableRecords, recordsOf, estimateLimit, estimateOutcome, estimateWrites}
 use Rattle.coefficients.specs.Coefficients.{requestOutcome, coefficientList, coefficientsOutcome}
 use Rattle.corners.specs.Corners.{numbersOutcome, coefficientsField, doubledEntry, entryAllowed, possibleOutcome, entryList, backOutcome}
@@ -28,18 +29,18 @@ use Rattle.query.specs.Queries.{wantOutcome, askedOutcome, reading, positionTes
 use Rattle.floats.specs.Step.{step}
 use Rattle.float_query.specs.Floats.{floatsAt, stepsOf, floatOutcome, byFloat}
 use Rattle.claims.specs.Third.{atPosition, queried, pointOf, cellRead, stepRead, bothCalls, _over_, allowedDistance, WithinDistance}
-use Rattle.claims.specs.Examples.{Row, recordsFrom, coefficientsOf, coefficientsFrom, backInto, firstStage, exactly, answerTo, table, AllRows}
-use Rattle.claims.specs.Pinned.{answerFrom, notZero, sparse, among, numbered, limits, leftOver, distances, only, flat, fileWith, refusals, positions, readings, numbers, pins}
+use Rattle.claims.specs.Examples.{Row, recordsFrom, coefficientsOf, coefficientsFrom, backInto, firstStage, exactly, answerIn, table, AllRows}
+use Rattle.claims.specs.Pinned.{answerFrom, notZero, sparse, among, numbered, limits, leftOver, distances, only, flat, fileWith, refusals, positions, readings, numbers, editions, pins}
 use Rattle.claims.specs.Straight.{valueOf, valueAt, wantedOf, Straight, saddle, saddleTable, inSaddle, saddleRows}
 use Rattle.claims.proofs.Straight.{nearly-straight}
 
 -- all definitions that the rows compute with, opened together
 opened : Unit {0}
-unfolding answerFrom notZero sparse among numbered limits leftOver distances only flat fileWith allowedDistance readCheck twoOutcome
-    nothingAfter oneOutcome countOutcome samplesIn nodesIn countIn complete fileOf sectionTwo sectionOne bytesOfAll bytesOf numberAt
-    signedOf unsignedOf
+unfolding answerFrom notZero sparse among numbered limits leftOver distances only flat fileWith allowedDistance readCheck threeOutcome
+    nothingAfter twoOutcome oneOutcome countOutcome secondIn startOfThree samplesIn nodesIn countIn complete fileOf sectionThree sectionTwo
+    sectionOne bytesOfAll bytesOf numberAt signedOf unsignedOf
     step floatsAt stepsOf floatOutcome byFloat positionTest placeAt byCell testedOutcome stepsOutcome recordsFrom coefficientsOf
-    coefficientsFrom backInto firstStage exactly answerTo bothCalls
+    coefficientsFrom backInto firstStage exactly answerIn bothCalls
     queried cellRead stepRead byPosition positionStep positionCell cellOf positionOutcome positionAt reading askAt askedOutcome wantOutcome
     answerBy before inEighths toUnit toEighth stageOn exactDivisor divisorOn exactSum sumOver weightOn lastAxis orderOn orderWanted
     estimateWrites estimateOutcome estimateLimit recordsOf tableRecords records estimate byOrder right left coefficientsOutcome
@@ -48,7 +49,7 @@ unfolding answerFrom notZero sparse among numbered limits leftOver distances onl
     cellOutcome cornersOutcome entryOutcome cornerEntries cornerPlace stageSum divisor weightAt weight forward backward solved share
     mirrored multiplier limitOutcome entryLimit totalOrder entryPlace recordsField entryIndex entryNumber samplesField nodeNumber without
     axes sweep put shapeOutcome countsOutcome countAllowed degreeOutcome axesOutcome size entries nodes ordersOf count digit span number
-    tabulate firstOf pick times product total sum roundHalfUp
+    tabulate firstOf pick times product total sum roundingOf roundHalfEven isEven roundHalfUp
 opened = tt
 
 pub examples : AllRows table
@@ -72,11 +73,16 @@ of-numbers : AllRows numbers
 unfolding opened numbers
 of-numbers = refl
 
+of-editions : AllRows editions
+unfolding opened editions
+of-editions = refl
+
 pub pinned : AllRows pins
 unfolding pins
 pinned =
-    joined (refusals ++ positions ++ readings) numbers
-    (joined (refusals ++ positions) readings (joined refusals positions of-refusals of-positions) of-readings) of-numbers
+    joined (refusals ++ positions ++ readings ++ numbers) editions
+    (joined (refusals ++ positions ++ readings) numbers
+    (joined (refusals ++ positions) readings (joined refusals positions of-refusals of-positions) of-readings) of-numbers) of-editions
   where
     joined : (xs ys : List Row) → AllRows xs → AllRows ys → AllRows (xs ++ ys)
     joined xs ys e f = map-append (λ (r : Row). r .computed) xs ys ∙ ap₂ _++_ e f ∙ sym (map-append (λ (r : Row). r .printed) xs ys)
@@ -109,5 +115,6 @@ saddle-straight degree p here =
 pub saddle-near : WithinDistance (173 over 256) (pos 161) (valueAt saddle (λ a. steps) (positionAt inSaddle)) (steps * steps * steps)
 unfolding opened wantedOf pointOf
 saddle-near =
-    nearly-straight (saddleTable 3 .shape) (saddleTable 3 .samples) (tabulate 96 (λ i. pos 0)) saddle dose (atPosition inSaddle) (pos 161)
+    nearly-straight (fullShape (saddleTable 3 .shape) false) (saddleTable 3 .samples) (tabulate 96 (λ i. pos 0)) saddle dose
+    (atPosition inSaddle) (pos 161)
     (saddle-straight 3) refl

@@ -16,6 +16,7 @@ use Rattle.arith.specs.Choice.{pick}
 use Rattle.arith.proofs.Choices.{clash, pick-false}
 use Rattle.arith.proofs.Order.{nn-pos}
 use Rattle.lattice.specs.declared.Shape.{Shape}
+use Rattle.lattice.specs.declared.FullShape.{FullShape}
 use Rattle.lattice.specs.Outcome.{Check, done, refuseUnless, first, firstOf}
 use Rattle.lattice.specs.Buffer.{at}
 use Rattle.lattice.specs.Shape.{count, Shaped}
@@ -39,14 +40,15 @@ gate s (atPosition p) = firstOf 3 (positionOutcome s (positionAt p))
 gate s (inCell cell u) = first (cellOutcome s (placeAt cell)) (stepsOutcome s (placeAt u))
 gate s (atFloats x) = firstOf 3 (floatOutcome s x)
 
-pub by-gate : (s : Shape) (rs : List ℤ) (want : Want) (q : Query)
-    → queried s rs want q ≡ first (askedOutcome s rs want) (first (gate s q) (reading s rs want (cellRead s q) (stepRead s q)))
+pub by-gate : (t : FullShape) (rs : List ℤ) (want : Want) (q : Query) → let s = t .shape in
+    queried t rs want q ≡ first (askedOutcome s rs want) (first (gate s q) (reading t rs want (cellRead s q) (stepRead s q)))
 unfolding queried gate cellRead stepRead byCell testedOutcome byPosition byFloat
-by-gate s rs want (atPosition p) = refl
-by-gate s rs want (inCell cell u) =
+by-gate t rs want (atPosition p) = refl
+by-gate t rs want (inCell cell u) =
+    let s = t .shape in
     first-assoc (askedOutcome s rs want) (first (cellOutcome s (placeAt cell)) (stepsOutcome s (placeAt u)))
-    (reading s rs want (placeAt cell) (placeAt u))
-by-gate s rs want (atFloats x) = refl
+    (reading t rs want (placeAt cell) (placeAt u))
+by-gate t rs want (atFloats x) = refl
 
 -- ---- a cell and u
 

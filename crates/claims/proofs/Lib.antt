@@ -5,6 +5,7 @@ pub mod Block
 pub mod Gates
 pub mod Demand
 pub mod Straight
+pub mod Editions
 pub mod Corners
 pub mod Second
 pub mod Examples

@@ -10,15 +10,16 @@ use lib.Dec.{eqb, lit<}
 use lib.IntN.{ℤ, pos, natAbs, _+ℤ_, _*ℤ_}
 use borrow.Author.Tests.{ne-eqb}
 use Rattle.arith.specs.Choice.{pick}
-use Rattle.arith.specs.Int.{Rounding, roundHalfUp}
+use Rattle.arith.specs.Int.{Rounding}
 use Rattle.arith.specs.Sum.{times}
-use Rattle.arith.proofs.Round.{Sound, half-up-sound}
+use Rattle.arith.proofs.Round.{Sound}
+use Rattle.arith.proofs.Editions.{edition-sound}
 use Rattle.arith.proofs.Choices.{by-3, pick-false}
 use Rattle.arith.proofs.Laws.{*ℤ-assoc, *ℤ-left-comm}
 use Rattle.arith.proofs.Sums.{times-some}
 use Rattle.arith.proofs.Quote.{quotes, ring! }
 use Rattle.lattice.specs.declared.Shape.{Shape}
-use Rattle.lattice.specs.Shape.{count, orders, Shaped}
+use Rattle.lattice.specs.Shape.{roundingIn, count, orders, Shaped}
 use Rattle.lattice.specs.Axes.{Place, Field, Rule, origin, put, sweep, axes}
 use Rattle.lattice.specs.Records.{samplesField}
 use Rattle.lattice.proofs.Along.{linear-multiple, each-axes, fresh-axes, distinct-axes, sweep-fuse, same}
@@ -33,7 +34,7 @@ use Rattle.cell.specs.Cell.{Accepted}
 use Rattle.estimate.specs.Estimate.{estimate, records, tableRecords}
 use Rattle.estimate.proofs.EstimateLaws.{estimate-linear}
 use Rattle.estimate.proofs.Straight.{estimate-line}
-use Rattle.evaluate.specs.Evaluate.{Want, dose, derivativeAlong, orderWanted, Ask, orderOn, stageOn, divisorOn, exactSum, exactDivisor, answerBy, answer, askAt, askOf}
+use Rattle.evaluate.specs.Evaluate.{Want, dose, derivativeAlong, orderWanted, Ask, orderOn, stageOn, divisorOn, exactSum, exactDivisor, answerBy, askAt, askOf}
 use Rattle.evaluate.proofs.Exact.{exact-stages}
 use Rattle.evaluate.proofs.AnswerLaws.{order-smooth}
 use Rattle.query.specs.Queries.{Position}
@@ -230,25 +231,28 @@ exactly-straight s xs e want N cell u ok straight can here inside =
 
 pub nearly-straight : NearlyStraight
 unfolding askAt
-nearly-straight s xs old e want q v straight h =
+nearly-straight t xs old e want q v straight h =
     subst (λ z. WithinDistance (allowedDistance (orderWanted want) (s .axes)) z (valueAt (wantedOf want e) (λ a. steps) (pointOf q))
     (steps * steps * steps))
-    (sym (t .is))
-    (subst (λ (p : Position). WithinDistance (allowedDistance (orderWanted want) (s .axes)) (answer (asked s want q) (tableRecords s xs))
-    (valueAt (wantedOf want e) (λ a. steps) p) (steps * steps * steps))
+    (sym (k .is))
+    (subst (λ (p : Position). WithinDistance (allowedDistance (orderWanted want) (s .axes))
+    (answerBy (roundingIn t) (asked s want q) (tableRecords s xs)) (valueAt (wantedOf want e) (λ a. steps) p) (steps * steps * steps))
     (fun-ext (λ a. back a (decLt a (s .axes))))
-    (near-at s xs e want (λ a. steps) (cellRead s q) (stepRead s q) (λ a. natAbs (pointOf q a)) (ok .axes-high) straight (t .can)
+    (near-at s xs e want (λ a. steps) (cellRead s q) (stepRead s q) (λ a. natAbs (pointOf q a)) (ok .axes-high) straight (k .can)
     (r .accepted) (r .contains .upto) (λ a l. ap natAbs (point a l)) (λ a l. ap natAbs (r .point .unused a l))
-    roundHalfUp half-up-sound ok (λ a. lit< tt)))
+    (roundingIn t) (edition-sound (t .«second_edition»)) ok (λ a. lit< tt)))
   where
-    t : Taken s xs old want q v
-    t = taken s xs old want q v h
+    s : Shape
+    s = t .shape
+
+    k : Taken t xs old want q v
+    k = taken t xs old want q v h
 
     ok : Shaped s
-    ok = known s xs old (t .table) .shape
+    ok = known t xs old (k .table) .shape
 
     r : Reads s q
-    r = third-reads s xs old want q v h
+    r = third-reads t xs old want q v h
 
     point : (a : ℕ) → a < s .axes → pointOf q a ≡ pos (steps * cellRead s q a + stepRead s q a)
     point a l = sym (rejoined (pointOf q a) (steps * cellRead s q a) (stepRead s q a) (r .contains .is a l))

@@ -4,6 +4,7 @@ use mathlib.Core.List.{List}
 use lib.IntN.{ℤ}
 use lib.ListN.{length}
 use Rattle.lattice.specs.declared.Shape.{Shape}
+use Rattle.lattice.specs.declared.FullShape.{FullShape}
 use Rattle.lattice.specs.Shape.{orders}
 use Rattle.lattice.specs.Axes.{Place}
 use Rattle.lattice.specs.Records.{recordsField}
@@ -18,4 +19,5 @@ pub record SameCorners (s : Shape) (q : Query) (rs ts : List ℤ) : Type 0 where
 
 -- give the same number or the same refusal
 abbrev pub CornersOnly : Type 0
-CornersOnly = (s : Shape) (want : Want) (q : Query) (rs ts : List ℤ) → SameCorners s q rs ts → queried s rs want q ≡ queried s ts want q
+CornersOnly =
+    (t : FullShape) (want : Want) (q : Query) (rs ts : List ℤ) → SameCorners (t .shape) q rs ts → queried t rs want q ≡ queried t ts want q

@@ -1,5 +1,6 @@
--- The worked examples with a star: one table, computed by the definitions, and one claim that covers all its rows.
+-- The worked examples with a star, of edition one: one table, computed by the definitions, and one claim that covers all its rows.
 use mathlib.Core.Path.{_≡_}
+use mathlib.Core.Bool.{Bool, false}
 use mathlib.Core.List.{List, [], _∷_, map}
 use Prim.Native.Nat.{ℕ}
 use lib.IntN.{ℤ, pos, negsuc, _-ℤ_, _*ℤ_}
@@ -7,7 +8,7 @@ use Rattle.arith.specs.Int.{roundHalfUp, floorDiv}
 use Rattle.lattice.specs.declared.Shape.{Shape}
 use Rattle.lattice.specs.Outcome.{Outcome, done, refused, first}
 use Rattle.lattice.specs.Buffer.{tabulate}
-use Rattle.lattice.specs.Shape.{shapeOf, ordersOf, orders, size}
+use Rattle.lattice.specs.Shape.{shapeOf, fullShape, ordersOf, orders, size}
 use Rattle.lattice.specs.Axes.{origin, along}
 use Rattle.lattice.specs.Records.{recordsField}
 use Rattle.estimate.specs.Estimate.{tableRecords, recordsOf, estimateOutcome}
@@ -59,9 +60,13 @@ exactly t want p =
     let v = floorDiv x (exactDivisor q) in
     done (v ∷ (x -ℤ v *ℤ pos (exactDivisor q)) ∷ [])
 
--- estimation, then the query by position
-unfoldable pub answerTo : Table → Want → List ℤ → Outcome (List ℤ)
-answerTo t want p = listed (bothCalls (t .shape) (t .samples) (tabulate (size (t .shape)) (λ i. pos 0)) want (atPosition p))
+-- estimation, then the query by position, in an edition
+unfoldable pub answerIn : (secondEdition : Bool) → Table → Want → List ℤ → Outcome (List ℤ)
+answerIn secondEdition t want p =
+    listed (bothCalls (fullShape (t .shape) secondEdition) (t .samples) (tabulate (size (t .shape)) (λ i. pos 0)) want (atPosition p))
+
+abbrev pub answerTo : Table → Want → List ℤ → Outcome (List ℤ)
+answerTo = answerIn false
 
 -- ---- rows
 

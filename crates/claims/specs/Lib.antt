@@ -1,4 +1,4 @@
--- Reading order: Third, Second, Corners, Calls, Examples, Pinned, Straight.
+-- Reading order: Third, Second, Corners, Calls, Examples, Pinned, Straight, Editions.
 pub mod Third
 pub mod Second
 pub mod Corners
@@ -6,3 +6,4 @@ pub mod Calls
 pub mod Examples
 pub mod Pinned
 pub mod Straight
+pub mod Editions

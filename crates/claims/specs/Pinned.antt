@@ -1,7 +1,7 @@
 -- Further rows: where a theorem would hold of more than one reading of document 01, a computed row fixes the reading.
 -- Refusal numbers, places and order, those of a position apart; borders; the order of nodes, entries, coefficients and corners on two and
--- three axes; limits; the order of the stages; the cell of a shared node; curvatures; the distances.
-use mathlib.Core.Bool.{true}
+-- three axes; limits; the order of the stages; the cell of a shared node; curvatures; the distances; the rounding of both editions.
+use mathlib.Core.Bool.{Bool, true, false}
 use mathlib.Core.List.{List, [], _∷_, _++_}
 use Prim.Native.Nat.{ℕ, suc, _+_, _*_, _-_}
 use lib.Dec.{eqb}
@@ -12,7 +12,7 @@ use Rattle.arith.specs.Choice.{pick}
 use Rattle.lattice.specs.declared.Shape.{Shape}
 use Rattle.lattice.specs.Outcome.{Outcome, Check, done, refused}
 use Rattle.lattice.specs.Buffer.{tabulate}
-use Rattle.lattice.specs.Shape.{shapeOf, size}
+use Rattle.lattice.specs.Shape.{shapeOf, fullShape, size}
 use Rattle.lattice.specs.Digits.{digit}
 use Rattle.lattice.specs.Records.{entryLimit}
 use Rattle.estimate.specs.Estimate.{tableRecords, estimateOutcome}
@@ -20,7 +20,7 @@ use Rattle.evaluate.specs.Evaluate.{Want, dose, slopeAlong, curvatureAlong, ord
 use Rattle.table_file.specs.File.{readCheck, fileOf, header}
 use Rattle.float_query.specs.Floats.{floatsAt}
 use Rattle.claims.specs.Third.{Query, atPosition, inCell, atFloats, queried, allowedDistance, asked}
-use Rattle.claims.specs.Examples.{Table, listed, Row, _gives_, _refusedAs_atPlace_, recordsFrom, coefficientsOf, backFrom, backInto, pair, at-x}
+use Rattle.claims.specs.Examples.{Table, listed, Row, _gives_, _refusedAs_atPlace_, recordsFrom, coefficientsOf, backFrom, backInto, answerIn, pair, at-x}
 
 -- ---- what a row computes
 
@@ -29,9 +29,9 @@ abbrev pub tested : Check → Outcome (List ℤ)
 tested (done u) = done []
 tested (refused number place) = refused number place
 
--- a query of records
+-- a query of records, in edition one
 unfoldable pub answerFrom : Shape → List ℤ → Want → Query → Outcome (List ℤ)
-answerFrom s rs want q = listed (queried s rs want q)
+answerFrom s rs want q = listed (queried (fullShape s false) rs want q)
 
 -- the numbers of a list that are not 0, each after its index; the first has index i
 unfoldable pub notZero : ℕ → List ℤ → List ℤ
@@ -114,9 +114,9 @@ atPoint x y z = atPosition (x ∷ y ∷ z ∷ [])
 abbrev pub start : Query
 start = atPoint (pos 0) (pos 0) (pos 0)
 
--- the file of 0, 100 with more bytes
-unfoldable pub fileWith : List ℕ → List ℕ
-fileWith more = fileOf (header 1 (2 ∷ 1 ∷ 1 ∷ [])) (pos 0 ∷ pos 100 ∷ []) ++ more
+-- the file of 0, 100 in edition two or one, with more bytes
+unfoldable pub fileWith : Bool → List ℕ → List ℕ
+fileWith second more = fileOf (header 1 (2 ∷ 1 ∷ 1 ∷ []) second) (pos 0 ∷ pos 100 ∷ []) ++ more
 
 -- ---- refusals: numbers, places and order
 
@@ -134,7 +134,7 @@ refusals =
     ∷ (tested (estimateOutcome threeNodes (pos 0 ∷ negsuc 32768 ∷ pos 16385 ∷ []) 6) refusedAs 19 atPlace 1)
     ∷ (tested (estimateOutcome plane (pos 8192 ∷ negsuc 8191 ∷ pos 0 ∷ negsuc 8192 ∷ []) 16) refusedAs 19 atPlace 3)
     ∷ (tested (estimateOutcome cube (onCube (pos 4096 ∷ negsuc 4095 ∷ pos 4097 ∷ [])) 64) refusedAs 19 atPlace 2)
-    ∷ (tested (readCheck (fileOf (header 1 (3 ∷ 1 ∷ 1 ∷ [])) (pos 32768 ∷ negsuc 32767 ∷ pos 32769 ∷ [])) 3) refusedAs 5 atPlace 2)
+    ∷ (tested (readCheck (fileOf (header 1 (3 ∷ 1 ∷ 1 ∷ []) false) (pos 32768 ∷ negsuc 32767 ∷ pos 32769 ∷ [])) 3) refusedAs 5 atPlace 2)
     -- 15 before 9; the place of 13 is 0 wherever the entry stands
     ∷ (backInto 0 1 3 (pos 0 ∷ []) refusedAs 15 atPlace 0)
     ∷ (backFrom 1 3 (pos 0 ∷ pos 0 ∷ pos 65537 ∷ pos 0 ∷ []) refusedAs 13 atPlace 0)
@@ -148,8 +148,9 @@ refusals =
     refusedAs 12 atPlace 0)
     ∷ (answerFrom plane (only plane 0 (pos 32769)) dose (inCell (0 ∷ 1 ∷ 0 ∷ []) (257 ∷ 0 ∷ 0 ∷ [])) refusedAs 14 atPlace 1)
     ∷ (answerFrom plane (only plane 0 (pos 32769)) dose (inCell (0 ∷ 0 ∷ 0 ∷ []) (256 ∷ 257 ∷ 0 ∷ [])) refusedAs 11 atPlace 1)
-    -- the place of 7 is the first spare byte
-    ∷ (tested (readCheck (fileWith (0 ∷ 0 ∷ [])) 0) refusedAs 7 atPlace 20)
+    -- bytes after the samples begin section three; the place of 7 is the first byte after it
+    ∷ (tested (readCheck (fileWith false (0 ∷ 0 ∷ [])) 0) refusedAs 6 atPlace 22)
+    ∷ (tested (readCheck (fileWith true (0 ∷ 0 ∷ [])) 0) refusedAs 7 atPlace 28)
     ∷ []
 
 -- ---- refusals of a position
@@ -237,5 +238,25 @@ numbers =
     ∷ pos 1 ∷ pos 2 ∷ pos 3 ∷ pos 2 ∷ pos 11 ∷ pos 4 ∷ [])
     ∷ []
 
+-- ---- editions: halves up, and to the even number
+
+-- two axes 2 by 2
+abbrev pub fourSamples : ℤ → ℤ → ℤ → ℤ → Table
+fourSamples a b c d = record { shape = plane; samples = a ∷ b ∷ c ∷ d ∷ [] }
+
+unfoldable pub editions : List Row
+editions =
+    -- 1/2 and 5/2, on one axis
+    (answerIn false (pair 3 (pos 0) (pos 1)) dose (at-x 128) gives pos 1 ∷ [])
+    ∷ (answerIn true (pair 3 (pos 0) (pos 1)) dose (at-x 128) gives pos 0 ∷ [])
+    ∷ (answerIn false (pair 3 (pos 2) (pos 3)) dose (at-x 128) gives pos 3 ∷ [])
+    ∷ (answerIn true (pair 3 (pos 2) (pos 3)) dose (at-x 128) gives pos 2 ∷ [])
+    -- on two axes: a half in the first stage that changes the last, and a half in the last
+    ∷ (answerIn false (fourSamples (pos 0) (negsuc 6) (negsuc 2) (pos 6)) dose (pos 16 ∷ pos 16 ∷ pos 0 ∷ []) gives pos 0 ∷ [])
+    ∷ (answerIn true (fourSamples (pos 0) (negsuc 6) (negsuc 2) (pos 6)) dose (pos 16 ∷ pos 16 ∷ pos 0 ∷ []) gives negsuc 0 ∷ [])
+    ∷ (answerIn false (fourSamples (pos 0) (pos 7) (negsuc 7) (negsuc 7)) dose (at-x 16) gives pos 1 ∷ [])
+    ∷ (answerIn true (fourSamples (pos 0) (pos 7) (negsuc 7) (negsuc 7)) dose (at-x 16) gives pos 0 ∷ [])
+    ∷ []
+
 unfoldable pub pins : List Row
-pins = refusals ++ positions ++ readings ++ numbers
+pins = refusals ++ positions ++ readings ++ numbers ++ editions

@@ -6,6 +6,7 @@ use mathlib.Core.List.{List, [], _∷_}
 use Prim.Native.Nat.{ℕ, zero, suc, _+_, _*_, _≤_, _<_}
 use lib.IntN.{ℤ, pos, negsuc, _+ℤ_, _*ℤ_}
 use Rattle.lattice.specs.declared.Shape.{Shape}
+use Rattle.lattice.specs.declared.FullShape.{FullShape}
 use Rattle.lattice.specs.Outcome.{done}
 use Rattle.lattice.specs.Shape.{shapeOf, count, Shaped}
 use Rattle.lattice.specs.Axes.{Place, OnUsed}
@@ -79,9 +80,9 @@ ExactlyStraight =
 -- every dose and derivative that the two calls give is within the distance of the third demand of it
 abbrev pub NearlyStraight : Type 0
 NearlyStraight =
-    (s : Shape) (xs old : List ℤ) (e : Expression) (want : Want) (q : Query) (v : ℤ)
-    → Straight s xs e → bothCalls s xs old want q ≡ done v
-    → WithinDistance (allowedDistance (orderWanted want) (s .axes)) v (valueAt (wantedOf want e) (λ a. steps) (pointOf q))
+    (t : FullShape) (xs old : List ℤ) (e : Expression) (want : Want) (q : Query) (v : ℤ)
+    → Straight (t .shape) xs e → bothCalls t xs old want q ≡ done v
+    → WithinDistance (allowedDistance (orderWanted want) (t .shape .axes)) v (valueAt (wantedOf want e) (λ a. steps) (pointOf q))
     (steps * steps * steps)
 
 -- ---- an example

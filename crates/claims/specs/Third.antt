@@ -10,8 +10,9 @@ use lib.ListN.{length, take}
 use lib.IntN.{ℤ, pos, natAbs, _-ℤ_, _*ℤ_}
 use lib.Signed.{_≤ℤ_}
 use Rattle.lattice.specs.declared.Shape.{Shape}
+use Rattle.lattice.specs.declared.FullShape.{FullShape}
 use Rattle.lattice.specs.Outcome.{Outcome, done, first}
-use Rattle.lattice.specs.Shape.{shapeOf, count, orders, size}
+use Rattle.lattice.specs.Shape.{shapeOf, fullShape, count, orders, size}
 use Rattle.lattice.specs.Axes.{Place, OnUsed}
 use Rattle.lattice.specs.Records.{samplesField}
 use Rattle.hermite.specs.Hermite.{steps}
@@ -31,10 +32,10 @@ pub data Query : Type 0 where
   atFloats : (ℕ → Float) → Query
 
 -- what a query gives from the records that it is lent
-unfoldable pub queried : Shape → List ℤ → Want → Query → Outcome ℤ
-queried s rs want (atPosition p) = byPosition s rs want (positionAt p)
-queried s rs want (inCell cell u) = byCell s rs want (placeAt cell) (placeAt u)
-queried s rs want (atFloats x) = byFloat s rs want x
+unfoldable pub queried : FullShape → List ℤ → Want → Query → Outcome ℤ
+queried t rs want (atPosition p) = byPosition t rs want (positionAt p)
+queried t rs want (inCell cell u) = byCell t rs want (placeAt cell) (placeAt u)
+queried t rs want (atFloats x) = byFloat t rs want x
 
 -- the point of a query: for a cell and u, on each axis, 256 times the cell's index plus u; for a float the step it becomes
 unfoldable pub pointOf : Query → Position
@@ -72,8 +73,10 @@ abbrev pub AcceptedTable : Shape → List ℤ → List ℤ → Type 0
 AcceptedTable s xs old = estimateOutcome s xs (length old) ≡ done tt
 
 -- estimation of the samples `xs` into the slice `old`, then the query, which is lent exactly the records that estimation wrote
-unfoldable pub bothCalls : Shape → List ℤ → List ℤ → Want → Query → Outcome ℤ
-bothCalls s xs old want q = first (estimateOutcome s xs (length old)) (queried s (take (size s) (estimateWrites s xs old)) want q)
+unfoldable pub bothCalls : FullShape → List ℤ → List ℤ → Want → Query → Outcome ℤ
+bothCalls t xs old want q =
+    let s = t .shape in
+    first (estimateOutcome s xs (length old)) (queried t (take (size s) (estimateWrites s xs old)) want q)
 
 -- ---- distance
 
@@ -116,11 +119,12 @@ Distance s xs want q given =
 -- ---- agreement
 
 -- a query of the same table gives the same number, where its cell and the one that q reads contain one point
-abbrev pub Agreement : Shape → List ℤ → Want → Query → Outcome ℤ → Type 0
-Agreement s xs want q given =
+abbrev pub Agreement : FullShape → List ℤ → Want → Query → Outcome ℤ → Type 0
+Agreement t xs want q given =
+    let s = t .shape in
     (old : List ℤ) (r : Query) (p : Position) (v w : ℤ)
     → Contains s (cellRead s q) (stepRead s q) p → Contains s (cellRead s r) (stepRead s r) p
-    → given ≡ done v → bothCalls s xs old want r ≡ done w → v ≡ w
+    → given ≡ done v → bothCalls t xs old want r ≡ done w → v ≡ w
 
 -- ---- locality
 
@@ -145,12 +149,14 @@ pub record AgreeOnBlock (s t : Shape) (cell : Place) (xs ys : List ℤ) : Type 0
   pub back : (a : ℕ) → a < s .axes → (i : ℕ) → NearCell (count t a) (cell a) i → i < count s a
   pub samples : (p : Place) → InBlock s cell p → samplesField s xs p ≡ samplesField t ys p
 
--- a query that reads the same cell in two tables, which agree on its block, has the same answer in both; the tables may differ in size
-abbrev pub Locality : Shape → List ℤ → List ℤ → Want → Query → Outcome ℤ → Type 0
-Locality s xs old want q given =
+-- a query that reads the same cell in two tables of one edition, which agree on its block, has the same answer in both; the tables may
+-- differ in size
+abbrev pub Locality : FullShape → List ℤ → List ℤ → Want → Query → Outcome ℤ → Type 0
+Locality t xs old want q given =
+    let s = t .shape in
     (counts : List ℕ) (ys new : List ℤ) → AcceptedTable s xs old → AcceptedTable (recounted s counts) ys new
     → AgreeOnBlock s (recounted s counts) (cellRead s q) xs ys → cellRead (recounted s counts) q ≡ cellRead s q
-    → given ≡ bothCalls (recounted s counts) ys new want q
+    → given ≡ bothCalls (fullShape (recounted s counts) (t .«second_edition»)) ys new want q
 
 -- ---- no gap
 
@@ -178,13 +184,13 @@ pub record Reads (s : Shape) (q : Query) : Type 0 where
   pub contains : Contains s (cellRead s q) (stepRead s q) (pointOf q)
 
 -- what is claimed of what the two calls give
-pub record Claimed (s : Shape) (xs old : List ℤ) (want : Want) (q : Query) (given : Outcome ℤ) : Type 0 where
-  pub reads : (v : ℤ) → given ≡ done v → Reads s q
-  pub distance : Distance s xs want q given
-  pub agreement : Agreement s xs want q given
-  pub locality : Locality s xs old want q given
-  pub no-gap : NoGap s xs old want q given
+pub record Claimed (t : FullShape) (xs old : List ℤ) (want : Want) (q : Query) (given : Outcome ℤ) : Type 0 where
+  pub reads : (v : ℤ) → given ≡ done v → Reads (t .shape) q
+  pub distance : Distance (t .shape) xs want q given
+  pub agreement : Agreement t xs want q given
+  pub locality : Locality t xs old want q given
+  pub no-gap : NoGap (t .shape) xs old want q given
 
--- for all tables and all queries
+-- for all tables, of both editions, and all queries
 abbrev pub ThirdDemand : Type 0
-ThirdDemand = (s : Shape) (xs old : List ℤ) (want : Want) (q : Query) → Claimed s xs old want q (bothCalls s xs old want q)
+ThirdDemand = (t : FullShape) (xs old : List ℤ) (want : Want) (q : Query) → Claimed t xs old want q (bothCalls t xs old want q)

@@ -13,8 +13,8 @@ use evaluate::Derivative;
 use float_query::FloatPosition;
 use float_query::FloatReading;
 use lattice::Check;
+use lattice::FullShape;
 use lattice::Refusal;
-use lattice::Shape;
 use query::CellQuery;
 use query::Query;
 use query::Reading;
@@ -48,57 +48,57 @@ pub enum Reply {
 }
 
 // The query by position.
-fn by_position(s: Shape, records: &[i32], p: Steps, derivative: Derivative) -> Reading
-    ensures { λ r. ⌜ outcomeOfReading r ≡ byPosition s (now (records .entry)) (wanted derivative) (positionAt (stepsIn p)) ⌝ }
+fn by_position(t: FullShape, records: &[i32], p: Steps, derivative: Derivative) -> Reading
+    ensures { λ r. ⌜ outcomeOfReading r ≡ byPosition t (now (records .entry)) (wanted derivative) (positionAt (stepsIn p)) ⌝ }
 {
     let q = Query {
         position: [p.x, p.y, p.z],
         derivative: derivative,
     };
-    query::at_position(s, records, q)
+    query::at_position(t, records, q)
 }
 
 // The query by cell and in-cell step.
-fn by_cell(s: Shape, records: &[i32], c: Indices, u: Indices, derivative: Derivative) -> Reading
-    ensures { λ r. ⌜ outcomeOfReading r ≡ byCell s (now (records .entry)) (wanted derivative) (placeAt (indicesIn c)) (placeAt (indicesIn u)) ⌝ }
+fn by_cell(t: FullShape, records: &[i32], c: Indices, u: Indices, derivative: Derivative) -> Reading
+    ensures { λ r. ⌜ outcomeOfReading r ≡ byCell t (now (records .entry)) (wanted derivative) (placeAt (indicesIn c)) (placeAt (indicesIn u)) ⌝ }
 {
     let q = CellQuery {
         cell: [c.x, c.y, c.z],
         step: [u.x, u.y, u.z],
         derivative: derivative,
     };
-    query::in_cell(s, records, q)
+    query::in_cell(t, records, q)
 }
 
 // The query that a question stands for.
-fn ask(s: Shape, records: &[i32], q: Question, derivative: Derivative) -> Reply
-    ensures { λ r. ⌜ Gives (wanted derivative) r (queried s (now (records .entry)) (wanted derivative) (queryOf q)) ⌝ }
+fn ask(t: FullShape, records: &[i32], q: Question, derivative: Derivative) -> Reply
+    ensures { λ r. ⌜ Gives (wanted derivative) r (queried t (now (records .entry)) (wanted derivative) (queryOf q)) ⌝ }
 {
     match q {
-        Question::Position(p) => Reply::Whole(by_position(s, records, p, derivative)),
-        Question::Cell(c, u) => Reply::Whole(by_cell(s, records, c, u, derivative)),
-        Question::Floats(p) => Reply::Float(float_query::at_float(s, records, p, derivative)),
+        Question::Position(p) => Reply::Whole(by_position(t, records, p, derivative)),
+        Question::Cell(c, u) => Reply::Whole(by_cell(t, records, c, u, derivative)),
+        Question::Floats(p) => Reply::Float(float_query::at_float(t, records, p, derivative)),
     }
 }
 
 // Estimation, then a query, which is lent exactly the records that estimation wrote.
 pub fn estimate_and_ask(
-    s: Shape,
+    t: FullShape,
     samples: &[i32],
     records: &mut [i32],
     q: Question,
     derivative: Derivative,
 ) -> Reply
-    ensures given { λ r. ⌜ Gives (wanted derivative) r (bothCalls s (now (samples .entry)) (now (records .entry)) (wanted derivative) (queryOf q)) ⌝ }
-    ensures written { λ r. ⌜ now (records .exit) ≡ estimateWrites s (now (samples .entry)) (now (records .entry)) ⌝ }
-    ensures claimed { λ r. ⌜ ((outcome : Outcome ℤ) → Gives (wanted derivative) r outcome → Claimed s (now (samples .entry)) (now (records .entry)) (wanted derivative) (queryOf q) outcome) ⌝ }
+    ensures given { λ r. ⌜ Gives (wanted derivative) r (bothCalls t (now (samples .entry)) (now (records .entry)) (wanted derivative) (queryOf q)) ⌝ }
+    ensures written { λ r. ⌜ now (records .exit) ≡ estimateWrites (t .shape) (now (samples .entry)) (now (records .entry)) ⌝ }
+    ensures claimed { λ r. ⌜ ((outcome : Outcome ℤ) → Gives (wanted derivative) r outcome → Claimed t (now (samples .entry)) (now (records .entry)) (wanted derivative) (queryOf q) outcome) ⌝ }
 {
-    let answer = estimate::estimate(s, samples, records);
+    let answer = estimate::estimate(t.shape, samples, records);
     match answer {
         Check::Refused(r) => Reply::Refused(r),
         Check::Done => {
-            let n = lattice::table_entries(s);
-            ask(s, &records[..n], q, derivative)
+            let n = lattice::table_entries(t.shape);
+            ask(t, &records[..n], q, derivative)
         }
     }
 }

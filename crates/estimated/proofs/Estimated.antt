@@ -1,6 +1,7 @@
 -- The records that estimation wrote, as a query reads them at the corners of an accepted cell: they are those of the rules, within their
 -- limits, and the query gives the stages' number.
 use mathlib.Core.Path.{_≡_, sym, ap, _∙_}
+use mathlib.Core.Bool.{Bool}
 use mathlib.Core.List.{List}
 use Prim.Native.Nat.{ℕ, _+_, _/_, _≤_, _<_}
 use native.Mathlib.Nat.{le-trans, le-of-eq, zero-div}
@@ -8,12 +9,12 @@ use native.Mathlib.Omega.{arith}
 use lib.ListN.{length, take, drop, length-append}
 use lib.Seq.{take-at}
 use lib.IntN.{ℤ, natAbs}
-use Rattle.arith.specs.Int.{roundHalfUp}
+use Rattle.arith.specs.Int.{roundingOf}
 use Rattle.arith.proofs.Choices.{by-m}
 use Rattle.lattice.specs.declared.Shape.{Shape}
 use Rattle.lattice.specs.Outcome.{done}
 use Rattle.lattice.specs.Buffer.{overwrite}
-use Rattle.lattice.specs.Shape.{count, orders, size}
+use Rattle.lattice.specs.Shape.{fullShape, count, orders, size}
 use Rattle.lattice.specs.Axes.{Place}
 use Rattle.lattice.specs.Records.{recordsField, entryLimit}
 use Rattle.lattice.proofs.OutcomeLaws.{first-passed, when-done}
@@ -23,7 +24,7 @@ use Rattle.cell.specs.Cell.{Accepted, AtEnds, InCorners, cornersOutcome}
 use Rattle.cell.proofs.CornerLaws.{corners-pass}
 use Rattle.estimate.specs.Estimate.{Estimable, tableRecords, recordsOf, estimateOutcome, estimateWrites}
 use Rattle.estimate.proofs.CallLaws.{records-length, read-back, entry-limit}
-use Rattle.evaluate.specs.Evaluate.{Want, lastAxis, answer, askAt}
+use Rattle.evaluate.specs.Evaluate.{Want, lastAxis, answerBy, askAt}
 use Rattle.evaluate.proofs.AnswerLaws.{answer-local}
 use Rattle.query.specs.Queries.{reading}
 
@@ -71,10 +72,12 @@ module _ (s : Shape) (xs : List ℤ) (room : ℕ) (e : Estimable s xs room) (cel
   corners-done = corners-pass s (recordsOf s xs) cell field-within (e .shape) here
 
   -- what a query reads there
-  pub reading-is : (want : Want) (step : Place) → lastAxis (s .axes) want < s .axes
-      → reading s (recordsOf s xs) want cell step ≡ done (answer (askAt s want cell step) (tableRecords s xs))
+  pub reading-is : (even : Bool) (want : Want) (step : Place) → lastAxis (s .axes) want < s .axes
+      → reading (fullShape s even) (recordsOf s xs) want cell step
+      ≡ done (answerBy (roundingOf even) (askAt s want cell step) (tableRecords s xs))
   unfolding reading askAt
-  reading-is want step last =
+  reading-is even want step last =
       first-passed (cornersOutcome s (recordsOf s xs) cell)
-      (done (answer (askAt s want cell step) (recordsField s (recordsOf s xs)))) corners-done
-      ∙ ap done (answer-local roundHalfUp (askAt s want cell step) last (recordsField s (recordsOf s xs)) (tableRecords s xs) field-same)
+      (done (answerBy (roundingOf even) (askAt s want cell step) (recordsField s (recordsOf s xs)))) corners-done
+      ∙ ap done (answer-local (roundingOf even) (askAt s want cell step) last (recordsField s (recordsOf s xs)) (tableRecords s xs)
+      field-same)

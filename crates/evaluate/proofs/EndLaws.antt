@@ -63,10 +63,10 @@ module _ (m : ℕ) (g : ℕ → ℤ) (p orderStride : ℕ) (a b : ℤ) (ea : a �
 -- ---- numbers read from index p of a list on
 
 module _ (xs : List ℤ) (p : ℕ) where
-  abbrev part : List ℤ
+  abbrev pub part : List ℤ
   part = take (length xs - p) (drop p xs)
 
-  part-at : (i : ℕ) → at part i ≡ at xs (p + i)
+  pub part-at : (i : ℕ) → at part i ≡ at xs (p + i)
   part-at i = ap (λ (l : List ℤ). at l i) (take-all (length xs - p) (drop p xs) (le-of-eq (length-drop p xs))) ∙ getD-drop p xs i (pos 0)
 
   pub part-index : (i : ℕ) → p + i < length xs → i < length part

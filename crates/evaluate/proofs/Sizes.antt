@@ -21,7 +21,7 @@ use Rattle.lattice.proofs.Along.{put-at, put-off, put-swap, Each, Fresh, Distin
 use Rattle.hermite.proofs.Sizes.{eighth-size, unit-size}
 use Rattle.cell.specs.Cell.{AtEnds, InCorners}
 use Rattle.hermite.specs.Stage.{Smooth}
-use Rattle.evaluate.specs.Evaluate.{Ask, orderWanted, orderOn, lastAxis, divisorOn, stageOn, toEighth, toUnit, inEighths, before, answerBy, answer}
+use Rattle.evaluate.specs.Evaluate.{Ask, orderWanted, orderOn, lastAxis, divisorOn, stageOn, toEighth, toUnit, inEighths, before, answerBy}
 use Rattle.evaluate.proofs.AnswerLaws.{order-before, order-smooth, each-before, distinct-before, fresh-before, answer-anywhere}
 
 -- ---- orders that are 0 on the axes worked off

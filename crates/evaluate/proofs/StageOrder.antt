@@ -1,5 +1,5 @@
 -- The axes in their working order, and the stages of two or three of them.
-use mathlib.Core.Path.{_≡_, refl, sym, ap, subst}
+use mathlib.Core.Path.{_≡_, refl, sym, ap, subst, _∙_}
 use mathlib.Core.Bool.{Bool, true, false}
 use mathlib.Core.List.{List, [], _∷_}
 use Prim.Native.Nat.{ℕ, _≤_, _<_}
@@ -80,14 +80,18 @@ module _ {round : Rounding} {m order : ℕ} {a c : Strides} (b : Strides) {x z :
     three-give true e is = record { last = z; others = y ∷ x ∷ []; made-last = made-z; made = (made-y, (made-x, tt)); is = is }
     three-give false e is = apart false e refl
 
--- two stages with m as a constant k
-module _ (round : Rounding) (y x : Axis) (n : ℕ) (g : ℕ → ℤ) (p m k : ℕ) (e : m ≡ k) where
+-- two stages with m and the rounding as constants
+module _ (round constant : Rounding) (y x : Axis) (n : ℕ) (g : ℕ → ℤ) (p m k : ℕ) (e : m ≡ k) (er : round ≡ constant) where
   pub second-as : (shift : ℕ) → AllPrepared m (y ∷ x ∷ []) × (shift ≤ 44) → Safe round m n (y ∷ x ∷ []) g p
-      → (AllPrepared k (y ∷ x ∷ []) × (shift ≤ 44)) × Safe round k n (y ∷ x ∷ []) g p
-  second-as shift h s = subst (λ (i : ℕ). (AllPrepared i (y ∷ x ∷ []) × (shift ≤ 44)) × Safe round i n (y ∷ x ∷ []) g p) e (h, s)
+      → (AllPrepared k (y ∷ x ∷ []) × (shift ≤ 44)) × Safe constant k n (y ∷ x ∷ []) g p
+  second-as shift h s =
+      subst (λ (r : Rounding). (AllPrepared k (y ∷ x ∷ []) × (shift ≤ 44)) × Safe r k n (y ∷ x ∷ []) g p) er
+      (subst (λ (i : ℕ). (AllPrepared i (y ∷ x ∷ []) × (shift ≤ 44)) × Safe round i n (y ∷ x ∷ []) g p) e (h, s))
 
-  pub worked-as : (shift : ℕ) → worked round shift y (after round k (x ∷ []) g) p ≡ worked round shift y (after round m (x ∷ []) g) p
-  worked-as shift = ap (λ (i : ℕ). worked round shift y (after round i (x ∷ []) g) p) (sym e)
+  pub worked-as : (shift : ℕ) → worked constant shift y (after constant k (x ∷ []) g) p ≡ worked round shift y (after round m (x ∷ []) g) p
+  worked-as shift =
+      ap (λ (r : Rounding). worked r shift y (after r k (x ∷ []) g) p) (sym er)
+      ∙ ap (λ (i : ℕ). worked round shift y (after round i (x ∷ []) g) p) (sym e)
 
 -- a stage of one axis with m and the order as constants
 module _ (round : Rounding) (a : Strides) (rest : List Strides) (g : ℕ → ℤ) (p m k order c : ℕ) (em : m ≡ k) (eo : order ≡ c) where

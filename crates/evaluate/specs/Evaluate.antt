@@ -3,7 +3,7 @@ use Prim.Native.Nat.{ℕ, _*_, _-_}
 use mathlib.Core.List.{List}
 use lib.Dec.{eqb}
 use lib.IntN.{ℤ, pos, _*ℤ_}
-use Rattle.arith.specs.Int.{Rounding, roundHalfUp}
+use Rattle.arith.specs.Int.{Rounding}
 use Rattle.arith.specs.Sum.{sum, product, times}
 use Rattle.arith.specs.Choice.{pick}
 use Rattle.lattice.specs.declared.Shape.{Shape}
@@ -94,10 +94,6 @@ unfoldable pub answerBy : Rounding → Ask → Field → ℤ
 answerBy round q g =
     along (lastAxis (q .n) (q .want)) (toUnit round q (lastAxis (q .n) (q .want)))
     (sweep (before q) (toEighth round q) (inEighths g)) origin
-
--- to the nearest, halves up
-abbrev pub answer : Ask → Field → ℤ
-answer q g = answerBy roundHalfUp q g
 
 -- of a table of shape s
 unfoldable pub askAt : Shape → Want → Place → Place → Ask

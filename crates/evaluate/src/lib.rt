@@ -6,11 +6,11 @@ ghost use Prim.Native.Nat.{ℕ, _+_, _*_, _^_, _<_, _≤_};
 ghost use lib.ListN.{length, getD};
 ghost use Rattle.lattice.specs.Buffer.{at};
 ghost use Rattle.lattice.specs.Records.{recordsField};
-ghost use Rattle.arith.specs.Int.{roundHalfUp};
+ghost use Rattle.arith.specs.Int.{roundingOf};
 ghost use Rattle.hermite.specs.Hermite.{steps};
 ghost use Rattle.hermite.specs.Stage.{Smooth};
 ghost use Rattle.cell.specs.Cell.{placeAt};
-ghost use Rattle.evaluate.specs.Evaluate.{answer, askAt, lastAxis};
+ghost use Rattle.evaluate.specs.Evaluate.{answerBy, askAt, lastAxis};
 ghost use Rattle.evaluate.specs.Wants.{wantOf};
 ghost use Rattle.evaluate.specs.Stages.{IsEnd, AreEnds, AtBoth, worked, after, placeOf, also, stridesOf, ofAxis, beside, Made, Prepared, AllPrepared, Safe, Workable, WorkedOff, Ready};
 use cell::Layout;
@@ -89,11 +89,11 @@ fn end_in(m: usize, records: &[i32], p: usize, order: usize) -> [i64; 3]
     [a, b, entry(records, p + 2 * order)]
 }
 
-// The number after the first stage, from p on; k is the stage's shift, here and below.
-fn first(m: usize, k: u32, x: Axis, records: &[i32], p: usize) -> i64
+// The number after the first stage, from p on; here and below k is the stage's shift, and `even` is set in edition two.
+fn first(even: bool, m: usize, k: u32, x: Axis, records: &[i32], p: usize) -> i64
     requires { ⌜ Prepared m x × (k ≤ 44) ⌝ }
-    requires { ⌜ Safe roundHalfUp m (length (now records)) (x ∷ []) (at (now records)) p ⌝ }
-    ensures { λ r. ⌜ r ≡ worked roundHalfUp k x (at (now (records .entry))) p ⌝ }
+    requires { ⌜ Safe (roundingOf even) m (length (now records)) (x ∷ []) (at (now records)) p ⌝ }
+    ensures { λ r. ⌜ r ≡ worked (roundingOf even) k x (at (now (records .entry))) p ⌝ }
 {
     // A part that starts at p spares the inner sums its addition.
     let here = &records[p..];
@@ -104,25 +104,34 @@ fn first(m: usize, k: u32, x: Axis, records: &[i32], p: usize) -> i64
         low: low,
         high: high,
     };
-    hermite::stage(m, basis, k, ends)
+    hermite::stage(even, m, basis, k, ends)
 }
 
 // The numbers of an end after the first stage.
-fn first_end(m: usize, k: u32, x: Axis, records: &[i32], p: usize, order: usize) -> [i64; 3]
+fn first_end(
+    even: bool,
+    m: usize,
+    k: u32,
+    x: Axis,
+    records: &[i32],
+    p: usize,
+    order: usize,
+) -> [i64; 3]
     requires { ⌜ Prepared m x × (k ≤ 44) ⌝ }
-    requires { ⌜ ((o : ℕ) → o < m → Safe roundHalfUp m (length (now records)) (x ∷ []) (at (now records)) (p + o * order)) ⌝ }
-    ensures { λ r. ⌜ IsEnd m (worked roundHalfUp k x (at (now (records .entry)))) p order r ⌝ }
+    requires { ⌜ ((o : ℕ) → o < m → Safe (roundingOf even) m (length (now records)) (x ∷ []) (at (now records)) (p + o * order)) ⌝ }
+    ensures { λ r. ⌜ IsEnd m (worked (roundingOf even) k x (at (now (records .entry)))) p order r ⌝ }
 {
-    let a = first(m, k, x, records, p);
-    let b = first(m, k, x, records, p + order);
+    let a = first(even, m, k, x, records, p);
+    let b = first(even, m, k, x, records, p + order);
     if m == 2 {
         return [a, b, 0];
     }
-    [a, b, first(m, k, x, records, p + 2 * order)]
+    [a, b, first(even, m, k, x, records, p + 2 * order)]
 }
 
 // The numbers of two ends after the first stage.
 fn first_ends(
+    even: bool,
     m: usize,
     k: u32,
     x: Axis,
@@ -132,11 +141,11 @@ fn first_ends(
     node: usize,
 ) -> Ends
     requires { ⌜ Prepared m x × (k ≤ 44) ⌝ }
-    requires { ⌜ AtBoth m (Safe roundHalfUp m (length (now records)) (x ∷ []) (at (now records))) p order node ⌝ }
-    ensures { λ r. ⌜ AreEnds m (worked roundHalfUp k x (at (now (records .entry)))) p order node r ⌝ }
+    requires { ⌜ AtBoth m (Safe (roundingOf even) m (length (now records)) (x ∷ []) (at (now records))) p order node ⌝ }
+    ensures { λ r. ⌜ AreEnds m (worked (roundingOf even) k x (at (now (records .entry)))) p order node r ⌝ }
 {
-    let low = first_end(m, k, x, records, p, order);
-    let high = first_end(m, k, x, records, p + node, order);
+    let low = first_end(even, m, k, x, records, p, order);
+    let high = first_end(even, m, k, x, records, p + node, order);
     Ends {
         low: low,
         high: high,
@@ -144,40 +153,52 @@ fn first_ends(
 }
 
 // The number after the second stage.
-pub fn second(m: usize, k: u32, y: Axis, x: Axis, records: &[i32], p: usize) -> i64
+pub fn second(even: bool, m: usize, k: u32, y: Axis, x: Axis, records: &[i32], p: usize) -> i64
     requires { ⌜ AllPrepared m (y ∷ x ∷ []) × (k ≤ 44) ⌝ }
-    requires { ⌜ Safe roundHalfUp m (length (now records)) (y ∷ x ∷ []) (at (now records)) p ⌝ }
-    ensures { λ r. ⌜ r ≡ worked roundHalfUp k y (after roundHalfUp m (x ∷ []) (at (now (records .entry)))) p ⌝ }
+    requires { ⌜ Safe (roundingOf even) m (length (now records)) (y ∷ x ∷ []) (at (now records)) p ⌝ }
+    ensures { λ r. ⌜ r ≡ worked (roundingOf even) k y (after (roundingOf even) m (x ∷ []) (at (now (records .entry)))) p ⌝ }
 {
     let before = hermite::shift(0, m, false, true);
-    let ends = first_ends(m, before, x, records, p, y.order, y.node);
+    let ends = first_ends(even, m, before, x, records, p, y.order, y.node);
     let basis = y.basis;
-    hermite::stage(m, basis, k, ends)
+    hermite::stage(even, m, basis, k, ends)
 }
 
-// The stages of two axes, m a constant of the call.
-fn both_stages(m: usize, z: Axis, x: Axis, records: &[i32], p: usize) -> i64
+// The stages of two axes, m and the edition constants of the call.
+fn both_stages(even: bool, m: usize, z: Axis, x: Axis, records: &[i32], p: usize) -> i64
     requires { ⌜ AllPrepared m (z ∷ x ∷ []) × (z .shift ≤ 44) ⌝ }
-    requires { ⌜ Safe roundHalfUp m (length (now records)) (z ∷ x ∷ []) (at (now records)) p ⌝ }
-    ensures { λ r. ⌜ r ≡ worked roundHalfUp (z .shift) z (after roundHalfUp m (x ∷ []) (at (now (records .entry)))) p ⌝ }
+    requires { ⌜ Safe (roundingOf even) m (length (now records)) (z ∷ x ∷ []) (at (now records)) p ⌝ }
+    ensures { λ r. ⌜ r ≡ worked (roundingOf even) (z .shift) z (after (roundingOf even) m (x ∷ []) (at (now (records .entry)))) p ⌝ }
 {
     let k = z.shift;
-    if m == 2 {
-        return second(2, k, z, x, records, p);
+    if !even {
+        if m == 2 {
+            return second(false, 2, k, z, x, records, p);
+        }
+        return second(false, 3, k, z, x, records, p);
     }
-    second(3, k, z, x, records, p)
+    if m == 2 {
+        return second(true, 2, k, z, x, records, p);
+    }
+    second(true, 3, k, z, x, records, p)
 }
 
-// The stages of three axes but the last, m a constant of the call.
-fn first_stages(m: usize, y: Axis, x: Axis, records: &[i32], p: usize) -> i64
+// The stages of three axes but the last, m and the edition constants of the call.
+fn first_stages(even: bool, m: usize, y: Axis, x: Axis, records: &[i32], p: usize) -> i64
     requires { ⌜ AllPrepared m (y ∷ x ∷ []) ⌝ }
-    requires { ⌜ Safe roundHalfUp m (length (now records)) (y ∷ x ∷ []) (at (now records)) p ⌝ }
-    ensures { λ r. ⌜ r ≡ after roundHalfUp m (y ∷ x ∷ []) (at (now (records .entry))) p ⌝ }
+    requires { ⌜ Safe (roundingOf even) m (length (now records)) (y ∷ x ∷ []) (at (now records)) p ⌝ }
+    ensures { λ r. ⌜ r ≡ after (roundingOf even) m (y ∷ x ∷ []) (at (now (records .entry))) p ⌝ }
 {
-    if m == 2 {
-        return second(2, hermite::shift(0, 2, true, true), y, x, records, p);
+    if !even {
+        if m == 2 {
+            return second(false, 2, hermite::shift(0, 2, true, true), y, x, records, p);
+        }
+        return second(false, 3, hermite::shift(0, 3, true, true), y, x, records, p);
     }
-    second(3, hermite::shift(0, 3, true, true), y, x, records, p)
+    if m == 2 {
+        return second(true, 2, hermite::shift(0, 2, true, true), y, x, records, p);
+    }
+    second(true, 3, hermite::shift(0, 3, true, true), y, x, records, p)
 }
 
 // Where number t of two ends stands: those of the low end first.
@@ -210,6 +231,7 @@ fn places_of(m: usize, order: usize, node: usize) -> [usize; 6]
 
 // The numbers of two ends after the second stage.
 fn second_ends(
+    even: bool,
     m: usize,
     y: Axis,
     x: Axis,
@@ -219,14 +241,14 @@ fn second_ends(
     node: usize,
 ) -> Ends
     requires { ⌜ AllPrepared m (y ∷ x ∷ []) ⌝ }
-    requires { ⌜ AtBoth m (Safe roundHalfUp m (length (now records)) (y ∷ x ∷ []) (at (now records))) p order node ⌝ }
-    ensures { λ r. ⌜ AreEnds m (after roundHalfUp m (y ∷ x ∷ []) (at (now (records .entry)))) p order node r ⌝ }
+    requires { ⌜ AtBoth m (Safe (roundingOf even) m (length (now records)) (y ∷ x ∷ []) (at (now records))) p order node ⌝ }
+    ensures { λ r. ⌜ AreEnds m (after (roundingOf even) m (y ∷ x ∷ []) (at (now (records .entry)))) p order node r ⌝ }
 {
     let place = places_of(m, order, node);
     let mut n = [0i64; 6];
     let mut t: usize = 0;
     while t < 2 * m {
-        n[t] = first_stages(m, y, x, records, p + place[t]);
+        n[t] = first_stages(even, m, y, x, records, p + place[t]);
         t += 1;
     }
     if m == 2 {
@@ -242,43 +264,43 @@ fn second_ends(
 }
 
 // The number after the third stage.
-fn third(m: usize, z: Axis, y: Axis, x: Axis, records: &[i32], p: usize) -> i64
+fn third(even: bool, m: usize, z: Axis, y: Axis, x: Axis, records: &[i32], p: usize) -> i64
     requires { ⌜ AllPrepared m (z ∷ y ∷ x ∷ []) × (z .shift ≤ 44) ⌝ }
-    requires { ⌜ Safe roundHalfUp m (length (now records)) (z ∷ y ∷ x ∷ []) (at (now records)) p ⌝ }
-    ensures { λ r. ⌜ r ≡ worked roundHalfUp (z .shift) z (after roundHalfUp m (y ∷ x ∷ []) (at (now (records .entry)))) p ⌝ }
+    requires { ⌜ Safe (roundingOf even) m (length (now records)) (z ∷ y ∷ x ∷ []) (at (now records)) p ⌝ }
+    ensures { λ r. ⌜ r ≡ worked (roundingOf even) (z .shift) z (after (roundingOf even) m (y ∷ x ∷ []) (at (now (records .entry)))) p ⌝ }
 {
-    let ends = second_ends(m, y, x, records, p, z.order, z.node);
+    let ends = second_ends(even, m, y, x, records, p, z.order, z.node);
     let basis = z.basis;
-    hermite::stage(m, basis, z.shift, ends)
+    hermite::stage(even, m, basis, z.shift, ends)
 }
 
 // The stage of one axis, to units.
-pub fn one_axis(m: usize, order: u32, a: Strides, records: &[i32], p: usize) -> i64
-    requires { ⌜ Workable roundHalfUp m order a [] (length (now records)) (at (now records)) p ⌝ }
-    ensures { λ r. ⌜ WorkedOff roundHalfUp m order a [] (at (now (records .entry))) p r ⌝ }
+pub fn one_axis(even: bool, m: usize, order: u32, a: Strides, records: &[i32], p: usize) -> i64
+    requires { ⌜ Workable (roundingOf even) m order a [] (length (now records)) (at (now records)) p ⌝ }
+    ensures { λ r. ⌜ WorkedOff (roundingOf even) m order a [] (at (now (records .entry))) p r ⌝ }
 {
     let x = axis_of(m, order, false, false, a.step, a.node, a.order);
-    first(m, x.shift, x, records, p)
+    first(even, m, x.shift, x, records, p)
 }
 
 // The same, with m and the order constants of the call.
-fn one_axis_by_kind(m: usize, order: u32, a: Strides, records: &[i32], p: usize) -> i64
-    requires { ⌜ Workable roundHalfUp m order a [] (length (now records)) (at (now records)) p ⌝ }
-    ensures { λ r. ⌜ WorkedOff roundHalfUp m order a [] (at (now (records .entry))) p r ⌝ }
+fn one_axis_by_kind(even: bool, m: usize, order: u32, a: Strides, records: &[i32], p: usize) -> i64
+    requires { ⌜ Workable (roundingOf even) m order a [] (length (now records)) (at (now records)) p ⌝ }
+    ensures { λ r. ⌜ WorkedOff (roundingOf even) m order a [] (at (now (records .entry))) p r ⌝ }
 {
     if m == 2 {
         if order == 0 {
-            return one_axis(2, 0, a, records, p);
+            return one_axis(even, 2, 0, a, records, p);
         }
-        return one_axis(2, 1, a, records, p);
+        return one_axis(even, 2, 1, a, records, p);
     }
     if order == 0 {
-        return one_axis(3, 0, a, records, p);
+        return one_axis(even, 3, 0, a, records, p);
     }
     if order == 2 {
-        return one_axis(3, 2, a, records, p);
+        return one_axis(even, 3, 2, a, records, p);
     }
-    one_axis(3, 1, a, records, p)
+    one_axis(even, 3, 1, a, records, p)
 }
 
 // The last stage of more than one, the order a constant of the call.
@@ -297,6 +319,7 @@ fn last_stage(m: usize, order: u32, c: Strides) -> Axis
 
 // The stages of two or three axes: a, b where there are three, and c.
 fn more_axes(
+    even: bool,
     m: usize,
     three: bool,
     order: u32,
@@ -306,16 +329,16 @@ fn more_axes(
     records: &[i32],
     p: usize,
 ) -> i64
-    requires { ⌜ Workable roundHalfUp m order c (also three b (a ∷ [])) (length (now records)) (at (now records)) p ⌝ }
-    ensures { λ r. ⌜ WorkedOff roundHalfUp m order c (also three b (a ∷ [])) (at (now (records .entry))) p r ⌝ }
+    requires { ⌜ Workable (roundingOf even) m order c (also three b (a ∷ [])) (length (now records)) (at (now records)) p ⌝ }
+    ensures { λ r. ⌜ WorkedOff (roundingOf even) m order c (also three b (a ∷ [])) (at (now (records .entry))) p r ⌝ }
 {
-    let z = last_stage(m, order, c);
     let x = axis_of(m, 0, false, true, a.step, a.node, a.order);
+    let z = last_stage(m, order, c);
     if !three {
-        return both_stages(m, z, x, records, p);
+        return both_stages(even, m, z, x, records, p);
     }
     let y = axis_of(m, 0, true, true, b.step, b.node, b.order);
-    third(m, z, y, x, records, p)
+    third(even, m, z, y, x, records, p)
 }
 
 // The axis that is worked off last.
@@ -331,6 +354,13 @@ fn in_sequence(last: u32, x: Strides, y: Strides, z: Strides) -> Sequence
     requires { ⌜ last < 3 ⌝ }
     ensures { λ r. ⌜ (r .first ≡ ofAxis x y z (beside 0 last)) × (r .middle ≡ ofAxis x y z (beside 2 last)) × (r .last ≡ ofAxis x y z last) ⌝ }
 {
+    if last == 2 {
+        return Sequence {
+            first: x,
+            middle: y,
+            last: z,
+        };
+    }
     if last == 0 {
         return Sequence {
             first: y,
@@ -338,17 +368,10 @@ fn in_sequence(last: u32, x: Strides, y: Strides, z: Strides) -> Sequence
             last: x,
         };
     }
-    if last == 1 {
-        return Sequence {
-            first: x,
-            middle: z,
-            last: y,
-        };
-    }
     Sequence {
         first: x,
-        middle: y,
-        last: z,
+        middle: z,
+        last: y,
     }
 }
 
@@ -381,6 +404,7 @@ fn strides_of(m: usize, step: [u32; 3], l: Layout, axis: u32) -> Strides
 // The dose or derivative at a step of a cell of one axis.
 pub fn on_line(
     s: Shape,
+    even: bool,
     records: &[i32],
     cell: [u32; 3],
     step: [u32; 3],
@@ -390,16 +414,17 @@ pub fn on_line(
 ) -> i32
     requires { ⌜ Ready s (now records) (placeAt cell) (placeAt step) (wantOf order axis) l ⌝ }
     requires { ⌜ s .axes ≡ 1 ⌝ }
-    ensures { λ r. ⌜ r ≡ answer (askAt s (wantOf order axis) (placeAt cell) (placeAt step)) (recordsField s (now (records .entry))) ⌝ }
+    ensures { λ r. ⌜ r ≡ answerBy (roundingOf even) (askAt s (wantOf order axis) (placeAt cell) (placeAt step)) (recordsField s (now (records .entry))) ⌝ }
 {
     let m = l.orders;
     let x = strides_of(m, step, l, 0);
-    one_axis_by_kind(m, order, x, records, l.base) as i32
+    one_axis_by_kind(even, m, order, x, records, l.base) as i32
 }
 
 // The dose or derivative at a step of a cell of two or three axes: the stages x, y, z, a derivative's axis last.
 pub fn on_lattice(
     s: Shape,
+    even: bool,
     records: &[i32],
     cell: [u32; 3],
     step: [u32; 3],
@@ -409,7 +434,7 @@ pub fn on_lattice(
 ) -> i32
     requires { ⌜ Ready s (now records) (placeAt cell) (placeAt step) (wantOf order axis) l ⌝ }
     requires { ⌜ 2 ≤ s .axes ⌝ }
-    ensures { λ r. ⌜ r ≡ answer (askAt s (wantOf order axis) (placeAt cell) (placeAt step)) (recordsField s (now (records .entry))) ⌝ }
+    ensures { λ r. ⌜ r ≡ answerBy (roundingOf even) (askAt s (wantOf order axis) (placeAt cell) (placeAt step)) (recordsField s (now (records .entry))) ⌝ }
 {
     let m = l.orders;
     let n = s.axes;
@@ -421,5 +446,7 @@ pub fn on_lattice(
     let a = sequence.first;
     let b = sequence.middle;
     let c = sequence.last;
-    more_axes(m, n == 3, order, a, b, c, records, l.base) as i32
+    let base = l.base;
+    // A part that starts at the cell takes one register.
+    more_axes(even, m, n == 3, order, a, b, c, &records[base..], 0) as i32
 }

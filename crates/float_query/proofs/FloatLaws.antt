@@ -17,6 +17,7 @@ use Rattle.arith.proofs.Choices.{clash, pick-true, pick-false, on-pick, split, 
 use Rattle.arith.proofs.Machine.{element}
 use Rattle.arith.specs.Choice.{pick}
 use Rattle.lattice.specs.declared.Shape.{Shape}
+use Rattle.lattice.specs.declared.FullShape.{FullShape}
 use Rattle.lattice.specs.Outcome.{Outcome, Check, done, refused, refuseUnless, first, firstOf}
 use Rattle.lattice.specs.Buffer.{at}
 use Rattle.lattice.specs.Shape.{count, Shaped}
@@ -144,11 +145,12 @@ module _ (s : Shape) (ok : Shaped s) (x : ℕ → Float) (fin : ℕ → Bool) (p
 
 -- ---- a whole query
 
-pub by-float : (s : Shape) (rs : List ℤ) (want : Want) (x : ℕ → Float) (fin : ℕ → Bool) (p : Position) → HeldSteps x fin p
-    → renumbered (tenNumber fin) (byPosition s rs want p) ≡ byFloat s rs want x
+pub by-float : (t : FullShape) (rs : List ℤ) (want : Want) (x : ℕ → Float) (fin : ℕ → Bool) (p : Position) → HeldSteps x fin p
+    → renumbered (tenNumber fin) (byPosition t rs want p) ≡ byFloat t rs want x
 unfolding byFloat byPosition
-by-float s rs want x fin p h =
-    renumbered-query (tenNumber fin) (ten-keeps fin) s rs want tested (positionCell s p) (positionStep s p)
+by-float t rs want x fin p h =
+    let s = t .shape in
+    renumbered-query (tenNumber fin) (ten-keeps fin) t rs want tested (positionCell s p) (positionStep s p)
     ∙ first-after (askedOutcome s rs want) (first (renumbered (tenNumber fin) tested) (read p))
     (first (firstOf 3 (floatOutcome s x)) (read (stepsOf x)))
     (λ a. let ok = shaped s (asked-parts s rs want a .0) in
@@ -156,10 +158,10 @@ by-float s rs want x fin p h =
     ∙ first-after (firstOf 3 (floatOutcome s x)) (read p) (read (stepsOf x)) (λ e. ap read (held-is s ok x fin p h e)))
   where
     tested : Check
-    tested = firstOf 3 (positionOutcome s p)
+    tested = firstOf 3 (positionOutcome (t .shape) p)
 
     read : Position → Outcome ℤ
-    read p = reading s rs want (positionCell s p) (positionStep s p)
+    read p = reading t rs want (positionCell (t .shape) p) (positionStep (t .shape) p)
 
 -- ---- floats in the code
 

@@ -12,7 +12,7 @@ use lib.Ieee.Scale.{finite}
 use lib.IntN.{ℤ, pos, _*ℤ_}
 use Rattle.arith.proofs.Choices.{clash}
 use Rattle.arith.proofs.Round.{Nearest}
-use Rattle.lattice.specs.declared.Shape.{Shape}
+use Rattle.lattice.specs.declared.FullShape.{FullShape}
 use Rattle.lattice.specs.Outcome.{Outcome, Check, done, refused, refuseUnless, first}
 use Rattle.lattice.proofs.OutcomeLaws.{first-passed, passes, firstOf-same}
 use Rattle.hermite.specs.Hermite.{steps}
@@ -32,12 +32,13 @@ pub float-step : (x : ℕ → Float) (a : ℕ) → a < 3 → Nearest (pos steps 
 float-step x a l = rw (steps-at x a l) (step-nearest steps (x a))
 
 -- finite floats ask what their steps ask
-pub by-float-is : (s : Shape) (rs : List ℤ) (want : Want) (x : ℕ → Float) → ((a : ℕ) → a < 3 → finite (x a) ≡ true)
-    → byFloat s rs want x ≡ byPosition s rs want (stepsOf x)
+pub by-float-is : (t : FullShape) (rs : List ℤ) (want : Want) (x : ℕ → Float) → ((a : ℕ) → a < 3 → finite (x a) ≡ true)
+    → byFloat t rs want x ≡ byPosition t rs want (stepsOf x)
 unfolding byFloat byPosition floatOutcome
-by-float-is s rs want x h =
+by-float-is t rs want x h =
+    let s = t .shape in
     ap (λ (o : Check). first (askedOutcome s rs want)
-    (first o (reading s rs want (positionCell s (stepsOf x)) (positionStep s (stepsOf x)))))
+    (first o (reading t rs want (positionCell s (stepsOf x)) (positionStep s (stepsOf x)))))
     (firstOf-same 3 (floatOutcome s x) (positionOutcome s (stepsOf x))
     (λ a l. first-passed (refuseUnless (finite (x a)) 10 a) (positionOutcome s (stepsOf x) a) (passes (finite (x a)) 10 a (h a l))))
 

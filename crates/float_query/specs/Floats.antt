@@ -8,6 +8,7 @@ use lib.Ieee.Scale.{finite}
 use lib.IntN.{ℤ, pos, negsuc}
 use Rattle.arith.specs.Choice.{pick}
 use Rattle.lattice.specs.declared.Shape.{Shape}
+use Rattle.lattice.specs.declared.FullShape.{FullShape}
 use Rattle.lattice.specs.Outcome.{Outcome, Check, refuseUnless, first, firstOf}
 use Rattle.hermite.specs.Hermite.{steps}
 use Rattle.floats.specs.declared.FloatStep.{FloatStep}
@@ -31,10 +32,11 @@ unfoldable pub floatOutcome : Shape → (ℕ → Float) → ℕ → Check
 floatOutcome s x a = first (refuseUnless (finite (x a)) 10 a) (positionOutcome s (stepsOf x) a)
 
 -- on each axis 10, 23, 22, 11; then 5
-unfoldable pub byFloat : Shape → List ℤ → Want → (ℕ → Float) → Outcome ℤ
-byFloat s rs want x =
-    first (askedOutcome s rs want)
-    (first (firstOf 3 (floatOutcome s x)) (reading s rs want (positionCell s (stepsOf x)) (positionStep s (stepsOf x))))
+unfoldable pub byFloat : FullShape → List ℤ → Want → (ℕ → Float) → Outcome ℤ
+byFloat t rs want x =
+    first (askedOutcome (t .shape) rs want)
+    (first (firstOf 3 (floatOutcome (t .shape) x))
+    (reading t rs want (positionCell (t .shape) (stepsOf x)) (positionStep (t .shape) (stepsOf x))))
 
 -- ---- the query by position that answers it
 

@@ -12,8 +12,8 @@ ghost use Rattle.float_query.specs.Floats.{floatsAt, byFloat, heldStep, 
 ghost use Rattle.float_query.specs.Answers.{outcomeOfFloat, inFloat};
 use evaluate::Derivative;
 use floats::FloatStep;
+use lattice::FullShape;
 use lattice::Refusal;
-use lattice::Shape;
 use query::Query;
 use query::Reading;
 
@@ -95,8 +95,13 @@ fn with_ten(a: Reading, x: FloatStep, y: FloatStep, z: FloatStep) -> Reading
 }
 
 // The dose or slope at three floats.
-pub fn at_float(s: Shape, records: &[i32], p: FloatPosition, derivative: Derivative) -> FloatReading
-    ensures { λ r. ⌜ outcomeOfFloat r ≡ inFloat (wanted derivative) (byFloat s (now (records .entry)) (wanted derivative) (floatsAt p)) ⌝ }
+pub fn at_float(
+    t: FullShape,
+    records: &[i32],
+    p: FloatPosition,
+    derivative: Derivative,
+) -> FloatReading
+    ensures { λ r. ⌜ outcomeOfFloat r ≡ inFloat (wanted derivative) (byFloat t (now (records .entry)) (wanted derivative) (floatsAt p)) ⌝ }
 {
     let x = floats::step_of(p.x);
     let y = floats::step_of(p.y);
@@ -105,6 +110,6 @@ pub fn at_float(s: Shape, records: &[i32], p: FloatPosition, derivative: Derivat
         position: [held_step(x), held_step(y), held_step(z)],
         derivative: derivative,
     };
-    let a = query::at_position(s, records, q);
+    let a = query::at_position(t, records, q);
     in_float(with_ten(a, x, y, z), derivative.order)
 }

@@ -36,7 +36,7 @@ fn nearest(y: f32) -> i32
         return 0;
     }
     if e < 158 {
-        return arith::rounded(significand(b), 158 - e) as i32;
+        return arith::half_up(significand(b), 158 - e) as i32;
     }
     if b < 0x8000_0000 {
         2147483647

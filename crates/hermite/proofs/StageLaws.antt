@@ -17,7 +17,7 @@ use Rattle.arith.proofs.Abs.{abs-add, sfits-abs}
 use Rattle.arith.proofs.Choices.{pick-true, pick-false, on-pick, by-order}
 use Rattle.arith.proofs.Sums.{sum-ext, total-ext, dot-sum, sum-three, total-three, total-ends}
 use Rattle.arith.specs.Choice.{pick}
-use Rattle.arith.specs.Int.{roundHalfUp}
+use Rattle.arith.specs.Int.{Rounding}
 use Rattle.arith.specs.Sum.{sum, total}
 use Rattle.lattice.specs.Buffer.{at}
 use Rattle.hermite.specs.declared.Basis.{Basis}
@@ -195,5 +195,5 @@ module _ (b : Basis) (low high : ℕ → ℤ) (small : load b low high ≤ 2 ^ 6
         let g : 2 ^ k ≤ 2 ^ 44 = pow-mono h in
         (omega arith, omega arith)
 
-    pub rounds : (y : ℕ) → roundHalfUp (held (held p +ℤ held q)) y ≡ roundHalfUp (weighted b low high) y
-    rounds y = ap (λ z. roundHalfUp z y) (toZ-ofZ added-fits ∙ added)
+    pub rounds : (round : Rounding) (y : ℕ) → round (held (held p +ℤ held q)) y ≡ round (weighted b low high) y
+    rounds round y = ap (λ z. round z y) (toZ-ofZ added-fits ∙ added)

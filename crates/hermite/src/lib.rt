@@ -2,7 +2,7 @@
 ghost use mathlib.Core.Path.{_≡_};
 ghost use Prim.Native.Nat.{ℕ, _+_, _*_, _-_, _<_, _≤_, _^_};
 ghost use lib.IntN.{pos, natAbs, _*ℤ_};
-ghost use Rattle.arith.specs.Int.{roundHalfUp, _^ℤ_};
+ghost use Rattle.arith.specs.Int.{roundingOf, _^ℤ_};
 ghost use Rattle.arith.specs.Sum.{sum, total};
 ghost use Rattle.lattice.specs.Buffer.{at};
 ghost use Rattle.hermite.specs.Hermite.{steps, multiplier, mirrored, solved, endRule, weight};
@@ -198,17 +198,17 @@ pub struct Ends {
     pub high: [i64; 3],
 }
 
-// One stage: the numbers of the two ends, by their basis, rounded by 2^(k+1).
-pub fn stage(m: usize, b: Basis, k: u32, ends: Ends) -> i64
+// One stage: the numbers of the two ends, by their basis, rounded by 2^(k+1), halves to even or up.
+pub fn stage(even: bool, m: usize, b: Basis, k: u32, ends: Ends) -> i64
     requires { ⌜ (k ≤ 44) × (load b (at (ends .low)) (at (ends .high)) ≤ 2 ^ 63 - 2 ^ 45) ⌝ }
     requires { ⌜ (m ≡ 2 → (at (ends .low) 2 ≡ pos 0) × (at (ends .high) 2 ≡ pos 0)) ⌝ }
-    ensures { λ r. ⌜ r ≡ roundHalfUp (weighted b (at (ends .low)) (at (ends .high))) (2 ^ (k + 1)) ⌝ }
+    ensures { λ r. ⌜ r ≡ roundingOf even (weighted b (at (ends .low)) (at (ends .high))) (2 ^ (k + 1)) ⌝ }
 {
     let from_low = b.low;
     let from_high = b.high;
     let low = ends.low;
     let high = ends.high;
-    arith::rounded(dot(m, from_low, low) + dot(m, from_high, high), k)
+    arith::rounded(even, dot(m, from_low, low) + dot(m, from_high, high), k)
 }
 
 // The k for which a stage's divisor, 2 times a power of 256, is 2^(k+1).

@@ -69,7 +69,7 @@ pub passed-test : (t : Bool) (n p : ℕ) → passed (refuseUnless t n p) ≡ t
 passed-test true n p = refl
 passed-test false n p = refl
 
-passed-first : (a b : Check) → passed (first a b) ≡ (passed a && passed b)
+pub passed-first : (a b : Check) → passed (first a b) ≡ (passed a && passed b)
 passed-first (done tt) b = refl
 passed-first (refused n p) b = refl
 
@@ -118,9 +118,9 @@ pub firstOf-more : (i : ℕ) (test : ℕ → Check) → firstOf i test ≡ done 
 unfolding firstOf
 firstOf-more i test h e = rw (add-one i) (first-passed (firstOf i test) (test i) h ∙ e)
 
-pub passed-more : (i : ℕ) (test : ℕ → Check) → test i ≡ done tt → passed (firstOf i test) ≡ passed (firstOf (i + 1) test)
+pub passed-next : (i : ℕ) (test : ℕ → Check) → passed (firstOf (i + 1) test) ≡ (passed (firstOf i test) && passed (test i))
 unfolding firstOf
-passed-more i test e = rw (add-one i, e) (sym (ap passed (last-first (firstOf i test))))
+passed-next i test = rw (add-one i) (passed-first (firstOf i test) (test i))
 
 -- a test that is not passed
 pub firstOf-fails : (n : ℕ) (test : ℕ → Check) (i : ℕ) → i < n → passed (test i) ≡ false → passed (firstOf n test) ≡ false
@@ -151,3 +151,10 @@ firstOf-rows n zero test = ap (λ (i : ℕ). firstOf i test) (mul-zero n)
 firstOf-rows n (suc k) test =
     ap (λ (i : ℕ). firstOf i test) (mul-suc n k) ∙ firstOf-add (n * k) n test
     ∙ ap (λ (x : Check). first x (firstOf n (λ e. test (n * k + e)))) (firstOf-rows n k test)
+
+-- tests in k pairs
+pub firstOf-pairs : (k : ℕ) (test : ℕ → Check) → firstOf (2 * k) test ≡ firstOf k (λ c. first (test (2 * c)) (test (2 * c + 1)))
+unfolding firstOf
+firstOf-pairs k test =
+    firstOf-rows 2 k test
+    ∙ firstOf-same k _ _ (λ c l. ap (λ (i : ℕ). first (test i) (test (2 * c + 1))) (add-zero (2 * c)))

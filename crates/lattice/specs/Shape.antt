@@ -1,4 +1,4 @@
--- A table's shape: its axis number n, its degree d and three node counts; refusals 1, 2 and 3.
+-- A table's shape: its axis number n, its degree d, three node counts and its edition; refusals 1, 2 and 3.
 use mathlib.Core.Path.{_≡_}
 use Prim.Native.Nat.{ℕ, _*_, _^_, _≤_, _<_}
 use mathlib.Core.Bool.{Bool, _&&_, _||_}
@@ -6,13 +6,23 @@ use mathlib.Core.List.{List}
 use lib.Dec.{leb, ltb, eqb}
 use lib.ListN.{getD}
 use Rattle.arith.specs.Choice.{pick}
+use Rattle.arith.specs.Int.{Rounding, roundingOf}
 use Rattle.lattice.specs.declared.Shape.{Shape}
+use Rattle.lattice.specs.declared.FullShape.{FullShape}
 use Rattle.lattice.specs.Outcome.{Check, refuseUnless, first, onAxes}
 use Rattle.lattice.specs.Digits.{span}
 
 -- n axes, degree d and three node counts
 abbrev pub shapeOf : ℕ → ℕ → List ℕ → Shape
 shapeOf n degree counts = record { axes = n; degree = degree; counts = counts }
+
+-- and its edition
+abbrev pub fullShape : Shape → (secondEdition : Bool) → FullShape
+fullShape s secondEdition = record { shape = s; «second_edition» = secondEdition }
+
+-- the rounding of its stages
+abbrev pub roundingIn : FullShape → Rounding
+roundingIn t = roundingOf (t .«second_edition»)
 
 -- the node count of axis a
 unfoldable pub count : Shape → ℕ → ℕ

@@ -31,6 +31,13 @@ pub struct Shape {
     pub counts: [u32; 3],
 }
 
+// The shape of document 02: that of document 01 and the edition.
+#[repr(C)]
+pub struct FullShape {
+    pub shape: Shape,
+    pub second_edition: bool,
+}
+
 pub fn shape_of(axes: u32, degree: u32, counts: [u32; 3]) -> Shape
     ensures { λ r. ⌜ r ≡ shapeOf axes degree counts ⌝ }
 {

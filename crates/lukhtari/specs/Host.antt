@@ -1,5 +1,6 @@
--- What the host sees of an outcome: number 0 and place 0 where the call is not refused, and values 0 where it is.
+-- What the host sees of an outcome: number 0 and place 0 where the call is not refused, and values 0 or false where it is.
 use Prim.Native.Nat.{ℕ}
+use mathlib.Core.Bool.{false}
 use mathlib.Core.List.{[], _∷_}
 use mathlib.Core.Option.{Option, some}
 use lib.IntN.{ℤ, pos}
@@ -42,8 +43,8 @@ realOf (done (asSlope w)) = record { number = 0; place = 0; value = w }
 realOf (refused n p) = record { number = n; place = p; value = some (pos 0) }
 
 abbrev pub tableFrom : Outcome Header → Table
-tableFrom (done h) = record { number = 0; place = 0; axes = h .axes; counts = h .counts }
-tableFrom (refused n p) = record { number = n; place = p; axes = 0; counts = 0 ∷ 0 ∷ 0 ∷ [] }
+tableFrom (done h) = record { number = 0; place = 0; axes = h .axes; counts = h .counts; «second_edition» = h .second }
+tableFrom (refused n p) = record { number = n; place = p; axes = 0; counts = 0 ∷ 0 ∷ 0 ∷ []; «second_edition» = false }
 
 abbrev pub rampedFrom : Outcome ℕ → Ramped
 rampedFrom (done k) = record { number = 0; place = 0; fetches = k }

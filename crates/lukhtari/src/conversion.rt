@@ -9,21 +9,21 @@ ghost use Rattle.lukhtari.specs.Host.{doneOf};
 use crate::Done;
 use crate::Index;
 use crate::done_of;
-use lattice::Shape;
+use lattice::FullShape;
 
 // The coefficients of a cell.
 #[no_mangle]
 pub extern "C" fn lukhtari_coefficients(
-    shape: Shape,
+    shape: FullShape,
     records: &[i32],
     cell: Index,
     out: &mut [i32],
 ) -> Done
-    ensures { λ r. ⌜ r ≡ doneOf (coefficientsOutcome shape (now (records .entry)) (placeAt (cell .at)) (length (now (out .entry)))) ⌝ }
-    ensures { λ _. ⌜ now (out .exit) ≡ coefficientsWrites shape (now (records .entry)) (placeAt (cell .at)) (now (out .entry)) ⌝ }
+    ensures { λ r. ⌜ r ≡ doneOf (coefficientsOutcome (shape .shape) (now (records .entry)) (placeAt (cell .at)) (length (now (out .entry)))) ⌝ }
+    ensures { λ _. ⌜ now (out .exit) ≡ coefficientsWrites (shape .shape) (now (records .entry)) (placeAt (cell .at)) (now (out .entry)) ⌝ }
 {
     let at = cell.at;
-    done_of(coefficients::coefficients(shape, records, at, out))
+    done_of(coefficients::coefficients(shape.shape, records, at, out))
 }
 
 // The corner records that have these coefficients.
@@ -43,14 +43,14 @@ pub extern "C" fn lukhtari_corners(
 // The power coefficients of a two-axis cubic cell, each times 4.
 #[no_mangle]
 pub extern "C" fn lukhtari_powers(
-    shape: Shape,
+    shape: FullShape,
     records: &[i32],
     cell: Index,
     out: &mut [i32],
 ) -> Done
-    ensures { λ r. ⌜ r ≡ doneOf (powersOutcome shape (now (records .entry)) (placeAt (cell .at)) (length (now (out .entry)))) ⌝ }
-    ensures { λ _. ⌜ now (out .exit) ≡ powersWrites shape (now (records .entry)) (placeAt (cell .at)) (now (out .entry)) ⌝ }
+    ensures { λ r. ⌜ r ≡ doneOf (powersOutcome (shape .shape) (now (records .entry)) (placeAt (cell .at)) (length (now (out .entry)))) ⌝ }
+    ensures { λ _. ⌜ now (out .exit) ≡ powersWrites (shape .shape) (now (records .entry)) (placeAt (cell .at)) (now (out .entry)) ⌝ }
 {
     let at = cell.at;
-    done_of(powers::powers(shape, records, at, out))
+    done_of(powers::powers(shape.shape, records, at, out))
 }

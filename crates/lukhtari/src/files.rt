@@ -16,17 +16,25 @@ fn table_of(a: TableAnswer) -> Table
     ensures { λ r. ⌜ r ≡ tableFrom (outcomeOfTable a) ⌝ }
 {
     match a {
-        TableAnswer::Table { axes, x, y, z } => Table {
+        TableAnswer::Table {
+            axes,
+            x,
+            y,
+            z,
+            second,
+        } => Table {
             number: 0,
             place: 0,
             axes: axes,
             counts: [x, y, z],
+            second_edition: second,
         },
         TableAnswer::Refused(r) => Table {
             number: r.number,
             place: r.place,
             axes: 0,
             counts: [0, 0, 0],
+            second_edition: false,
         },
     }
 }
@@ -62,12 +70,13 @@ pub extern "C" fn lukhtari_read(bytes: &[u8], samples: &mut [i32]) -> Table
 pub extern "C" fn lukhtari_write(
     axes: u32,
     counts: Index,
+    second_edition: bool,
     samples: &[i32],
     bytes: &mut [u8],
 ) -> Written
-    ensures { λ r. ⌜ r ≡ writtenFrom (writeOutcome (header axes (counts .at)) (now (samples .entry)) (length (now (bytes .entry)))) ⌝ }
-    ensures { λ _. ⌜ now (bytes .exit) ≡ whenDone (writeOutcome (header axes (counts .at)) (now (samples .entry)) (length (now (bytes .entry)))) (overwrite (fileOf (header axes (counts .at)) (now (samples .entry))) (now (bytes .entry))) (now (bytes .entry)) ⌝ }
+    ensures { λ r. ⌜ r ≡ writtenFrom (writeOutcome (header axes (counts .at) «second_edition») (now (samples .entry)) (length (now (bytes .entry)))) ⌝ }
+    ensures { λ _. ⌜ now (bytes .exit) ≡ whenDone (writeOutcome (header axes (counts .at) «second_edition») (now (samples .entry)) (length (now (bytes .entry)))) (overwrite (fileOf (header axes (counts .at) «second_edition») (now (samples .entry))) (now (bytes .entry))) (now (bytes .entry)) ⌝ }
 {
     let given = counts.at;
-    written_of(table_file::write(axes, given, samples, bytes))
+    written_of(table_file::write(axes, given, second_edition, samples, bytes))
 }

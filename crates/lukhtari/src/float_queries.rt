@@ -8,7 +8,7 @@ use crate::Real;
 use evaluate::Derivative;
 use float_query::FloatPosition;
 use float_query::FloatReading;
-use lattice::Shape;
+use lattice::FullShape;
 
 fn real_of(a: FloatReading) -> Real
     ensures { λ r. ⌜ realValue r ≡ realOf (outcomeOfFloat a) ⌝ }
@@ -35,7 +35,7 @@ fn real_of(a: FloatReading) -> Real
 // Dose at the step nearest to a position in cells.
 #[no_mangle]
 pub extern "C" fn lukhtari_dose_float(
-    shape: Shape,
+    shape: FullShape,
     records: &[i32],
     position: FloatPosition,
 ) -> Real
@@ -48,7 +48,7 @@ pub extern "C" fn lukhtari_dose_float(
 // Slope along an axis at the step nearest to a position in cells.
 #[no_mangle]
 pub extern "C" fn lukhtari_slope_float(
-    shape: Shape,
+    shape: FullShape,
     records: &[i32],
     position: FloatPosition,
     axis: u32,

@@ -48,6 +48,7 @@ pub struct Table {
     pub place: usize,
     pub axes: u32,
     pub counts: [u32; 3],
+    pub second_edition: bool,
 }
 
 #[repr(C)]

@@ -5,7 +5,7 @@ ghost use Rattle.ramp.specs.Ramp.{rampOutcome, rampWrites};
 ghost use Rattle.ramp.specs.Answers.{outcomeOfRamp};
 ghost use Rattle.lukhtari.specs.Host.{rampedFrom};
 use crate::Ramped;
-use lattice::Shape;
+use lattice::FullShape;
 
 fn ramped_of(a: ramp::Ramped) -> Ramped
     ensures { λ r. ⌜ r ≡ rampedFrom (outcomeOfRamp a) ⌝ }
@@ -27,7 +27,7 @@ fn ramped_of(a: ramp::Ramped) -> Ramped
 // The doses at the positions of a list, three numbers each, to the front of `answers`.
 #[no_mangle]
 pub extern "C" fn lukhtari_ramp(
-    shape: Shape,
+    shape: FullShape,
     records: &[i32],
     positions: &[i32],
     answers: &mut [i32],

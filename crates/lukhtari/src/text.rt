@@ -5,13 +5,13 @@ ghost use Rattle.import.specs.Import.{importOutcome, importWrites};
 ghost use Rattle.lukhtari.specs.Host.{doneOf};
 use crate::Done;
 use crate::done_of;
-use lattice::Shape;
+use lattice::FullShape;
 
 // The samples of a text.
 #[no_mangle]
-pub extern "C" fn lukhtari_import(shape: Shape, text: &[u8], samples: &mut [i32]) -> Done
-    ensures { λ r. ⌜ r ≡ doneOf (importOutcome shape (now (text .entry)) (length (now (samples .entry)))) ⌝ }
-    ensures { λ _. ⌜ now (samples .exit) ≡ importWrites shape (now (text .entry)) (now (samples .entry)) ⌝ }
+pub extern "C" fn lukhtari_import(shape: FullShape, text: &[u8], samples: &mut [i32]) -> Done
+    ensures { λ r. ⌜ r ≡ doneOf (importOutcome (shape .shape) (now (text .entry)) (length (now (samples .entry)))) ⌝ }
+    ensures { λ _. ⌜ now (samples .exit) ≡ importWrites (shape .shape) (now (text .entry)) (now (samples .entry)) ⌝ }
 {
-    done_of(import::import(shape, text, samples))
+    done_of(import::import(shape.shape, text, samples))
 }

@@ -9,7 +9,7 @@ use crate::Index;
 use crate::Position;
 use crate::Whole;
 use evaluate::Derivative;
-use lattice::Shape;
+use lattice::FullShape;
 use query::CellQuery;
 use query::Query;
 use query::Reading;
@@ -33,7 +33,7 @@ fn whole_of(a: Reading) -> Whole
 
 // Dose at a table position.
 #[no_mangle]
-pub extern "C" fn lukhtari_dose(shape: Shape, records: &[i32], position: Position) -> Whole
+pub extern "C" fn lukhtari_dose(shape: FullShape, records: &[i32], position: Position) -> Whole
     ensures { λ r. ⌜ r ≡ wholeFrom (byPosition shape (now (records .entry)) dose (positionAt (position .at))) ⌝ }
 {
     let at = position.at;
@@ -47,7 +47,7 @@ pub extern "C" fn lukhtari_dose(shape: Shape, records: &[i32], position: Positio
 // Slope along an axis at a table position.
 #[no_mangle]
 pub extern "C" fn lukhtari_slope(
-    shape: Shape,
+    shape: FullShape,
     records: &[i32],
     position: Position,
     axis: u32,
@@ -68,7 +68,7 @@ pub extern "C" fn lukhtari_slope(
 // Curvature along an axis at a table position.
 #[no_mangle]
 pub extern "C" fn lukhtari_curvature(
-    shape: Shape,
+    shape: FullShape,
     records: &[i32],
     position: Position,
     axis: u32,
@@ -89,7 +89,7 @@ pub extern "C" fn lukhtari_curvature(
 // Dose at the steps u within a cell.
 #[no_mangle]
 pub extern "C" fn lukhtari_dose_in_cell(
-    shape: Shape,
+    shape: FullShape,
     records: &[i32],
     cell: Index,
     u: Index,
@@ -109,7 +109,7 @@ pub extern "C" fn lukhtari_dose_in_cell(
 // Slope along an axis at the steps u within a cell.
 #[no_mangle]
 pub extern "C" fn lukhtari_slope_in_cell(
-    shape: Shape,
+    shape: FullShape,
     records: &[i32],
     cell: Index,
     u: Index,
@@ -133,7 +133,7 @@ pub extern "C" fn lukhtari_slope_in_cell(
 // Curvature along an axis at the steps u within a cell.
 #[no_mangle]
 pub extern "C" fn lukhtari_curvature_in_cell(
-    shape: Shape,
+    shape: FullShape,
     records: &[i32],
     cell: Index,
     u: Index,

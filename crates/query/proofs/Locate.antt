@@ -18,6 +18,7 @@ use Rattle.arith.specs.Int.{unsignedOf}
 use Rattle.arith.proofs.Machine.{element}
 use Rattle.arith.proofs.Choices.{clash, pick-false, by-3, from-3}
 use Rattle.lattice.specs.declared.Shape.{Shape}
+use Rattle.lattice.specs.declared.FullShape.{FullShape}
 use Rattle.lattice.specs.Outcome.{Outcome, Check, done, refused, refuseUnless, first, firstOf}
 use Rattle.lattice.specs.Buffer.{at}
 use Rattle.lattice.specs.Shape.{count, Shaped}
@@ -216,45 +217,51 @@ module _ (s : Shape) (p : Position) (h : firstOf 3 (positionOutcome s p) ≡ don
 
 -- for every position in 32 bits the query by position is the query by its cell and in-cell step, with 22 for 11 where it is below 0, which
 -- cell and step do not tell
-pub located : (s : Shape) (rs : List ℤ) (want : Want) (p : Position) (b : ℕ → ℕ) (cell step : Place) → Located s p b cell step
-    → renumbered (positionNumber cell step) (byCell s rs want cell step) ≡ byPosition s rs want p
+pub located : (t : FullShape) (rs : List ℤ) (want : Want) (p : Position) (b : ℕ → ℕ) (cell step : Place)
+    → Located (t .shape) p b cell step
+    → renumbered (positionNumber cell step) (byCell t rs want cell step) ≡ byPosition t rs want p
 unfolding byPosition
-located s rs want p b cell step l =
-    ap (renumbered number) (by-cell-is s rs want cell step)
-    ∙ renumbered-query number (position-keeps cell step) s rs want (first (cellOutcome s cell) (stepsOutcome s step)) cell step
+located t rs want p b cell step l =
+    let s = t .shape in
+    ap (renumbered number) (by-cell-is t rs want cell step)
+    ∙ renumbered-query number (position-keeps cell step) t rs want (first (cellOutcome s cell) (stepsOutcome s step)) cell step
     ∙ first-after (askedOutcome s rs want)
-    (first (renumbered number (first (cellOutcome s cell) (stepsOutcome s step))) (reading s rs want cell step))
-    (first (firstOf 3 (positionOutcome s p)) (reading s rs want (positionCell s p) (positionStep s p)))
+    (first (renumbered number (first (cellOutcome s cell) (stepsOutcome s step))) (reading t rs want cell step))
+    (first (firstOf 3 (positionOutcome s p)) (reading t rs want (positionCell s p) (positionStep s p)))
     (λ a. let f = shaped s (asked-parts s rs want a .0) in
-    ap (λ (t : Check). first (renumbered number t) (reading s rs want cell step))
+    ap (λ (c : Check). first (renumbered number c) (reading t rs want cell step))
     (first-passed (cellOutcome s cell) (stepsOutcome s step) (located-cells s p b cell step l f))
-    ∙ ap (λ (t : Check). first t (reading s rs want cell step)) (located-tests s p b cell step l f)
-    ∙ first-after (firstOf 3 (positionOutcome s p)) (reading s rs want cell step) (reading s rs want (positionCell s p) (positionStep s p))
-    (λ h. ap₂ (reading s rs want) (located-cell s p b cell step l f h) (located-step s p b cell step l f h)))
+    ∙ ap (λ (c : Check). first c (reading t rs want cell step)) (located-tests s p b cell step l f)
+    ∙ first-after (firstOf 3 (positionOutcome s p)) (reading t rs want cell step) (reading t rs want (positionCell s p) (positionStep s p))
+    (λ h. ap₂ (reading t rs want) (located-cell s p b cell step l f h) (located-step s p b cell step l f h)))
   where
     number : ℕ → ℕ → ℕ
     number = positionNumber cell step
 
 -- so it says the same by its cell and in-cell step, or says 22 where they say 11
-pub located-or : (s : Shape) (rs : List ℤ) (want : Want) (p : Position) (b : ℕ → ℕ) (cell step : Place) → Located s p b cell step
-    → (byCell s rs want cell step ≡ byPosition s rs want p)
-    ⊎ ((a : ℕ) × (byCell s rs want cell step ≡ refused 11 a) × (byPosition s rs want p ≡ refused 22 a))
-located-or s rs want p b cell step l = position-or cell step (byCell s rs want cell step) (located s rs want p b cell step l)
+pub located-or : (t : FullShape) (rs : List ℤ) (want : Want) (p : Position) (b : ℕ → ℕ) (cell step : Place)
+    → Located (t .shape) p b cell step
+    → (byCell t rs want cell step ≡ byPosition t rs want p)
+    ⊎ ((a : ℕ) × (byCell t rs want cell step ≡ refused 11 a) × (byPosition t rs want p ≡ refused 22 a))
+located-or t rs want p b cell step l = position-or cell step (byCell t rs want cell step) (located t rs want p b cell step l)
 
 -- in a table: the query by the position's own cell and step
-pub by-position-is : (s : Shape) (rs : List ℤ) (want : Want) (p : Position) → firstOf 3 (positionOutcome s p) ≡ done tt
-    → byPosition s rs want p ≡ byCell s rs want (positionCell s p) (positionStep s p)
+pub by-position-is : (t : FullShape) (rs : List ℤ) (want : Want) (p : Position) → firstOf 3 (positionOutcome (t .shape) p) ≡ done tt
+    → byPosition t rs want p ≡ byCell t rs want (positionCell (t .shape) p) (positionStep (t .shape) p)
 unfolding byPosition
-by-position-is s rs want p h =
+by-position-is t rs want p h =
     first-after (askedOutcome s rs want) (first (firstOf 3 (positionOutcome s p)) read) (first (first cells steps-there) read)
     (λ a. let f = shaped s (asked-parts s rs want a .0) in
     first-passed (firstOf 3 (positionOutcome s p)) read h
     ∙ sym (first-passed (first cells steps-there) read
     (first-passed cells steps-there (own-cells s p h f) ∙ own-steps s p h f)))
-    ∙ sym (by-cell-is s rs want (positionCell s p) (positionStep s p))
+    ∙ sym (by-cell-is t rs want (positionCell s p) (positionStep s p))
   where
+    s : Shape
+    s = t .shape
+
     read : Outcome ℤ
-    read = reading s rs want (positionCell s p) (positionStep s p)
+    read = reading t rs want (positionCell s p) (positionStep s p)
 
     cells : Check
     cells = cellOutcome s (positionCell s p)
@@ -287,14 +294,14 @@ located-axes s xs x y z i j k p q r e f g =
     step : List ℕ
     step = (x - 256 * i) ∷ (y - 256 * j) ∷ (z - 256 * k) ∷ []
 
-pub on-axes : (s : Shape) (rs : List ℤ) (want : Want) (xs : List ℤ) (x y z i j k : ℕ) → StandsFor (at xs 0) x → StandsFor (at xs 1) y
+pub on-axes : (t : FullShape) (rs : List ℤ) (want : Want) (xs : List ℤ) (x y z i j k : ℕ) → StandsFor (at xs 0) x → StandsFor (at xs 1) y
     → StandsFor (at xs 2) z
-    → i ≡ cellOf steps (count s 0) x → j ≡ cellOf steps (count s 1) y → k ≡ cellOf steps (count s 2) z
+    → i ≡ cellOf steps (count (t .shape) 0) x → j ≡ cellOf steps (count (t .shape) 1) y → k ≡ cellOf steps (count (t .shape) 2) z
     → let cell = placeAt (i ∷ j ∷ k ∷ []) in let step = placeAt ((x - 256 * i) ∷ (y - 256 * j) ∷ (z - 256 * k) ∷ []) in
-    renumbered (positionNumber cell step) (byCell s rs want cell step) ≡ byPosition s rs want (positionAt xs)
-on-axes s rs want xs x y z i j k p q r e f g =
-    located s rs want (positionAt xs) (placeAt (x ∷ y ∷ z ∷ [])) (placeAt (i ∷ j ∷ k ∷ []))
-    (placeAt ((x - 256 * i) ∷ (y - 256 * j) ∷ (z - 256 * k) ∷ [])) (located-axes s xs x y z i j k p q r e f g)
+    renumbered (positionNumber cell step) (byCell t rs want cell step) ≡ byPosition t rs want (positionAt xs)
+on-axes t rs want xs x y z i j k p q r e f g =
+    located t rs want (positionAt xs) (placeAt (x ∷ y ∷ z ∷ [])) (placeAt (i ∷ j ∷ k ∷ []))
+    (placeAt ((x - 256 * i) ∷ (y - 256 * j) ∷ (z - 256 * k) ∷ [])) (located-axes (t .shape) xs x y z i j k p q r e f g)
 
 -- the cell of a position as three numbers
 in-three : (s : Shape) (p : Position) → ((a : ℕ) → 3 ≤ a → natAbs (p a) ≡ 0)
@@ -303,16 +310,17 @@ unfolding positionCell
 in-three s p none = three _ _ _ (positionCell s p) refl refl refl (λ a l. cell-none (count s a) (natAbs (p a)) (none a l))
 
 -- an answer at a position is below 2^24
-pub by-position-small : (s : Shape) (rs : List ℤ) (want : Want) (xs : List ℤ) (v : ℤ) → byPosition s rs want (positionAt xs) ≡ done v
+pub by-position-small : (t : FullShape) (rs : List ℤ) (want : Want) (xs : List ℤ) (v : ℤ) → byPosition t rs want (positionAt xs) ≡ done v
     → natAbs v < 2 ^ 24
 unfolding byPosition positionAt
-by-position-small s rs want xs v h =
+by-position-small t rs want xs v h =
+    let s = t .shape in
     let p = positionAt xs in
     let f = first-done (askedOutcome s rs want) (first (firstOf 3 (positionOutcome s p)) _) v h in
-    let t = first-done (firstOf 3 (positionOutcome s p)) _ v (f .1) .0 in
-    by-cell-small s rs want (positionCell s p 0 ∷ positionCell s p 1 ∷ positionCell s p 2 ∷ []) (positionStep s p) v
-    (ap (λ (c : Place). byCell s rs want c (positionStep s p)) (in-three s p (λ a l. ap natAbs (nowhere a l)))
-    ∙ sym (by-position-is s rs want p t) ∙ h)
+    let k = first-done (firstOf 3 (positionOutcome s p)) _ v (f .1) .0 in
+    by-cell-small t rs want (positionCell s p 0 ∷ positionCell s p 1 ∷ positionCell s p 2 ∷ []) (positionStep s p) v
+    (ap (λ (c : Place). byCell t rs want c (positionStep s p)) (in-three s p (λ a l. ap natAbs (nowhere a l)))
+    ∙ sym (by-position-is t rs want p k) ∙ h)
   where
     nowhere : (a : ℕ) → 3 ≤ a → positionAt xs a ≡ pos 0
     nowhere a l = pick-false (ltb a 3) (at xs a) (pos 0) (le-ltb a 3 l)

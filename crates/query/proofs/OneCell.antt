@@ -1,6 +1,7 @@
 -- An answer in a cell is the answer in the table of one cell that its corner records make, for every rounding; a reading gives it in both
 -- or in neither. From the numbers of the two cells, which are the same.
 use mathlib.Core.Path.{_≡_, refl, sym, ap, _∙_, fun-ext}
+use mathlib.Core.Bool.{Bool}
 use mathlib.Core.List.{List}
 use mathlib.Core.Logic.{_↔_}
 use Prim.Native.Nat.{ℕ, _+_, _*_, _≤_, _<_}
@@ -8,10 +9,10 @@ use native.Mathlib.Nat.{mul-zero}
 use native.Mathlib.Decide.{decLt}
 use native.Mathlib.Omega.{arith}
 use lib.IntN.{ℤ}
-use Rattle.arith.specs.Int.{Rounding, roundHalfUp}
+use Rattle.arith.specs.Int.{Rounding, roundingOf}
 use Rattle.lattice.specs.declared.Shape.{Shape}
 use Rattle.lattice.specs.Outcome.{done, passed}
-use Rattle.lattice.specs.Shape.{orders, Shaped}
+use Rattle.lattice.specs.Shape.{fullShape, orders, Shaped}
 use Rattle.lattice.specs.Axes.{Place, origin}
 use Rattle.lattice.specs.Records.{recordsField}
 use Rattle.lattice.proofs.DigitsLaws.{Digits}
@@ -77,18 +78,20 @@ module _ (s : Shape) (ok : Shaped s) (cell : Place) (here : Accepted s cell) (rs
         answer-moved round (askAt s want cell step) origin last (recordsField s rs) (recordsField one records) field-same
 
     -- with refusal 5
-    pub reading-one-cell : (v : ℤ)
-        → (reading s rs want cell step ≡ done v) ↔
-        (reading (oneCell (s .axes) (s .degree)) (cornerRecords s rs cell) want origin step ≡ done v)
-    reading-one-cell v = (
+    pub reading-one-cell : (even : Bool) (v : ℤ)
+        → (reading (fullShape s even) rs want cell step ≡ done v) ↔
+        (reading (fullShape (oneCell (s .axes) (s .degree)) even) (cornerRecords s rs cell) want origin step ≡ done v)
+    reading-one-cell even v = (
       λ e.
-          let f = reading-parts s rs want cell step v e in
-          reading-passes one records want origin step (passed-done (cornersOutcome one records origin) (sym passes-same ∙ ap passed (f .0)))
-          ∙ ap done (sym (answer-one-cell roundHalfUp) ∙ f .1),
+          let f = reading-parts (fullShape s even) rs want cell step v e in
+          reading-passes (fullShape one even) records want origin step
+          (passed-done (cornersOutcome one records origin) (sym passes-same ∙ ap passed (f .0)))
+          ∙ ap done (sym (answer-one-cell (roundingOf even)) ∙ f .1),
       λ e.
-          let f = reading-parts one records want origin step v e in
-          reading-passes s rs want cell step (passed-done (cornersOutcome s rs cell) (passes-same ∙ ap passed (f .0)))
-          ∙ ap done (answer-one-cell roundHalfUp ∙ f .1),
+          let f = reading-parts (fullShape one even) records want origin step v e in
+          reading-passes (fullShape s even) rs want cell step
+          (passed-done (cornersOutcome s rs cell) (passes-same ∙ ap passed (f .0)))
+          ∙ ap done (answer-one-cell (roundingOf even) ∙ f .1),
     )
       where
         passes-same : passed (cornersOutcome s rs cell) ≡ passed (cornersOutcome one records origin)

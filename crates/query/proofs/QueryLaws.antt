@@ -16,10 +16,12 @@ use borrow.Author.Tests.{ltb-true, ltb-false, leb-true, eqb-true, le-ltb, le-leb
 use Rattle.arith.specs.Choice.{pick}
 use Rattle.arith.proofs.Machine.{element}
 use Rattle.arith.proofs.Choices.{split}
-use Rattle.arith.proofs.Round.{half-up-sound}
+use Rattle.arith.specs.Int.{roundingOf}
+use Rattle.arith.proofs.Editions.{edition-sound}
 use Rattle.lattice.specs.declared.Shape.{Shape}
+use Rattle.lattice.specs.declared.FullShape.{FullShape}
 use Rattle.lattice.specs.Outcome.{Outcome, Check, done, refused, refuseUnless, first, firstOf, passed}
-use Rattle.lattice.specs.Shape.{count, orders, entries, size, shapeOutcome, Shaped}
+use Rattle.lattice.specs.Shape.{fullShape, roundingIn, count, orders, entries, size, shapeOutcome, Shaped}
 use Rattle.lattice.specs.Axes.{Place, OnUsed}
 use Rattle.lattice.specs.Records.{recordsField}
 use Rattle.lattice.proofs.ShapeLaws.{orders-range, shaped}
@@ -31,7 +33,7 @@ use Rattle.cell.specs.Cell.{placeAt, cellOutcome, cornersOutcome, Accepted, Lai
 use Rattle.cell.proofs.CellLaws.{place-beyond, accepted}
 use Rattle.evaluate.specs.Stages.{Ready}
 use Rattle.evaluate.proofs.Answering.{answer-fits}
-use Rattle.evaluate.specs.Evaluate.{Want, dose, derivativeAlong, orderWanted, lastAxis, askAt, answer}
+use Rattle.evaluate.specs.Evaluate.{Want, dose, derivativeAlong, orderWanted, lastAxis, askAt, answerBy}
 use Rattle.query.specs.Queries.{wantOutcome, askedOutcome, testedOutcome, reading, positionTest, stepsOutcome, byCell, Position, positionOutcome, cellOf}
 
 -- a derivative that is not refused 12 or 21
@@ -139,15 +141,6 @@ pub steps-scanned : (s : Shape) (u v w : ℕ) {x y z one two three : Check} → 
 unfolding stepsOutcome firstOf placeAt pick
 steps-scanned s u v w ex ey ez e f g = rw (g, f, e, ex, ey, ez) refl
 
--- the tests of a query that is not refused, and its answer
-pub record Asked (s : Shape) (rs : List ℤ) (want : Want) (cell step : Place) (v : ℤ) : Type 0 where
-  pub shape : shapeOutcome s ≡ done tt
-  pub wanted : wantOutcome s want ≡ done tt
-  pub cells : cellOutcome s cell ≡ done tt
-  pub inside : stepsOutcome s step ≡ done tt
-  pub corners : cornersOutcome s rs cell ≡ done tt
-  pub is : answer (askAt s want cell step) (recordsField s rs) ≡ v
-
 -- what 1, 2, 3, 4, 12 and 21 say of a query that they do not refuse
 pub record Common (s : Shape) (rs : List ℤ) (want : Want) : Type 0 where
   pub shape : shapeOutcome s ≡ done tt
@@ -166,12 +159,14 @@ pub asked-parts : (s : Shape) (rs : List ℤ) (want : Want) → askedOutcome s r
     × (wantOutcome s want ≡ done tt)
 asked-parts s rs want h = let f = asked-facts s rs want h in (f .shape, f .wanted)
 
-pub reading-parts : (s : Shape) (rs : List ℤ) (want : Want) (cell step : Place) (v : ℤ) → reading s rs want cell step ≡ done v
-    → (cornersOutcome s rs cell ≡ done tt) × (answer (askAt s want cell step) (recordsField s rs) ≡ v)
+pub reading-parts : (t : FullShape) (rs : List ℤ) (want : Want) (cell step : Place) (v : ℤ) → reading t rs want cell step ≡ done v
+    → (cornersOutcome (t .shape) rs cell ≡ done tt)
+    × (answerBy (roundingIn t) (askAt (t .shape) want cell step) (recordsField (t .shape) rs) ≡ v)
 unfolding reading
-reading-parts s rs want cell step v h =
-    let f = first-done (cornersOutcome s rs cell) (done (answer (askAt s want cell step) (recordsField s rs))) v h in
-    (f .0, done-same (answer (askAt s want cell step) (recordsField s rs)) v (f .1))
+reading-parts t rs want cell step v h =
+    let r = answerBy (roundingIn t) (askAt (t .shape) want cell step) (recordsField (t .shape) rs) in
+    let f = first-done (cornersOutcome (t .shape) rs cell) (done r) v h in
+    (f .0, done-same r v (f .1))
 
 -- and back, for a slice of the right length
 pub asked-passes : (s : Shape) (rs : List ℤ) (want : Want) → length rs ≡ size s → shapeOutcome s ≡ done tt → wantOutcome s want ≡ done tt
@@ -182,11 +177,12 @@ asked-passes s rs want l h w =
     ∙ first-passed (refuseUnless (eqb (length rs) (size s)) 4 0) (wantOutcome s want)
     (passes (eqb (length rs) (size s)) 4 0 (eq-eqb (length rs) (size s) l)) ∙ w
 
-pub reading-passes : (s : Shape) (rs : List ℤ) (want : Want) (cell step : Place) → cornersOutcome s rs cell ≡ done tt
-    → reading s rs want cell step ≡ done (answer (askAt s want cell step) (recordsField s rs))
+pub reading-passes : (t : FullShape) (rs : List ℤ) (want : Want) (cell step : Place) → cornersOutcome (t .shape) rs cell ≡ done tt
+    → reading t rs want cell step ≡ done (answerBy (roundingIn t) (askAt (t .shape) want cell step) (recordsField (t .shape) rs))
 unfolding reading
-reading-passes s rs want cell step h =
-    first-passed (cornersOutcome s rs cell) (done (answer (askAt s want cell step) (recordsField s rs))) h
+reading-passes t rs want cell step h =
+    first-passed (cornersOutcome (t .shape) rs cell)
+    (done (answerBy (roundingIn t) (askAt (t .shape) want cell step) (recordsField (t .shape) rs))) h
 
 -- a query by cell that is not refused before 5
 pub record Passed (s : Shape) (rs : List ℤ) (want : Want) (cell step : Place) : Type 0 where
@@ -208,28 +204,32 @@ module _ (s : Shape) (rs : List ℤ) (want : Want) (cell step : Place) where
       first-passed (askedOutcome s rs want) (first (cellOutcome s cell) (stepsOutcome s step)) (f .asked)
       ∙ first-passed (cellOutcome s cell) (stepsOutcome s step) (f .cells) ∙ f .inside
 
-  pub by-cell-reads : testedOutcome s rs want cell step ≡ done tt → byCell s rs want cell step ≡ reading s rs want cell step
+module _ (t : FullShape) (rs : List ℤ) (want : Want) (cell step : Place) where
+  pub by-cell-reads : testedOutcome (t .shape) rs want cell step ≡ done tt → byCell t rs want cell step ≡ reading t rs want cell step
   unfolding byCell
-  by-cell-reads h = first-passed (testedOutcome s rs want cell step) (reading s rs want cell step) h
+  by-cell-reads h = first-passed (testedOutcome (t .shape) rs want cell step) (reading t rs want cell step) h
 
-  pub by-cell-stops : {n p : ℕ} → testedOutcome s rs want cell step ≡ refused n p → byCell s rs want cell step ≡ refused n p
+  pub by-cell-stops : {n p : ℕ} → testedOutcome (t .shape) rs want cell step ≡ refused n p → byCell t rs want cell step ≡ refused n p
   unfolding byCell
-  by-cell-stops e = refused-first (reading s rs want cell step) e
+  by-cell-stops e = refused-first (reading t rs want cell step) e
 
-  pub by-cell-passes : length rs ≡ size s → shapeOutcome s ≡ done tt → wantOutcome s want ≡ done tt → cellOutcome s cell ≡ done tt
-      → stepsOutcome s step ≡ done tt → cornersOutcome s rs cell ≡ done tt
-      → byCell s rs want cell step ≡ done (answer (askAt s want cell step) (recordsField s rs))
+  pub by-cell-passes : length rs ≡ size (t .shape) → shapeOutcome (t .shape) ≡ done tt → wantOutcome (t .shape) want ≡ done tt
+      → cellOutcome (t .shape) cell ≡ done tt → stepsOutcome (t .shape) step ≡ done tt → cornersOutcome (t .shape) rs cell ≡ done tt
+      → byCell t rs want cell step ≡ done (answerBy (roundingIn t) (askAt (t .shape) want cell step) (recordsField (t .shape) rs))
   by-cell-passes l h w c u k =
-      by-cell-reads (tested-passes (record { asked = asked-passes s rs want l h w; cells = c; inside = u }))
-      ∙ reading-passes s rs want cell step k
+      by-cell-reads (tested-passes (t .shape) rs want cell step
+      (record { asked = asked-passes (t .shape) rs want l h w; cells = c; inside = u }))
+      ∙ reading-passes t rs want cell step k
 
 -- a query by cell as its tests one after the other
-pub by-cell-is : (s : Shape) (rs : List ℤ) (want : Want) (cell step : Place)
-    → byCell s rs want cell step
-    ≡ first (askedOutcome s rs want) (first (first (cellOutcome s cell) (stepsOutcome s step)) (reading s rs want cell step))
+pub by-cell-is : (t : FullShape) (rs : List ℤ) (want : Want) (cell step : Place)
+    → byCell t rs want cell step
+    ≡ first (askedOutcome (t .shape) rs want)
+    (first (first (cellOutcome (t .shape) cell) (stepsOutcome (t .shape) step)) (reading t rs want cell step))
 unfolding byCell testedOutcome
-by-cell-is s rs want cell step =
-    first-assoc (askedOutcome s rs want) (first (cellOutcome s cell) (stepsOutcome s step)) (reading s rs want cell step)
+by-cell-is t rs want cell step =
+    let s = t .shape in
+    first-assoc (askedOutcome s rs want) (first (cellOutcome s cell) (stepsOutcome s step)) (reading t rs want cell step)
 
 -- the slice made anew of all the records
 abbrev pub lent : List ℤ → List ℤ
@@ -269,57 +269,61 @@ module _ (s : Shape) (rs : List ℤ) (want : Want) (cell : List ℕ) (step : Pla
         corners = passed-done (cornersOutcome s rs (placeAt cell)) k;
       }
 
-  -- an answer is below 2^24
-  pub by-cell-small : (v : ℤ) → byCell s rs want (placeAt cell) step ≡ done v → natAbs v < 2 ^ 24
-  unfolding byCell
-  by-cell-small v h =
-      let f = first-done (testedOutcome s rs want (placeAt cell) step) (reading s rs want (placeAt cell) step) v h in
-      let r = reading-parts s rs want (placeAt cell) step v (f .1) in
-      subst (λ z. natAbs z < 2 ^ 24) (r .1)
-      (answer-fits half-up-sound s rs (placeAt cell) step want laid (ready (f .0) laid is-laid (ap passed (r .0))))
-    where
-      laid : Layout
-      laid = record {
-        orders = orders s;
-        entries = entries s;
-        base = base s (placeAt cell);
-        strides =
-            nodeStride s 0 ∷ nodeStride s 1 ∷ nodeStride s 2 ∷ [];
-      }
+-- an answer is below 2^24
+pub by-cell-small : (t : FullShape) (rs : List ℤ) (want : Want) (cell : List ℕ) (step : Place) (v : ℤ)
+    → byCell t rs want (placeAt cell) step ≡ done v → natAbs v < 2 ^ 24
+unfolding byCell
+by-cell-small t rs want cell step v h =
+    let s = t .shape in
+    let f = first-done (testedOutcome s rs want (placeAt cell) step) (reading t rs want (placeAt cell) step) v h in
+    let r = reading-parts t rs want (placeAt cell) step v (f .1) in
+    subst (λ z. natAbs z < 2 ^ 24) (r .1)
+    (answer-fits (edition-sound (t .«second_edition»)) s rs (placeAt cell) step want laid
+    (ready s rs want cell step (f .0) laid is-laid (ap passed (r .0))))
+  where
+    laid : Layout
+    laid = record {
+      orders = orders (t .shape);
+      entries = entries (t .shape);
+      base = base (t .shape) (placeAt cell);
+      strides =
+          nodeStride (t .shape) 0 ∷ nodeStride (t .shape) 1 ∷ nodeStride (t .shape) 2 ∷ [];
+    }
 
-      is-laid : Laid s (placeAt cell) laid
-      is-laid = record { orders-are = refl; entries-are = refl; base-is = refl; stride-x = refl; stride-y = refl; stride-z = refl }
+    is-laid : Laid (t .shape) (placeAt cell) laid
+    is-laid = record { orders-are = refl; entries-are = refl; base-is = refl; stride-x = refl; stride-y = refl; stride-z = refl }
 
 -- reading a cell once the tests before 5 are passed: what its layout, the test of its corners and its stages ask for, and what is read
-pub record Reader (s : Shape) (rs : List ℤ) (want : Want) (cell : List ℕ) (step : Place) : Type 0 where
+pub record Reader (s : Shape) (even : Bool) (rs : List ℤ) (want : Want) (cell : List ℕ) (step : Place) : Type 0 where
   pub layout-asks : Shaped s × Accepted s (placeAt cell)
-  pub corners-asks : (l : Layout) → Laid s (placeAt cell) l → (n : ℕ) → n ≡ s .axes
-      → (Shaped s × (length rs ≡ size s) × (n ≡ s .axes)) × (Accepted s (placeAt cell) × Laid s (placeAt cell) l)
+  pub corners-asks : (l : Layout) → Laid s (placeAt cell) l
+      → (Shaped s × (length rs ≡ size s)) × (Accepted s (placeAt cell) × Laid s (placeAt cell) l)
   pub stages-ask : (l : Layout) → Laid s (placeAt cell) l → (w : Bool) → w ≡ passed (cornersOutcome s rs (placeAt cell)) → w ≡ true
       → Ready s rs (placeAt cell) step want l
   pub answered : (w : Bool) → w ≡ passed (cornersOutcome s rs (placeAt cell)) → w ≡ true
-      → (r : ℤ) → mag r < 2 ^ 31 → r ≡ answer (askAt s want (placeAt cell) step) (recordsField s rs)
-      → done (toZ w32 (ofZ w32 r)) ≡ reading s rs want (placeAt cell) step
+      → (r : ℤ) → mag r < 2 ^ 31 → r ≡ answerBy (roundingOf even) (askAt s want (placeAt cell) step) (recordsField s rs)
+      → done (toZ w32 (ofZ w32 r)) ≡ reading (fullShape s even) rs want (placeAt cell) step
   pub beyond-asks : (l : Layout) → Laid s (placeAt cell) l → (w : Bool) → w ≡ passed (cornersOutcome s rs (placeAt cell)) → w ≡ false
       → (Shaped s × (length rs ≡ size s))
       × ((Accepted s (placeAt cell) × Laid s (placeAt cell) l) × (passed (cornersOutcome s rs (placeAt cell)) ≡ false))
   pub stopped : (o : Outcome ℤ) → ((v : ℤ) → o ≡ first (cornersOutcome s rs (placeAt cell)) (done v))
-      → o ≡ reading s rs want (placeAt cell) step
+      → o ≡ reading (fullShape s even) rs want (placeAt cell) step
 
-pub reader : (s : Shape) (rs : List ℤ) (want : Want) (cell : List ℕ) (step : Place) → testedOutcome s rs want (placeAt cell) step ≡ done tt
-    → Reader s rs want cell step
+pub reader : (s : Shape) (even : Bool) (rs : List ℤ) (want : Want) (cell : List ℕ) (step : Place)
+    → testedOutcome s rs want (placeAt cell) step ≡ done tt → Reader s even rs want cell step
 unfolding reading
-reader s rs want cell step t =
+reader s even rs want cell step t =
     let f = near s rs want cell step t in
     record {
       layout-asks = (f .shape, f .here);
-      corners-asks = λ l laid n e. ((f .shape, f .long, e), (f .here, laid));
+      corners-asks = λ l laid. ((f .shape, f .long), (f .here, laid));
       stages-ask = λ l laid w e h. ready s rs want cell step t l laid (sym e ∙ h);
       answered = λ w e h r fit is.
           ap done (element r fit ∙ is)
-          ∙ sym (reading-passes s rs want (placeAt cell) step (passed-done (cornersOutcome s rs (placeAt cell)) (sym e ∙ h)));
+          ∙ sym (reading-passes (fullShape s even) rs want (placeAt cell) step
+          (passed-done (cornersOutcome s rs (placeAt cell)) (sym e ∙ h)));
       beyond-asks = λ l laid w e h. ((f .shape, f .long), ((f .here, laid), sym e ∙ h));
-      stopped = λ o h. h (answer (askAt s want (placeAt cell) step) (recordsField s rs));
+      stopped = λ o h. h (answerBy (roundingOf even) (askAt s want (placeAt cell) step) (recordsField s rs));
     }
 
 -- ---- positions

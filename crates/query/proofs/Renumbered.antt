@@ -12,6 +12,7 @@ use borrow.Author.Tests.{eqb-true}
 use Rattle.arith.specs.Choice.{pick}
 use Rattle.arith.proofs.Choices.{clash, split, pick-true, pick-false}
 use Rattle.lattice.specs.declared.Shape.{Shape}
+use Rattle.lattice.specs.declared.FullShape.{FullShape}
 use Rattle.lattice.specs.Outcome.{Outcome, Check, done, refused, refuseUnless, first, firstOf}
 use Rattle.lattice.specs.Shape.{count, orders, size, shapeOutcome, axesOutcome, degreeOutcome, countsOutcome, countAllowed}
 use Rattle.lattice.specs.Axes.{Place}
@@ -77,24 +78,25 @@ module _ (told : ℕ → ℕ → ℕ) where
         (kept-first _ _ (kept-test (eqb (length rs) (size s)) 4 0 (keeps 4 0 refl)) (kept-want s want))
 
     -- and 5
-    pub kept-reading : (s : Shape) (rs : List ℤ) (want : Want) (cell u : Place)
-        → renumbered told (reading s rs want cell u) ≡ reading s rs want cell u
+    pub kept-reading : (t : FullShape) (rs : List ℤ) (want : Want) (cell u : Place)
+        → renumbered told (reading t rs want cell u) ≡ reading t rs want cell u
     unfolding reading cornersOutcome entryOutcome
-    kept-reading s rs want cell u =
+    kept-reading t rs want cell u =
+        let s = t .shape in
         kept-first (cornersOutcome s rs cell) _ (renumbered-each (cornerEntries s) _ _ (λ i l.
         let p = cornerPlace s cell i in
         kept-test (leb (natAbs (recordsField s rs p)) (entryLimit (orders s) (s .axes) p)) 5 (entryIndex s p)
         (keeps 5 (entryIndex s p) refl))) refl
 
     -- a query: the common tests, the tests of its position, and what is read
-    pub renumbered-query : (s : Shape) (rs : List ℤ) (want : Want) (tests : Check) (cell u : Place)
-        → renumbered told (first (askedOutcome s rs want) (first tests (reading s rs want cell u)))
-        ≡ first (askedOutcome s rs want) (first (renumbered told tests) (reading s rs want cell u))
-    renumbered-query s rs want tests cell u =
-        renumbered-first (askedOutcome s rs want) (first tests (reading s rs want cell u))
-        ∙ ap₂ (λ (c : Check) (o : Outcome ℤ). first c o) (kept-asked s rs want)
-        (renumbered-first tests (reading s rs want cell u)
-        ∙ ap (λ (o : Outcome ℤ). first (renumbered told tests) o) (kept-reading s rs want cell u))
+    pub renumbered-query : (t : FullShape) (rs : List ℤ) (want : Want) (tests : Check) (cell u : Place)
+        → renumbered told (first (askedOutcome (t .shape) rs want) (first tests (reading t rs want cell u)))
+        ≡ first (askedOutcome (t .shape) rs want) (first (renumbered told tests) (reading t rs want cell u))
+    renumbered-query t rs want tests cell u =
+        renumbered-first (askedOutcome (t .shape) rs want) (first tests (reading t rs want cell u))
+        ∙ ap₂ (λ (c : Check) (o : Outcome ℤ). first c o) (kept-asked (t .shape) rs want)
+        (renumbered-first tests (reading t rs want cell u)
+        ∙ ap (λ (o : Outcome ℤ). first (renumbered told tests) o) (kept-reading t rs want cell u))
 
 -- ---- by position: 22 for 11
 
@@ -162,14 +164,15 @@ module _ (cell step : Place) where
       ap (renumbered again) f ∙ kept-test again (eqb (step a) 0) 23 a (again-keeps 23 a refl) ∙ sym f))
 
   -- no in-cell step is below 0
-  pub by-cell-again : (s : Shape) (rs : List ℤ) (want : Want)
-      → renumbered cellNumber (renumbered (positionNumber cell step) (byCell s rs want cell step)) ≡ byCell s rs want cell step
-  by-cell-again s rs want =
-      again-is (byCell s rs want cell step) ∙ ap (renumbered again) (by-cell-is s rs want cell step)
-      ∙ renumbered-query again (λ n p e. again-keeps n p (other n e)) s rs want (first (cellOutcome s cell) (stepsOutcome s step)) cell step
-      ∙ ap (λ (t : Check). first (askedOutcome s rs want) (first t (reading s rs want cell step)))
+  pub by-cell-again : (t : FullShape) (rs : List ℤ) (want : Want)
+      → renumbered cellNumber (renumbered (positionNumber cell step) (byCell t rs want cell step)) ≡ byCell t rs want cell step
+  by-cell-again t rs want =
+      let s = t .shape in
+      again-is (byCell t rs want cell step) ∙ ap (renumbered again) (by-cell-is t rs want cell step)
+      ∙ renumbered-query again (λ n p e. again-keeps n p (other n e)) t rs want (first (cellOutcome s cell) (stepsOutcome s step)) cell step
+      ∙ ap (λ (c : Check). first (askedOutcome s rs want) (first c (reading t rs want cell step)))
       (kept-first again (cellOutcome s cell) (stepsOutcome s step) (again-cell s) (again-steps s))
-      ∙ sym (by-cell-is s rs want cell step)
+      ∙ sym (by-cell-is t rs want cell step)
     where
       other : (n : ℕ) → ofPosition n ≡ false → eqb n 22 ≡ false
       other n e = split (eqb n 22) (λ f. split (eqb n 11) (λ g. clash (cc)) (λ g. clash (cc))) (λ f. f)

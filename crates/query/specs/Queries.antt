@@ -8,14 +8,15 @@ use lib.ListN.{length}
 use lib.Signed.{nonNeg}
 use Rattle.arith.specs.Choice.{pick}
 use Rattle.lattice.specs.declared.Shape.{Shape}
+use Rattle.lattice.specs.declared.FullShape.{FullShape}
 use Rattle.lattice.specs.Outcome.{Outcome, Check, done, refuseUnless, first, firstOf}
 use Rattle.lattice.specs.Buffer.{at}
-use Rattle.lattice.specs.Shape.{count, orders, size, shapeOutcome}
+use Rattle.lattice.specs.Shape.{roundingIn, count, orders, size, shapeOutcome}
 use Rattle.lattice.specs.Axes.{Place}
 use Rattle.lattice.specs.Records.{recordsField}
 use Rattle.hermite.specs.Hermite.{steps}
 use Rattle.cell.specs.Cell.{cellOutcome, cornersOutcome}
-use Rattle.evaluate.specs.Evaluate.{Want, dose, derivativeAlong, askAt, answer}
+use Rattle.evaluate.specs.Evaluate.{Want, dose, derivativeAlong, askAt, answerBy}
 
 -- 12: the derivative's axis is not used; then 21: its order is m or more, which order 2 is in degree 3
 unfoldable pub wantOutcome : Shape → Want → Check
@@ -28,8 +29,10 @@ askedOutcome s rs want =
     first (shapeOutcome s) (first (refuseUnless (eqb (length rs) (size s)) 4 0) (wantOutcome s want))
 
 -- 5 on the corners, then the dose or derivative
-unfoldable pub reading : Shape → List ℤ → Want → Place → Place → Outcome ℤ
-reading s rs want cell step = first (cornersOutcome s rs cell) (done (answer (askAt s want cell step) (recordsField s rs)))
+unfoldable pub reading : FullShape → List ℤ → Want → Place → Place → Outcome ℤ
+reading t rs want cell step =
+    first (cornersOutcome (t .shape) rs cell)
+    (done (answerBy (roundingIn t) (askAt (t .shape) want cell step) (recordsField (t .shape) rs)))
 
 -- ---- a position on an axis
 
@@ -50,8 +53,8 @@ unfoldable pub testedOutcome : Shape → List ℤ → Want → Place → Place �
 testedOutcome s rs want cell step = first (askedOutcome s rs want) (first (cellOutcome s cell) (stepsOutcome s step))
 
 -- then 5
-unfoldable pub byCell : Shape → List ℤ → Want → Place → Place → Outcome ℤ
-byCell s rs want cell step = first (testedOutcome s rs want cell step) (reading s rs want cell step)
+unfoldable pub byCell : FullShape → List ℤ → Want → Place → Place → Outcome ℤ
+byCell t rs want cell step = first (testedOutcome (t .shape) rs want cell step) (reading t rs want cell step)
 
 -- ---- by table position
 
@@ -79,6 +82,7 @@ unfoldable pub positionStep : Shape → Position → Place
 positionStep s p a = natAbs (p a) - steps * positionCell s p a
 
 -- then on each axis 23, 22, 11; then 5
-unfoldable pub byPosition : Shape → List ℤ → Want → Position → Outcome ℤ
-byPosition s rs want p =
-    first (askedOutcome s rs want) (first (firstOf 3 (positionOutcome s p)) (reading s rs want (positionCell s p) (positionStep s p)))
+unfoldable pub byPosition : FullShape → List ℤ → Want → Position → Outcome ℤ
+byPosition t rs want p =
+    first (askedOutcome (t .shape) rs want)
+    (first (firstOf 3 (positionOutcome (t .shape) p)) (reading t rs want (positionCell (t .shape) p) (positionStep (t .shape) p)))

@@ -9,7 +9,7 @@ ghost use lib.ListN.{length};
 ghost use Rattle.arith.specs.Choice.{pick};
 ghost use Rattle.lattice.specs.Outcome.{done, first, passed};
 ghost use Rattle.lattice.specs.Answers.{outcomeOf};
-ghost use Rattle.lattice.specs.Shape.{size, Shaped};
+ghost use Rattle.lattice.specs.Shape.{fullShape, size, Shaped};
 ghost use Rattle.hermite.specs.Hermite.{steps};
 ghost use Rattle.cell.specs.Cell.{placeAt, cornersOutcome, Accepted, Laid};
 ghost use Rattle.evaluate.specs.Evaluate.{derivativeAlong};
@@ -20,6 +20,7 @@ ghost use Rattle.query.specs.Queries.{wantOutcome, askedOutcome, testedO
 use cell::Layout;
 use evaluate::Derivative;
 use lattice::Check;
+use lattice::FullShape;
 use lattice::Refusal;
 use lattice::Shape;
 
@@ -195,9 +196,10 @@ fn beyond(s: Shape, records: &[i32], cell: [u32; 3], l: Layout) -> Reading
     }
 }
 
-// Refusal 5, or the dose or derivative, of one axis.
+// Refusal 5, or the dose or derivative, of one axis; here and below `even` is set in edition two.
 fn read_line(
     s: Shape,
+    even: bool,
     records: &[i32],
     cell: [u32; 3],
     step: [u32; 3],
@@ -206,11 +208,11 @@ fn read_line(
 ) -> Reading
     requires { ⌜ testedOutcome s (now records) (wantOf order axis) (placeAt cell) (placeAt step) ≡ done tt ⌝ }
     requires { ⌜ s .axes ≡ 1 ⌝ }
-    ensures { λ r. ⌜ outcomeOfReading r ≡ reading s (now (records .entry)) (wantOf order axis) (placeAt cell) (placeAt step) ⌝ }
+    ensures { λ r. ⌜ outcomeOfReading r ≡ reading (fullShape s even) (now (records .entry)) (wantOf order axis) (placeAt cell) (placeAt step) ⌝ }
 {
     let l = cell::layout_of(s, cell);
-    if cell::corners_within(1, s, records, cell, l) {
-        return Reading::Value(evaluate::on_line(s, records, cell, step, order, axis, l));
+    if cell::line_within(s, records, cell, l) {
+        return Reading::Value(evaluate::on_line(s, even, records, cell, step, order, axis, l));
     }
     beyond(s, records, cell, l)
 }
@@ -218,6 +220,7 @@ fn read_line(
 // Refusal 5, or the dose or derivative, of two or three axes.
 fn read_lattice(
     s: Shape,
+    even: bool,
     records: &[i32],
     cell: [u32; 3],
     step: [u32; 3],
@@ -226,12 +229,12 @@ fn read_lattice(
 ) -> Reading
     requires { ⌜ testedOutcome s (now records) (wantOf order axis) (placeAt cell) (placeAt step) ≡ done tt ⌝ }
     requires { ⌜ 2 ≤ s .axes ⌝ }
-    ensures { λ r. ⌜ outcomeOfReading r ≡ reading s (now (records .entry)) (wantOf order axis) (placeAt cell) (placeAt step) ⌝ }
+    ensures { λ r. ⌜ outcomeOfReading r ≡ reading (fullShape s even) (now (records .entry)) (wantOf order axis) (placeAt cell) (placeAt step) ⌝ }
 {
     let n = s.axes;
     let l = cell::layout_of(s, cell);
-    if cell::corners_within(n, s, records, cell, l) {
-        return Reading::Value(evaluate::on_lattice(s, records, cell, step, order, axis, l));
+    if cell::lattice_within(n, s, records, cell, l) {
+        return Reading::Value(evaluate::on_lattice(s, even, records, cell, step, order, axis, l));
     }
     beyond(s, records, cell, l)
 }
@@ -248,8 +251,9 @@ fn read(
     w: u32,
     order: u32,
     axis: u32,
+    even: bool,
 ) -> Reading
-    ensures { λ r. ⌜ outcomeOfReading r ≡ renumbered (positionNumber (placeAt (i ∷ j ∷ k ∷ [])) (placeAt (u ∷ v ∷ w ∷ []))) (byCell s (now (records .entry)) (wantOf order axis) (placeAt (i ∷ j ∷ k ∷ [])) (placeAt (u ∷ v ∷ w ∷ []))) ⌝ }
+    ensures { λ r. ⌜ outcomeOfReading r ≡ renumbered (positionNumber (placeAt (i ∷ j ∷ k ∷ [])) (placeAt (u ∷ v ∷ w ∷ []))) (byCell (fullShape s even) (now (records .entry)) (wantOf order axis) (placeAt (i ∷ j ∷ k ∷ [])) (placeAt (u ∷ v ∷ w ∷ []))) ⌝ }
 {
     let long = records.len();
     let tested = check_by_axes(s, long, i, j, k, u, v, w, order, axis);
@@ -261,9 +265,9 @@ fn read(
         Check::Done => {
             // Slices made anew stay in registers.
             if s.axes == 1 {
-                return read_line(s, &records[..long], [i, j, k], [u, v, w], order, axis);
+                return read_line(s, even, &records[..long], [i, j, k], [u, v, w], order, axis);
             }
-            read_lattice(s, &records[..long], [i, j, k], [u, v, w], order, axis)
+            read_lattice(s, even, &records[..long], [i, j, k], [u, v, w], order, axis)
         }
     }
 }
@@ -289,15 +293,15 @@ fn by_cell(a: Reading) -> Reading
 }
 
 // The dose or derivative at a step of a cell.
-pub fn in_cell(s: Shape, records: &[i32], q: CellQuery) -> Reading
-    ensures { λ r. ⌜ outcomeOfReading r ≡ byCell s (now (records .entry)) (wanted (q .derivative)) (placeAt (q .cell)) (placeAt (q .step)) ⌝ }
+pub fn in_cell(t: FullShape, records: &[i32], q: CellQuery) -> Reading
+    ensures { λ r. ⌜ outcomeOfReading r ≡ byCell t (now (records .entry)) (wanted (q .derivative)) (placeAt (q .cell)) (placeAt (q .step)) ⌝ }
 {
     let order = q.derivative.order;
     let axis = q.derivative.axis;
     let cell = q.cell;
     let step = q.step;
     let a = read(
-        s,
+        t.shape,
         records,
         cell[0],
         step[0],
@@ -307,6 +311,7 @@ pub fn in_cell(s: Shape, records: &[i32], q: CellQuery) -> Reading
         step[2],
         order,
         axis,
+        t.second_edition,
     );
     by_cell(a)
 }
@@ -321,9 +326,10 @@ pub fn cell_of(count: u32, p: u32) -> u32
 }
 
 // The dose or derivative at a position; one below 0 stands in two's complement beyond every table.
-pub fn at_position(s: Shape, records: &[i32], q: Query) -> Reading
-    ensures { λ r. ⌜ outcomeOfReading r ≡ byPosition s (now (records .entry)) (wanted (q .derivative)) (positionAt (q .position)) ⌝ }
+pub fn at_position(t: FullShape, records: &[i32], q: Query) -> Reading
+    ensures { λ r. ⌜ outcomeOfReading r ≡ byPosition t (now (records .entry)) (wanted (q .derivative)) (positionAt (q .position)) ⌝ }
 {
+    let s = t.shape;
     let order = q.derivative.order;
     let axis = q.derivative.axis;
     let x = arith::unsigned(q.position[0]);
@@ -343,5 +349,6 @@ pub fn at_position(s: Shape, records: &[i32], q: Query) -> Reading
         z - 256 * k,
         order,
         axis,
+        t.second_edition,
     )
 }

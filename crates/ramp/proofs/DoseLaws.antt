@@ -12,9 +12,9 @@ use mir.Syntax.{w32, w64}
 use mir.Val.{SFits, toZ, ofZ}
 use borrow.Author.Tests.{lt-ltb}
 use Rattle.arith.specs.Choice.{pick}
-use Rattle.arith.specs.Int.{roundHalfUp}
+use Rattle.arith.specs.Int.{Rounding}
 use Rattle.arith.proofs.Choices.{pick-true}
-use Rattle.arith.proofs.Round.{half-up-sound}
+use Rattle.arith.proofs.Round.{Sound}
 use Rattle.lattice.specs.declared.Shape.{Shape}
 use Rattle.lattice.specs.Buffer.{at}
 use Rattle.lattice.specs.Digits.{number}
@@ -27,18 +27,18 @@ use Rattle.cell.specs.Cell.{placeAt, Laid, base, nodeStride, orderStride}
 use Rattle.cell.specs.Corners.{oneCell}
 use Rattle.cell.proofs.OneCell.{one-shaped, one-accepted}
 use Rattle.evaluate.specs.declared.Strides.{Strides}
-use Rattle.evaluate.specs.Evaluate.{dose, orderWanted, lastAxis, askAt, answer}
+use Rattle.evaluate.specs.Evaluate.{dose, orderWanted, lastAxis, askAt, answerBy}
 use Rattle.evaluate.specs.Stages.{stridesOf, Workable, WorkedOff, Ready}
 use Rattle.evaluate.proofs.AnswerLaws.{order-last}
 use Rattle.evaluate.proofs.Answering.{IsAxis, AreAxes, workable-in, answer-in, fits, cast}
 use Rattle.ramp.specs.Parts.{one, Readable}
 
 -- stages along b, the last, and along vs can be worked off, and their result is the dose
-pub record Doses (s : Shape) (held : List ℤ) (xs : List ℕ) (m : ℕ) (b : Strides) (vs : List Strides) : Type 0 where
-  pub asks : Workable roundHalfUp m 0 b vs (length held) (at held) 0
-  pub fit : (r : ℤ) → mag r < 2 ^ 63 → WorkedOff roundHalfUp m 0 b vs (at held) 0 r → SFits w32 (toZ w64 (ofZ w64 r))
-  pub give : (r : ℤ) → mag r < 2 ^ 63 → WorkedOff roundHalfUp m 0 b vs (at held) 0 r
-      → toZ w32 (ofZ w32 (toZ w64 (ofZ w64 r))) ≡ answer (askAt (one s) dose origin (placeAt xs)) (recordsField (one s) held)
+pub record Doses (round : Rounding) (s : Shape) (held : List ℤ) (xs : List ℕ) (m : ℕ) (b : Strides) (vs : List Strides) : Type 0 where
+  pub asks : Workable round m 0 b vs (length held) (at held) 0
+  pub fit : (r : ℤ) → mag r < 2 ^ 63 → WorkedOff round m 0 b vs (at held) 0 r → SFits w32 (toZ w64 (ofZ w64 r))
+  pub give : (r : ℤ) → mag r < 2 ^ 63 → WorkedOff round m 0 b vs (at held) 0 r
+      → toZ w32 (ofZ w32 (toZ w64 (ofZ w64 r))) ≡ answerBy round (askAt (one s) dose origin (placeAt xs)) (recordsField (one s) held)
 
 -- m orders, n axes, and E entries a record
 module _ (s : Shape) (held : List ℤ) (xs : List ℕ) (f : Readable s held (placeAt xs)) (m n E : ℕ) (m-is : orders s ≡ m) (n-is : s .axes ≡ n)
@@ -108,7 +108,8 @@ module _ (s : Shape) (held : List ℤ) (xs : List ℕ) (f : Readable s held (pla
 
   -- ---- the stages, axis a the last
 
-  module _ (a : ℕ) (last-is : lastAxis n dose ≡ a) (b : Strides) (vs : List Strides) (is : IsAxis (one s) (placeAt xs) a b)
+  module _ {round : Rounding} (sound : Sound round) (a : ℕ) (last-is : lastAxis n dose ≡ a) (b : Strides) (vs : List Strides)
+      (is : IsAxis (one s) (placeAt xs) a b)
       (are : AreAxes (one s) (placeAt xs) (without a (axes n)) vs) where
     axes-are : one s .axes ≡ n
     unfolding oneCell
@@ -117,33 +118,36 @@ module _ (s : Shape) (held : List ℤ) (xs : List ℕ) (f : Readable s held (pla
     last : lastAxis (one s .axes) dose ≡ a
     last = ap (λ (i : ℕ). lastAxis i dose) axes-are ∙ last-is
 
-    gives : (r : ℤ) → WorkedOff roundHalfUp m 0 b vs (at held) 0 r
-        → r ≡ answer (askAt (one s) dose origin (placeAt xs)) (recordsField (one s) held)
+    gives : (r : ℤ) → WorkedOff round m 0 b vs (at held) 0 r
+        → r ≡ answerBy round (askAt (one s) dose origin (placeAt xs)) (recordsField (one s) held)
     unfolding layout
-    gives = answer-in half-up-sound (one s) held origin (placeAt xs) dose layout ready n a axes-are last 0 (order-last 0 0) b vs is are
+    gives = answer-in sound (one s) held origin (placeAt xs) dose layout ready n a axes-are last 0 (order-last 0 0) b vs is are
 
-    pub doses : Doses s held xs m b vs
+    pub doses : Doses round s held xs m b vs
     unfolding layout
     doses = record {
-      asks = workable-in half-up-sound (one s) held origin (placeAt xs) dose layout ready n a axes-are last 0 (order-last 0 0) b vs is are;
-      fit = λ r ok w. fits half-up-sound (one s) held origin xs 0 0 layout ready r ok (gives r w);
-      give = λ r ok w. cast half-up-sound (one s) held origin xs 0 0 layout ready r ok (gives r w);
+      asks = workable-in sound (one s) held origin (placeAt xs) dose layout ready n a axes-are last 0 (order-last 0 0) b vs is are;
+      fit = λ r ok w. fits sound (one s) held origin xs 0 0 layout ready r ok (gives r w);
+      give = λ r ok w. cast sound (one s) held origin xs 0 0 layout ready r ok (gives r w);
     }
 
 -- one, two and three axes
-module _ (s : Shape) (held : List ℤ) (xs : List ℕ) (f : Readable s held (placeAt xs)) (m E : ℕ) (m-is : orders s ≡ m) where
-  pub on-line : s .axes ≡ 1 → m ^ 1 ≡ E → Doses s held xs m (stridesOf (getD xs 0 0) E 1) []
+module _ {round : Rounding} (sound : Sound round) (s : Shape) (held : List ℤ) (xs : List ℕ) (f : Readable s held (placeAt xs)) (m E : ℕ)
+    (m-is : orders s ≡ m) where
+  pub on-line : s .axes ≡ 1 → m ^ 1 ≡ E → Doses round s held xs m (stridesOf (getD xs 0 0) E 1) []
   unfolding lastAxis axes without pick
-  on-line n-is e = doses s held xs f m 1 E m-is n-is e 0 refl _ [] (along-x s held xs f m 1 E m-is n-is e) tt
+  on-line n-is e = doses s held xs f m 1 E m-is n-is e sound 0 refl _ [] (along-x s held xs f m 1 E m-is n-is e) tt
 
-  pub on-plane : s .axes ≡ 2 → m ^ 2 ≡ E → Doses s held xs m (stridesOf (getD xs 1 0) (2 * E) m) (stridesOf (getD xs 0 0) E 1 ∷ [])
+  pub on-plane : s .axes ≡ 2 → m ^ 2 ≡ E → Doses round s held xs m (stridesOf (getD xs 1 0) (2 * E) m) (stridesOf (getD xs 0 0) E 1 ∷ [])
   unfolding lastAxis axes without pick
   on-plane n-is e =
-      doses s held xs f m 2 E m-is n-is e 1 refl _ _ (along-y s held xs f m 2 E m-is n-is e) (along-x s held xs f m 2 E m-is n-is e, tt)
+      doses s held xs f m 2 E m-is n-is e sound 1 refl _ _ (along-y s held xs f m 2 E m-is n-is e)
+      (along-x s held xs f m 2 E m-is n-is e, tt)
 
   pub in-space : s .axes ≡ 3 → m ^ 3 ≡ E
-      → Doses s held xs m (stridesOf (getD xs 2 0) (4 * E) (m * m)) (stridesOf (getD xs 1 0) (2 * E) m ∷ stridesOf (getD xs 0 0) E 1 ∷ [])
+      → Doses round s held xs m (stridesOf (getD xs 2 0) (4 * E) (m * m))
+      (stridesOf (getD xs 1 0) (2 * E) m ∷ stridesOf (getD xs 0 0) E 1 ∷ [])
   unfolding lastAxis axes without pick
   in-space n-is e =
-      doses s held xs f m 3 E m-is n-is e 2 refl _ _ (along-z s held xs f m 3 E m-is n-is e (omega arith))
+      doses s held xs f m 3 E m-is n-is e sound 2 refl _ _ (along-z s held xs f m 3 E m-is n-is e (omega arith))
       (along-y s held xs f m 3 E m-is n-is e, (along-x s held xs f m 3 E m-is n-is e, tt))

@@ -15,6 +15,7 @@ use lib.Seq.{getD-set-same, getD-set-other}
 use Rattle.arith.specs.Choice.{pick}
 use Rattle.arith.proofs.Choices.{clash, from-3}
 use Rattle.lattice.specs.declared.Shape.{Shape}
+use Rattle.lattice.specs.Shape.{fullShape}
 use Rattle.lattice.specs.Outcome.{Outcome, Check, done, refused, firstOf}
 use Rattle.lattice.specs.Buffer.{at}
 use Rattle.lattice.specs.Axes.{Place}
@@ -32,9 +33,9 @@ place-same : (c d : List ℕ) → (placeAt c 0 ≡ placeAt d 0) × (placeAt c 1 
 place-same c d h =
     fun-ext (from-3 (λ a. placeAt c a ≡ placeAt d a) (h .0) (h .1) (h .2) (λ a l. place-beyond c a l ∙ sym (place-beyond d a l)))
 
-module _ (s : Shape) (rs ps : List ℤ) where
+module _ (s : Shape) (even : Bool) (rs ps : List ℤ) where
   abbrev own : ℕ → Outcome ℤ
-  own = ownCall s rs ps
+  own = ownCall (fullShape s even) rs ps
 
   abbrev cell : ℕ → Place
   cell i = positionCell s (queryAt ps i)
@@ -67,7 +68,7 @@ module _ (s : Shape) (rs ps : List ℤ) where
     passed-before = firstOf-passes i test (λ j l. ap (inList j) (b .answers j l))
 
     -- a refused query refuses the list
-    pub stops : i < queries ps → {n p : ℕ} → own i ≡ refused n p → refused n i ≡ queriesOutcome s rs ps
+    pub stops : i < queries ps → {n p : ℕ} → own i ≡ refused n p → refused n i ≡ queriesOutcome (fullShape s even) rs ps
     unfolding queriesOutcome
     stops l {n} e =
         sym (refused-first _ (firstOf-stops (queries ps) i test n i l passed-before (ap (inList i) e)))
@@ -127,7 +128,7 @@ module _ (s : Shape) (rs ps : List ℤ) where
 
   -- at the end
   pub ends : (i : ℕ) (found held : List ℤ) (last : List ℕ) (fetched : ℕ) → Before i found held last fetched → i ≡ queries ps
-      → (done fetched ≡ queriesOutcome s rs ps)
+      → (done fetched ≡ queriesOutcome (fullShape s even) rs ps)
       × ((k : ℕ) → Outcome.done fetched ≡ done k → (j : ℕ) → j < queries ps → at found j ≡ answerOf (own j))
   unfolding queriesOutcome
   ends i found held last fetched b e = (

@@ -7,11 +7,12 @@ use native.Mathlib.Omega.{arith}
 use lib.Dec.{leb}
 use lib.IntN.{ℤ, natAbs}
 use lib.ListN.{length, take}
-use Rattle.arith.specs.Int.{roundHalfUp}
+use Rattle.arith.specs.Int.{roundingOf}
 use Rattle.arith.proofs.Choices.{clash}
 use Rattle.lattice.specs.declared.Shape.{Shape}
+use Rattle.lattice.specs.declared.FullShape.{FullShape}
 use Rattle.lattice.specs.Outcome.{Outcome, Check, done, refused, refuseUnless, first, firstOf, passed}
-use Rattle.lattice.specs.Shape.{orders, size, Shaped}
+use Rattle.lattice.specs.Shape.{fullShape, orders, size, Shaped}
 use Rattle.lattice.specs.Axes.{Place, origin}
 use Rattle.lattice.specs.Records.{entryIndex, recordsField, entryLimit}
 use Rattle.lattice.proofs.OutcomeLaws.{first-passed, refused-first, passed-done}
@@ -20,7 +21,7 @@ use Rattle.cell.specs.Cell.{placeAt, cornerPlace, cornerEntries, entryOutcome, 
 use Rattle.cell.specs.Corners.{cornerRecords}
 use Rattle.cell.proofs.CornerRecords.{records-length}
 use Rattle.cell.proofs.OneCell.{one-size, corners-same}
-use Rattle.evaluate.specs.Evaluate.{dose, lastAxis, askAt, answer}
+use Rattle.evaluate.specs.Evaluate.{dose, lastAxis, askAt, answerBy}
 use Rattle.query.specs.Parts.{positionNumber}
 use Rattle.query.specs.Queries.{wantOutcome, askedOutcome, reading, stepsOutcome, positionOutcome, positionCell, positionStep, byPosition}
 use Rattle.query.proofs.QueryLaws.{asked-passes, reading-passes, step-inside}
@@ -62,7 +63,10 @@ spot-passes : (s : Shape) (cell step : Place) → spotOutcome s cell step ≡ do
 unfolding spotOutcome
 spot-passes s cell step = renumbered-done (positionNumber cell step) (stepsOutcome s step) tt
 
-module _ (s : Shape) (rs ps : List ℤ) (listed : Listed s rs ps) (i : ℕ) where
+module _ (s : Shape) (even : Bool) (rs ps : List ℤ) (listed : Listed s rs ps) (i : ℕ) where
+  abbrev full : FullShape
+  full = fullShape s even
+
   ok : Shaped s
   ok = shaped s (listed .shape)
 
@@ -75,22 +79,22 @@ module _ (s : Shape) (rs ps : List ℤ) (listed : Listed s rs ps) (i : ℕ) wher
   tested = firstOf 3 (positionOutcome s (queryAt ps i))
 
   abbrev read : Outcome ℤ
-  read = reading s rs dose (positionCell s (queryAt ps i)) (positionStep s (queryAt ps i))
+  read = reading full rs dose (positionCell s (queryAt ps i)) (positionStep s (queryAt ps i))
 
-  own-is : ownCall s rs ps i ≡ first tested read
+  own-is : ownCall full rs ps i ≡ first tested read
   unfolding byPosition
   own-is = first-passed (askedOutcome s rs dose) (first tested read) asked
 
-  pub own-stops : {n p : ℕ} → tested ≡ refused n p → ownCall s rs ps i ≡ refused n p
+  pub own-stops : {n p : ℕ} → tested ≡ refused n p → ownCall full rs ps i ≡ refused n p
   own-stops e = own-is ∙ refused-first read e
 
   -- the position is not refused
   module _ (passes : tested ≡ done tt) where
-    own-reads : ownCall s rs ps i ≡ read
+    own-reads : ownCall full rs ps i ≡ read
     own-reads = own-is ∙ first-passed tested read passes
 
     pub own-five : (cell : Place) → cell ≡ positionCell s (queryAt ps i) → passed (cornersOutcome s rs cell) ≡ false
-        → Refuses 5 (ownCall s rs ps i)
+        → Refuses 5 (ownCall full rs ps i)
     unfolding reading
     own-five cell e h =
         let f = corners-five s rs cell h in
@@ -126,10 +130,11 @@ module _ (s : Shape) (rs ps : List ℤ) (listed : Listed s rs ps) (i : ℕ) wher
         steps-low = step-inside s step ok (spot-passes s cell step (st .tests ∙ passes));
       }
 
-      pub own-answers : (v : ℤ) → v ≡ answer (askAt (one s) dose origin step) (recordsField (one s) (take (size (one s)) held))
-          → ownCall s rs ps i ≡ done v
+      pub own-answers : (v : ℤ) → v ≡ answerBy (roundingOf even) (askAt (one s) dose origin step)
+          (recordsField (one s) (take (size (one s)) held))
+          → ownCall full rs ps i ≡ done v
       own-answers v e =
-          own-reads ∙ ap (λ (c : Place). reading s rs dose c (positionStep s (queryAt ps i))) (sym (st .cell-is passes))
-          ∙ ap (reading s rs dose cell) (sym (st .step-is passes)) ∙ reading-passes s rs dose cell step within
-          ∙ ap done (answer-one-cell s ok cell (st .here) rs dose step last roundHalfUp
-          ∙ ap (λ (l : List ℤ). answer (askAt (one s) dose origin step) (recordsField (one s) l)) (sym (h .is)) ∙ sym e)
+          own-reads ∙ ap (λ (c : Place). reading full rs dose c (positionStep s (queryAt ps i))) (sym (st .cell-is passes))
+          ∙ ap (reading full rs dose cell) (sym (st .step-is passes)) ∙ reading-passes full rs dose cell step within
+          ∙ ap done (answer-one-cell s ok cell (st .here) rs dose step last (roundingOf even)
+          ∙ ap (λ (l : List ℤ). answerBy (roundingOf even) (askAt (one s) dose origin step) (recordsField (one s) l)) (sym (h .is)) ∙ sym e)

@@ -1,4 +1,4 @@
--- CornerRows of two records, neighbours along x: where each entry stands, and that all rows of a cell fit the array.
+-- Rows of two records, neighbours along x: where each entry stands, and that all rows of a cell fit the array.
 use mathlib.Core.Path.{_≡_, refl, sym, ap, _∙_}
 use Prim.Native.Nat.{ℕ, _+_, _*_, _-_, _/_, _%_, _≤_, _<_}
 use native.Mathlib.Nat.{mul-le-mul}
@@ -15,35 +15,12 @@ use Rattle.lattice.specs.Buffer.{at}
 use Rattle.lattice.proofs.DigitsLaws.{high-digit, low-digit}
 use Rattle.cell.specs.declared.Layout.{Layout}
 use Rattle.cell.specs.Cell.{startOf}
+use Rattle.cell.proofs.LayoutLaws.{neighbour}
 use Rattle.ramp.specs.Parts.{cornerEntryAt}
 
 -- the rows fit
 pub rows-fit : (e r : ℕ) → e ≤ 27 → r + 1 ≤ 4 → 2 * e * r + 2 * e ≤ 216
 rows-fit e r h k = let p : e * r ≤ 27 * 3 = mul-le-mul {m₂ = 3} h (omega arith) in omega arith
-
--- a corner and its neighbour along x
-pub neighbour : (l : Layout) (r : ℕ) → startOf l (2 * r + 1) ≡ startOf l (2 * r) + getD (l .strides) 0 0
-neighbour l r = go (l .base) (getD (l .strides) 0 0) (getD (l .strides) 1 0) (getD (l .strides) 2 0)
-  where
-    even : 2 * r % 2 ≡ 0
-    even = omega arith
-
-    half : 2 * r / 2 ≡ r
-    half = omega arith
-
-    odd : (2 * r + 1) % 2 ≡ 1
-    odd = omega arith
-
-    half-odd : (2 * r + 1) / 2 ≡ r
-    half-odd = omega arith
-
-    go : (b x y z : ℕ)
-        → b + ((2 * r + 1) % 2 * x + ((2 * r + 1) / 2 % 2 * y + (2 * r + 1) / 2 / 2 * z)) ≡ b
-        + (2 * r % 2 * x + (2 * r / 2 % 2 * y + 2 * r / 2 / 2 * z)) + x
-    go b x y z = rw (even, half, odd, half-odd) (sums (r % 2 * y + r / 2 * z))
-      where
-        sums : (k : ℕ) → b + (1 * x + k) ≡ b + (0 * x + k) + x
-        sums k = omega arith
 
 module _ (l : Layout) (e r d : ℕ) (some : 1 ≤ e) (next : getD (l .strides) 0 0 ≡ e) (inside : d < 2 * e) where
   -- entry d of row r

@@ -8,7 +8,7 @@ use native.Mathlib.Omega.{arith}
 use lib.IntN.{ℤ, pos}
 use lib.ListN.{length, List·getD-append}
 use Rattle.arith.proofs.Choices.{clash}
-use Rattle.lattice.specs.declared.Shape.{Shape}
+use Rattle.lattice.specs.declared.FullShape.{FullShape}
 use Rattle.lattice.specs.Outcome.{Outcome, Check, done, refused, first, firstOf, passed}
 use Rattle.lattice.specs.Buffer.{at, tabulate, overwrite}
 use Rattle.lattice.proofs.BufferLaws.{length-tabulate, getD-tabulate}
@@ -31,15 +31,15 @@ refused-same a b c d e = (cc, cc)
 
 -- ---- the list
 
-module _ (s : Shape) (rs ps : List ℤ) where
+module _ (t : FullShape) (rs ps : List ℤ) where
   abbrev own : ℕ → Outcome ℤ
-  own = ownCall s rs ps
+  own = ownCall t rs ps
 
   abbrev test : ℕ → Check
   test i = inList i (own i)
 
   abbrev told : Outcome ℕ
-  told = done (fetches (λ i. positionCell s (queryAt ps i)) (queries ps))
+  told = done (fetches (λ i. positionCell (t .shape) (queryAt ps i)) (queries ps))
 
   -- a refusal of the first m queries
   record At (m n p : ℕ) : Type 0 where
@@ -72,11 +72,11 @@ module _ (s : Shape) (rs ps : List ℤ) where
           record { inside = let l = a .inside in omega arith; before = a .before; place = a .place; is = a .is }
 
   -- each answer equals that of its own call
-  pub each-answer : (old : List ℤ) (k : ℕ) → rampOutcome s rs ps (length old) ≡ done k → (i : ℕ) → i < queries ps
-      → ownCall s rs ps i ≡ done (at (rampWrites s rs ps old) i)
+  pub each-answer : (old : List ℤ) (k : ℕ) → rampOutcome t rs ps (length old) ≡ done k → (i : ℕ) → i < queries ps
+      → ownCall t rs ps i ≡ done (at (rampWrites t rs ps old) i)
   unfolding rampOutcome queriesOutcome rampWrites
   each-answer old k h i l =
-      let f = first-done (listOutcome s (length rs) (length ps) (length old)) (queriesOutcome s rs ps) k h in
+      let f = first-done (listOutcome (t .shape) (length rs) (length ps) (length old)) (queriesOutcome t rs ps) k h in
       let g = first-done (firstOf (queries ps) test) told k (f .1) in
       let answers = tabulate (queries ps) (λ i. answerOf (own i)) in
       in-done i (own i) (firstOf-each (queries ps) test (g .0) i l)
@@ -86,18 +86,18 @@ module _ (s : Shape) (rs ps : List ℤ) where
 
   module _ (room : ℕ) where
     abbrev lengths : Check
-    lengths = listOutcome s (length rs) (length ps) room
+    lengths = listOutcome (t .shape) (length rs) (length ps) room
 
     -- where the lengths are not refused, the list is refused by the first query whose own call is, with its number and the query's index
-    pub first-refused : lengths ≡ done tt → (n i : ℕ) → (rampOutcome s rs ps room ≡ refused n i) ↔ FirstRefused s rs ps n i
+    pub first-refused : lengths ≡ done tt → (n i : ℕ) → (rampOutcome t rs ps room ≡ refused n i) ↔ FirstRefused t rs ps n i
     unfolding rampOutcome queriesOutcome
     first-refused e n i = (
       λ h.
           let a = found (queries ps) n i
-          (first-of (firstOf (queries ps) test) told refl (sym (first-passed lengths (queriesOutcome s rs ps) e) ∙ h)) in
+          (first-of (firstOf (queries ps) test) told refl (sym (first-passed lengths (queriesOutcome t rs ps) e) ∙ h)) in
           record { inside = a .inside; before = a .before; place = a .place; own = a .is },
       λ f.
-          first-passed lengths (queriesOutcome s rs ps) e
+          first-passed lengths (queriesOutcome t rs ps) e
           ∙ refused-first told (firstOf-stops (queries ps) i test n i (f .inside)
           (firstOf-passes i test (λ j l. in-passed j (own j) (f .before j l))) (ap (inList i) (f .own))),
     )
@@ -107,16 +107,16 @@ module _ (s : Shape) (rs ps : List ℤ) where
         first-of (refused m p) o q h = let f = refused-same m p n i h in ap₂ refused (f .0) (f .1)
 
     -- the list is answered if and only if its lengths are not refused and no query's own call is
-    pub answered : (passed (rampOutcome s rs ps room) ≡ true) ↔
-        ((lengths ≡ done tt) × ((i : ℕ) → i < queries ps → passed (ownCall s rs ps i) ≡ true))
+    pub answered : (passed (rampOutcome t rs ps room) ≡ true) ↔
+        ((lengths ≡ done tt) × ((i : ℕ) → i < queries ps → passed (ownCall t rs ps i) ≡ true))
     unfolding rampOutcome queriesOutcome
     answered = (
       λ h.
-          let f = both lengths (queriesOutcome s rs ps) h in
+          let f = both lengths (queriesOutcome t rs ps) h in
           let g = both (firstOf (queries ps) test) told (f .1) in
           (f .0, λ i l. ap passed (in-done i (own i) (firstOf-each (queries ps) test (g .0) i l))),
       λ f. ap passed
-          (first-passed lengths (queriesOutcome s rs ps) (f .0)
+          (first-passed lengths (queriesOutcome t rs ps) (f .0)
           ∙ first-passed (firstOf (queries ps) test) told (firstOf-passes (queries ps) test (λ i l. in-passed i (own i) (f .1 i l)))),
     )
       where

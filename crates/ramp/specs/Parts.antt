@@ -3,7 +3,7 @@ use mathlib.Core.Path.{_≡_}
 use Prim.Native.Nat.{ℕ, _+_, _*_, _/_, _%_, _≤_, _<_}
 use mathlib.Core.List.{List, [], _∷_}
 use lib.IntN.{ℤ}
-use lib.ListN.{length, take, getD}
+use lib.ListN.{length, take}
 use Rattle.lattice.specs.declared.Shape.{Shape}
 use Rattle.lattice.specs.Outcome.{Check, done, firstOf}
 use Rattle.lattice.specs.Buffer.{at}
@@ -11,7 +11,7 @@ use Rattle.lattice.specs.Shape.{size, shapeOutcome, Shaped}
 use Rattle.lattice.specs.Axes.{Place, origin}
 use Rattle.hermite.specs.Hermite.{steps}
 use Rattle.cell.specs.declared.Layout.{Layout}
-use Rattle.cell.specs.Cell.{placeAt, cornersOutcome, Accepted, Small, startOf}
+use Rattle.cell.specs.Cell.{placeAt, cornersOutcome, Accepted, startOf}
 use Rattle.cell.specs.Corners.{cornerRecords, oneCell}
 use Rattle.evaluate.specs.declared.Axis.{Axis}
 use Rattle.query.specs.Parts.{renumbered, positionNumber}
@@ -57,15 +57,6 @@ layoutAlone m e = record { orders = m; entries = e; base = 0; strides = e ∷ 2 
 pub record Copied (l : Layout) (rs : List ℤ) (e k : ℕ) (held : List ℤ) : Type 0 where
   pub long : length held ≡ 216
   pub is : (i : ℕ) → i < k → at held i ≡ cornerEntryAt l rs e i
-
--- rows of two records of e entries, which are neighbours along x, lie in the records
-pub record CornerRows (l : Layout) (rs : List ℤ) (e rows : ℕ) : Type 0 where
-  pub some : 1 ≤ e
-  pub low : e ≤ 27
-  pub few : rows ≤ 4
-  pub small : Small l
-  pub next : getD (l .strides) 0 0 ≡ e
-  pub inside : (r : ℕ) → r < rows → startOf l (2 * r) + 2 * e ≤ length rs
 
 -- an array holds the corner records of a cell
 pub record Held (s : Shape) (rs : List ℤ) (cell : Place) (held : List ℤ) : Type 0 where

@@ -8,6 +8,7 @@ use lib.IntN.{ℤ, pos}
 use lib.ListN.{length}
 use Rattle.arith.specs.Choice.{pick}
 use Rattle.lattice.specs.declared.Shape.{Shape}
+use Rattle.lattice.specs.declared.FullShape.{FullShape}
 use Rattle.lattice.specs.Outcome.{Outcome, Check, done, refused, refuseUnless, first, firstOf, passed, whenDone}
 use Rattle.lattice.specs.Buffer.{at, tabulate, overwrite}
 use Rattle.lattice.specs.Shape.{size, shapeOutcome}
@@ -24,8 +25,8 @@ unfoldable pub queryAt : List ℤ → ℕ → Position
 queryAt ps i = positionAt (at ps (3 * i) ∷ at ps (3 * i + 1) ∷ at ps (3 * i + 2) ∷ [])
 
 -- query i's own call
-abbrev pub ownCall : Shape → List ℤ → List ℤ → ℕ → Outcome ℤ
-ownCall s rs ps i = byPosition s rs dose (queryAt ps i)
+abbrev pub ownCall : FullShape → List ℤ → List ℤ → ℕ → Outcome ℤ
+ownCall t rs ps i = byPosition t rs dose (queryAt ps i)
 
 -- a refusal keeps its number; place is the index in the list
 abbrev pub inList : ℕ → Outcome ℤ → Check
@@ -62,21 +63,22 @@ listOutcome s given asked room =
     (first (refuseUnless (eqb given (size s)) 4 0) (refuseUnless (leb (asked / 3) room) 9 0)))
 
 -- the first refused query, else the number of fetches
-unfoldable pub queriesOutcome : Shape → List ℤ → List ℤ → Outcome ℕ
-queriesOutcome s rs ps =
-    first (firstOf (queries ps) (λ i. inList i (ownCall s rs ps i))) (done (fetches (λ i. positionCell s (queryAt ps i)) (queries ps)))
+unfoldable pub queriesOutcome : FullShape → List ℤ → List ℤ → Outcome ℕ
+queriesOutcome t rs ps =
+    first (firstOf (queries ps) (λ i. inList i (ownCall t rs ps i)))
+    (done (fetches (λ i. positionCell (t .shape) (queryAt ps i)) (queries ps)))
 
-unfoldable pub rampOutcome : Shape → List ℤ → List ℤ → ℕ → Outcome ℕ
-rampOutcome s rs ps room = first (listOutcome s (length rs) (length ps) room) (queriesOutcome s rs ps)
+unfoldable pub rampOutcome : FullShape → List ℤ → List ℤ → ℕ → Outcome ℕ
+rampOutcome t rs ps room = first (listOutcome (t .shape) (length rs) (length ps) room) (queriesOutcome t rs ps)
 
 -- what the slice of answers holds afterwards
-unfoldable pub rampWrites : Shape → List ℤ → List ℤ → List ℤ → List ℤ
-rampWrites s rs ps old =
-    whenDone (rampOutcome s rs ps (length old)) (overwrite (tabulate (queries ps) (λ i. answerOf (ownCall s rs ps i))) old) old
+unfoldable pub rampWrites : FullShape → List ℤ → List ℤ → List ℤ → List ℤ
+rampWrites t rs ps old =
+    whenDone (rampOutcome t rs ps (length old)) (overwrite (tabulate (queries ps) (λ i. answerOf (ownCall t rs ps i))) old) old
 
 -- query i is the first of the list whose own call is refused, with number n
-pub record FirstRefused (s : Shape) (rs ps : List ℤ) (n i : ℕ) : Type 0 where
+pub record FirstRefused (t : FullShape) (rs ps : List ℤ) (n i : ℕ) : Type 0 where
   pub inside : i < queries ps
-  pub before : (j : ℕ) → j < i → passed (ownCall s rs ps j) ≡ true
+  pub before : (j : ℕ) → j < i → passed (ownCall t rs ps j) ≡ true
   pub place : ℕ
-  pub own : ownCall s rs ps i ≡ refused n place
+  pub own : ownCall t rs ps i ≡ refused n place

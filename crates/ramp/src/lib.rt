@@ -6,24 +6,25 @@ ghost use Prim.Native.Nat.{ℕ, _+_, _*_, _%_, _<_, _≤_};
 ghost use lib.Dec.{leb, eqb};
 ghost use lib.ListN.{length};
 ghost use Rattle.arith.specs.Choice.{pick};
-ghost use Rattle.arith.specs.Int.{roundHalfUp};
+ghost use Rattle.arith.specs.Int.{roundingOf};
 ghost use Rattle.lattice.specs.Outcome.{done, refused, firstOf, passed};
 ghost use Rattle.lattice.specs.Answers.{outcomeOf};
 ghost use Rattle.lattice.specs.Buffer.{at, tabulate, overwrite};
-ghost use Rattle.lattice.specs.Shape.{size, Shaped};
+ghost use Rattle.lattice.specs.Shape.{fullShape, size, Shaped};
 ghost use Rattle.lattice.specs.Axes.{origin};
 ghost use Rattle.lattice.specs.Records.{recordsField};
-ghost use Rattle.cell.specs.Cell.{placeAt, cornersOutcome, Accepted, limitIn, Limits, recordOutcome, startOf};
-ghost use Rattle.evaluate.specs.Evaluate.{dose, askAt, answer};
+ghost use Rattle.cell.specs.Cell.{placeAt, cornersOutcome, Accepted, limitIn, Limits, recordOutcome, startOf, CornerRows};
+ghost use Rattle.evaluate.specs.Evaluate.{dose, askAt, answerBy};
 ghost use Rattle.evaluate.specs.Stages.{AreEnds, AtBoth, after, stridesOf, AllPrepared, Safe, Workable, WorkedOff};
 ghost use Rattle.ramp.specs.Ramp.{queries, queryAt, ownCall, answerOf, differ, listOutcome, queriesOutcome, rampOutcome, rampWrites};
 ghost use Rattle.ramp.specs.Answers.{outcomeOfRamp};
-ghost use Rattle.ramp.specs.Parts.{one, layoutAlone, Listed, spotOutcome, Stands, Copied, CornerRows, Held, Readable, AlongX, AlongY};
+ghost use Rattle.ramp.specs.Parts.{one, layoutAlone, Listed, spotOutcome, Stands, Copied, Held, Readable, AlongX, AlongY};
 use cell::Layout;
 use evaluate::Axis;
 use evaluate::Strides;
 use hermite::Ends;
 use lattice::Check;
+use lattice::FullShape;
 use lattice::Refusal;
 use lattice::Shape;
 
@@ -178,7 +179,7 @@ fn copy_within(
     ensures { λ r. ⌜ r ≡ passed (firstOf (2 * rows) (λ c. recordOutcome (limitIn (now (limits .entry))) e (now (records .entry)) (startOf l c))) ⌝ }
 {
     copy_rows(e, rows, records, l, held);
-    cell::all_within(limits, e, 2 * rows, held, layout_alone(l.orders, e))
+    cell::all_within(limits, e, rows, held, layout_alone(l.orders, e))
 }
 
 // Fetches the corner records of a cell, and says whether they are within their limits; degree and axes are constants of the calls.
@@ -222,28 +223,38 @@ fn hold(new: bool, s: Shape, records: &[i32], cell: [u32; 3], held: &mut [i32]) 
     fetch(s, records, cell, held)
 }
 
-// The stage of the only axis.
-fn on_line(m: usize, u: u32, held: &[i32]) -> i64
-    requires { ⌜ Workable roundHalfUp m 0 (stridesOf u m 1) [] (length (now held)) (at (now held)) 0 ⌝ }
-    ensures { λ r. ⌜ WorkedOff roundHalfUp m 0 (stridesOf u m 1) [] (at (now (held .entry))) 0 r ⌝ }
+// The stage of the only axis; here and below `even` is set in edition two.
+fn on_line(even: bool, m: usize, u: u32, held: &[i32]) -> i64
+    requires { ⌜ Workable (roundingOf even) m 0 (stridesOf u m 1) [] (length (now held)) (at (now held)) 0 ⌝ }
+    ensures { λ r. ⌜ WorkedOff (roundingOf even) m 0 (stridesOf u m 1) [] (at (now (held .entry))) 0 r ⌝ }
 {
     let x = Strides {
         step: u,
         node: m,
         order: 1,
     };
-    evaluate::one_axis(m, 0, x, held, 0)
+    evaluate::one_axis(even, m, 0, x, held, 0)
 }
 
-// The stages of two axes; e is m·m.
-fn on_plane(m: usize, e: usize, u: u32, v: u32, held: &[i32]) -> i64
-    requires { ⌜ e ≤ 9 ⌝ }
-    requires { ⌜ Workable roundHalfUp m 0 (stridesOf v (2 * e) m) (stridesOf u e 1 ∷ []) (length (now held)) (at (now held)) 0 ⌝ }
-    ensures { λ r. ⌜ WorkedOff roundHalfUp m 0 (stridesOf v (2 * e) m) (stridesOf u e 1 ∷ []) (at (now (held .entry))) 0 r ⌝ }
+// The stages of two axes; m and the edition are constants of the calls.
+fn on_plane(even: bool, m: usize, u: u32, v: u32, held: &[i32]) -> i64
+    requires { ⌜ Workable (roundingOf even) m 0 (stridesOf v (2 * (m * m)) m) (stridesOf u (m * m) 1 ∷ []) (length (now held)) (at (now held)) 0 ⌝ }
+    ensures { λ r. ⌜ WorkedOff (roundingOf even) m 0 (stridesOf v (2 * (m * m)) m) (stridesOf u (m * m) 1 ∷ []) (at (now (held .entry))) 0 r ⌝ }
 {
-    let y = evaluate::axis_of(m, 0, true, false, v, 2 * e, m);
-    let x = evaluate::axis_of(m, 0, false, true, u, e, 1);
-    evaluate::second(m, y.shift, y, x, held, 0)
+    if m == 2 {
+        let y = evaluate::axis_of(2, 0, true, false, v, 8, 2);
+        let x = evaluate::axis_of(2, 0, false, true, u, 4, 1);
+        if even {
+            return evaluate::second(true, 2, y.shift, y, x, held, 0);
+        }
+        return evaluate::second(false, 2, y.shift, y, x, held, 0);
+    }
+    let y = evaluate::axis_of(3, 0, true, false, v, 18, 3);
+    let x = evaluate::axis_of(3, 0, false, true, u, 9, 1);
+    if even {
+        return evaluate::second(true, 3, y.shift, y, x, held, 0);
+    }
+    evaluate::second(false, 3, y.shift, y, x, held, 0)
 }
 
 // A stage with its strides as constants of the call.
@@ -260,33 +271,39 @@ fn strided(a: Axis, node: usize, order: usize) -> Axis
     }
 }
 
-// The first two stages of three axes, m and the strides constants of the call.
-fn first_stages(m: usize, y: Axis, x: Axis, held: &[i32], p: usize) -> i64
+// The first two stages of three axes, m, the strides and the edition constants of the call.
+fn first_stages(even: bool, m: usize, y: Axis, x: Axis, held: &[i32], p: usize) -> i64
     requires { ⌜ AllPrepared m (y ∷ x ∷ []) × AlongY m y × AlongX m x ⌝ }
-    requires { ⌜ Safe roundHalfUp m (length (now held)) (y ∷ x ∷ []) (at (now held)) p ⌝ }
-    ensures { λ r. ⌜ r ≡ after roundHalfUp m (y ∷ x ∷ []) (at (now (held .entry))) p ⌝ }
+    requires { ⌜ Safe (roundingOf even) m (length (now held)) (y ∷ x ∷ []) (at (now held)) p ⌝ }
+    ensures { λ r. ⌜ r ≡ after (roundingOf even) m (y ∷ x ∷ []) (at (now (held .entry))) p ⌝ }
 {
     if m == 2 {
         let b = strided(y, 16, 2);
         let a = strided(x, 8, 1);
-        return evaluate::second(2, hermite::shift(0, 2, true, true), b, a, held, p);
+        if even {
+            return evaluate::second(true, 2, hermite::shift(0, 2, true, true), b, a, held, p);
+        }
+        return evaluate::second(false, 2, hermite::shift(0, 2, true, true), b, a, held, p);
     }
     let b = strided(y, 54, 3);
     let a = strided(x, 27, 1);
-    evaluate::second(3, hermite::shift(0, 3, true, true), b, a, held, p)
+    if even {
+        return evaluate::second(true, 3, hermite::shift(0, 3, true, true), b, a, held, p);
+    }
+    evaluate::second(false, 3, hermite::shift(0, 3, true, true), b, a, held, p)
 }
 
 // The numbers of the two ends along z after the first two stages.
-fn ends(m: usize, y: Axis, x: Axis, held: &[i32], order: usize, node: usize) -> Ends
+fn ends(even: bool, m: usize, y: Axis, x: Axis, held: &[i32], order: usize, node: usize) -> Ends
     requires { ⌜ AllPrepared m (y ∷ x ∷ []) × AlongY m y × AlongX m x ⌝ }
-    requires { ⌜ AtBoth m (Safe roundHalfUp m (length (now held)) (y ∷ x ∷ []) (at (now held))) 0 order node ⌝ }
-    ensures { λ r. ⌜ AreEnds m (after roundHalfUp m (y ∷ x ∷ []) (at (now (held .entry)))) 0 order node r ⌝ }
+    requires { ⌜ AtBoth m (Safe (roundingOf even) m (length (now held)) (y ∷ x ∷ []) (at (now held))) 0 order node ⌝ }
+    ensures { λ r. ⌜ AreEnds m (after (roundingOf even) m (y ∷ x ∷ []) (at (now (held .entry)))) 0 order node r ⌝ }
 {
     let mut n = [0i64; 6];
     let mut t: usize = 0;
     while t < 2 * m {
         let p = evaluate::place_at(m, order, node, t);
-        n[t] = first_stages(m, y, x, held, p);
+        n[t] = first_stages(even, m, y, x, held, p);
         t += 1;
     }
     if m == 2 {
@@ -302,44 +319,42 @@ fn ends(m: usize, y: Axis, x: Axis, held: &[i32], order: usize, node: usize) -> 
 }
 
 // The stages of three axes; q is m·m and e is m·m·m.
-fn in_space(m: usize, q: usize, e: usize, u: u32, v: u32, w: u32, held: &[i32]) -> i64
+fn in_space(even: bool, m: usize, q: usize, e: usize, u: u32, v: u32, w: u32, held: &[i32]) -> i64
     requires { ⌜ (e ≤ 27) × (e ≡ m * m * m) ⌝ }
-    requires { ⌜ Workable roundHalfUp m 0 (stridesOf w (4 * e) q) (stridesOf v (2 * e) m ∷ stridesOf u e 1 ∷ []) (length (now held)) (at (now held)) 0 ⌝ }
-    ensures { λ r. ⌜ WorkedOff roundHalfUp m 0 (stridesOf w (4 * e) q) (stridesOf v (2 * e) m ∷ stridesOf u e 1 ∷ []) (at (now (held .entry))) 0 r ⌝ }
+    requires { ⌜ Workable (roundingOf even) m 0 (stridesOf w (4 * e) q) (stridesOf v (2 * e) m ∷ stridesOf u e 1 ∷ []) (length (now held)) (at (now held)) 0 ⌝ }
+    ensures { λ r. ⌜ WorkedOff (roundingOf even) m 0 (stridesOf w (4 * e) q) (stridesOf v (2 * e) m ∷ stridesOf u e 1 ∷ []) (at (now (held .entry))) 0 r ⌝ }
 {
     let z = evaluate::axis_of(m, 0, true, false, w, 4 * e, q);
     let x = evaluate::axis_of(m, 0, false, true, u, e, 1);
     let y = evaluate::axis_of(m, 0, true, true, v, 2 * e, m);
-    let both = ends(m, y, x, held, z.order, z.node);
+    let both = ends(even, m, y, x, held, z.order, z.node);
     let basis = z.basis;
-    hermite::stage(m, basis, z.shift, both)
+    hermite::stage(even, m, basis, z.shift, both)
 }
 
 // The dose at a step of a cell, from its corner records alone; degree and axes are constants of the calls.
-fn dose_in(s: Shape, held: &[i32], step: [u32; 3]) -> i32
+fn dose_in(s: Shape, even: bool, held: &[i32], step: [u32; 3]) -> i32
     requires { ⌜ Readable s (now held) (placeAt step) ⌝ }
-    ensures { λ r. ⌜ r ≡ answer (askAt (one s) dose origin (placeAt step)) (recordsField (one s) (now (held .entry))) ⌝ }
+    ensures { λ r. ⌜ r ≡ answerBy (roundingOf even) (askAt (one s) dose origin (placeAt step)) (recordsField (one s) (now (held .entry))) ⌝ }
 {
     let n = s.axes;
     let u = step[0];
     let v = step[1];
     let w = step[2];
+    if n == 2 {
+        let m = lattice::orders(s.degree);
+        return on_plane(even, m, u, v, held) as i32;
+    }
     if s.degree == 3 {
         if n == 1 {
-            return on_line(2, u, held) as i32;
+            return on_line(even, 2, u, held) as i32;
         }
-        if n == 2 {
-            return on_plane(2, 4, u, v, held) as i32;
-        }
-        return in_space(2, 4, 8, u, v, w, held) as i32;
+        return in_space(even, 2, 4, 8, u, v, w, held) as i32;
     }
     if n == 1 {
-        return on_line(3, u, held) as i32;
+        return on_line(even, 3, u, held) as i32;
     }
-    if n == 2 {
-        return on_plane(3, 9, u, v, held) as i32;
-    }
-    in_space(3, 9, 27, u, v, w, held) as i32
+    in_space(even, 3, 9, 27, u, v, w, held) as i32
 }
 
 // The entries of all corner records of a cell.
@@ -359,10 +374,16 @@ fn corner_entries(s: Shape) -> usize
 }
 
 // The answers of all queries to the front of `found`, up to the first that is refused.
-fn answer_all(s: Shape, records: &[i32], positions: &[i32], found: &mut [i32; 256]) -> Ramped
+fn answer_all(
+    s: Shape,
+    even: bool,
+    records: &[i32],
+    positions: &[i32],
+    found: &mut [i32; 256],
+) -> Ramped
     requires { ⌜ Listed s (now records) (now positions) × (length (now found) ≡ 256) ⌝ }
-    ensures { λ r. ⌜ outcomeOfRamp r ≡ queriesOutcome s (now (records .entry)) (now (positions .entry)) ⌝ }
-    ensures { λ r. ⌜ ((k : ℕ) → outcomeOfRamp r ≡ done k → (i : ℕ) → i < queries (now (positions .entry)) → at (now (found .exit)) i ≡ answerOf (ownCall s (now (records .entry)) (now (positions .entry)) i)) ⌝ }
+    ensures { λ r. ⌜ outcomeOfRamp r ≡ queriesOutcome (fullShape s even) (now (records .entry)) (now (positions .entry)) ⌝ }
+    ensures { λ r. ⌜ ((k : ℕ) → outcomeOfRamp r ≡ done k → (i : ℕ) → i < queries (now (positions .entry)) → at (now (found .exit)) i ≡ answerOf (ownCall (fullShape s even) (now (records .entry)) (now (positions .entry)) i)) ⌝ }
 {
     let count = positions.len() / 3;
     let entries = corner_entries(s);
@@ -384,7 +405,7 @@ fn answer_all(s: Shape, records: &[i32], positions: &[i32], found: &mut [i32; 25
         }
         cell = here;
         fetches = counted(fetches, new);
-        found[i] = dose_in(s, &held[..entries], step);
+        found[i] = dose_in(s, even, &held[..entries], step);
         i += 1;
     }
     Ramped::Fetches(fetches)
@@ -403,16 +424,16 @@ fn write(found: &[i32; 256], n: usize, answers: &mut [i32])
 }
 
 // The doses at the positions of a list, three numbers each, to the front of `answers`.
-pub fn ramp(shape: Shape, records: &[i32], positions: &[i32], answers: &mut [i32]) -> Ramped
-    ensures answer { λ r. ⌜ outcomeOfRamp r ≡ rampOutcome shape (now (records .entry)) (now (positions .entry)) (length (now (answers .entry))) ⌝ }
-    ensures written { λ _. ⌜ now (answers .exit) ≡ rampWrites shape (now (records .entry)) (now (positions .entry)) (now (answers .entry)) ⌝ }
+pub fn ramp(t: FullShape, records: &[i32], positions: &[i32], answers: &mut [i32]) -> Ramped
+    ensures answer { λ r. ⌜ outcomeOfRamp r ≡ rampOutcome t (now (records .entry)) (now (positions .entry)) (length (now (answers .entry))) ⌝ }
+    ensures written { λ _. ⌜ now (answers .exit) ≡ rampWrites t (now (records .entry)) (now (positions .entry)) (now (answers .entry)) ⌝ }
 {
-    let tested = check_list(shape, records.len(), positions.len(), answers.len());
+    let tested = check_list(t.shape, records.len(), positions.len(), answers.len());
     if let Check::Refused(r) = tested {
         return refused_at(r.number, r.place);
     }
     let mut found = [0i32; 256];
-    let outcome = answer_all(shape, records, positions, &mut found);
+    let outcome = answer_all(t.shape, t.second_edition, records, positions, &mut found);
     if let Ramped::Fetches(_) = outcome {
         write(&found, positions.len() / 3, answers);
     }

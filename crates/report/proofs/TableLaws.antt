@@ -107,5 +107,5 @@ module _ (h : Header) (xs : List ℤ) (ok : TakenTable h xs) where
   lines-are = joined-same (cellCount (withDegree h 3)) _ _ (λ i.
       let cell = cellAt (withDegree h 3) i in
       let here = cell-accepted (withDegree h 3) (cubic-shaped h xs (ok .held)) i in
-      ap₂ (cellLine cell) (dose-same (withDegree h 3) xs 4096 cubic-taken cell here)
-      (dose-same (withDegree h 5) xs 13824 quintic-taken cell (any-degree h 3 5 cell here)))
+      ap₂ (cellLine cell) (dose-same (withDegree h 3) xs 4096 cubic-taken (h .second) cell here)
+      (dose-same (withDegree h 5) xs 13824 quintic-taken (h .second) cell (any-degree h 3 5 cell here)))

@@ -1,10 +1,12 @@
 -- The program's text for its whole input: one line for each cell of the table, x fastest, or the line of a refusal.
 use Prim.Native.Nat.{ℕ, zero, suc}
+use mathlib.Core.Bool.{Bool}
 use mathlib.Core.List.{List, [], _++_}
 use lib.Dec.{leb, ltb}
 use lib.IntN.{ℤ}
 use lib.ListN.{length}
 use Rattle.arith.specs.Choice.{pick}
+use Rattle.arith.specs.Int.{roundingOf}
 use Rattle.lattice.specs.declared.Shape.{Shape}
 use Rattle.lattice.specs.Shape.{shapeOf, size}
 use Rattle.lattice.specs.Outcome.{Outcome, Check, done, refused, refuseUnless, first}
@@ -12,7 +14,7 @@ use Rattle.lattice.specs.Axes.{Place}
 use Rattle.cell.specs.Cell.{placeAt}
 use Rattle.cell.specs.Cells.{cellCount, cellAt}
 use Rattle.estimate.specs.Estimate.{tableRecords, estimateOutcome}
-use Rattle.evaluate.specs.Evaluate.{dose, askAt, answer}
+use Rattle.evaluate.specs.Evaluate.{dose, askAt, answerBy}
 use Rattle.table_file.specs.File.{Header, samplesIn, readOutcome}
 use Rattle.text.specs.Lines.{cellLine, refusedLine}
 
@@ -32,13 +34,14 @@ middle axes a = pick (ltb a axes) 128 0
 abbrev pub withDegree : Header → ℕ → Shape
 withDegree h degree = shapeOf (h .axes) degree (h .counts)
 
--- the dose there, from the records of one degree that the rules under Estimates give
-unfoldable pub doseIn : Shape → List ℤ → List ℕ → ℤ
-doseIn s samples cell = answer (askAt s dose (placeAt cell) (middle (s .axes))) (tableRecords s samples)
+-- the dose there in an edition, from the records of one degree that the rules under Estimates give
+unfoldable pub doseIn : (second : Bool) → Shape → List ℤ → List ℕ → ℤ
+doseIn second s samples cell = answerBy (roundingOf second) (askAt s dose (placeAt cell) (middle (s .axes))) (tableRecords s samples)
 
--- the cubic dose and the quintic dose
+-- the cubic dose and the quintic dose, in the file's edition
 unfoldable pub lineIn : Header → List ℤ → List ℕ → List ℕ
-lineIn h samples cell = cellLine cell (doseIn (withDegree h 3) samples cell) (doseIn (withDegree h 5) samples cell)
+lineIn h samples cell =
+    cellLine cell (doseIn (h .second) (withDegree h 3) samples cell) (doseIn (h .second) (withDegree h 5) samples cell)
 
 -- ---- the text
 

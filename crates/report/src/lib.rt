@@ -6,6 +6,7 @@ ghost use lib.ListN.{length, take};
 ghost use Rattle.arith.specs.Choice.{pick};
 ghost use Rattle.lattice.specs.Buffer.{overwrite};
 ghost use Rattle.lattice.specs.Outcome.{done};
+ghost use Rattle.lattice.specs.Shape.{shapeOf};
 ghost use Rattle.estimate.specs.Estimate.{recordsOf, estimateOutcome};
 ghost use Rattle.cell.specs.Cell.{placeAt, Accepted};
 ghost use Rattle.cell.specs.Cells.{Between, cellCount};
@@ -15,6 +16,7 @@ ghost use Rattle.report.specs.Report.{heldNodes, middle, withDegree, cel
 ghost use Rattle.report.specs.Parts.{Answers, HeldTable, TakenTable, doseFrom, lineFrom, linesFrom, lineLimit};
 use evaluate::Derivative;
 use lattice::Check;
+use lattice::FullShape;
 use query::CellQuery;
 use query::Reading;
 use table_file::TableAnswer;
@@ -38,14 +40,25 @@ fn middle_of(axes: u32) -> [u32; 3]
 }
 
 // The dose of one degree at the middle of a cell; no query is refused.
-fn dose_at(axes: u32, counts: [u32; 3], degree: u32, records: &[i32], cell: [u32; 3]) -> i32
-    requires { ⌜ Answers (withDegree (header axes counts) degree) (now records) ⌝ }
-    requires { ⌜ Accepted (withDegree (header axes counts) degree) (placeAt cell) ⌝ }
-    ensures { λ r. ⌜ r ≡ doseFrom (withDegree (header axes counts) degree) (now (records .entry)) cell ⌝ }
+fn dose_at(
+    axes: u32,
+    counts: [u32; 3],
+    second: bool,
+    degree: u32,
+    records: &[i32],
+    cell: [u32; 3],
+) -> i32
+    requires { ⌜ Answers (withDegree (header axes counts second) degree) (now records) ⌝ }
+    requires { ⌜ Accepted (withDegree (header axes counts second) degree) (placeAt cell) ⌝ }
+    ensures { λ r. ⌜ r ≡ doseFrom second (withDegree (header axes counts second) degree) (now (records .entry)) cell ⌝ }
 {
     let step = middle_of(axes);
+    let shape = lattice::shape_of(axes, degree, counts);
     let reading = query::in_cell(
-        lattice::shape_of(axes, degree, counts),
+        FullShape {
+            shape: shape,
+            second_edition: second,
+        },
         records,
         CellQuery {
             cell: cell,
@@ -63,26 +76,34 @@ fn dose_at(axes: u32, counts: [u32; 3], degree: u32, records: &[i32], cell: [u32
 fn put_line(
     axes: u32,
     counts: [u32; 3],
+    second: bool,
     cubic: &[i32],
     quintic: &[i32],
     cell: [u32; 3],
     out: &mut [u8],
     at: usize,
 ) -> usize
-    requires { ⌜ Answers (withDegree (header axes counts) 3) (now cubic) × Answers (withDegree (header axes counts) 5) (now quintic) ⌝ }
-    requires { ⌜ Accepted (withDegree (header axes counts) 3) (placeAt cell) × Between 0 99 cell × (at + lineLimit ≤ length (now out)) ⌝ }
-    ensures { λ r. ⌜ Put (now (out .entry)) at (lineFrom (header axes counts) (now (cubic .entry)) (now (quintic .entry)) cell) (now (out .exit)) r × (r ≤ at + lineLimit) ⌝ }
+    requires { ⌜ Answers (withDegree (header axes counts second) 3) (now cubic) × Answers (withDegree (header axes counts second) 5) (now quintic) ⌝ }
+    requires { ⌜ Accepted (withDegree (header axes counts second) 3) (placeAt cell) × Between 0 99 cell × (at + lineLimit ≤ length (now out)) ⌝ }
+    ensures { λ r. ⌜ Put (now (out .entry)) at (lineFrom (header axes counts second) (now (cubic .entry)) (now (quintic .entry)) cell) (now (out .exit)) r × (r ≤ at + lineLimit) ⌝ }
 {
-    let a = dose_at(axes, counts, 3, cubic, cell);
-    let b = dose_at(axes, counts, 5, quintic, cell);
+    let a = dose_at(axes, counts, second, 3, cubic, cell);
+    let b = dose_at(axes, counts, second, 5, quintic, cell);
     text::put_cell_line(out, at, cell, a, b)
 }
 
 // Puts the lines of all cells at the front of `out`, and gives their length.
-fn put_lines(axes: u32, counts: [u32; 3], cubic: &[i32], quintic: &[i32], out: &mut [u8]) -> usize
-    requires { ⌜ Answers (withDegree (header axes counts) 3) (now cubic) × Answers (withDegree (header axes counts) 5) (now quintic) ⌝ }
-    requires { ⌜ (cellCount (withDegree (header axes counts) 3) ≤ heldNodes) × (heldNodes * lineLimit ≤ length (now out)) ⌝ }
-    ensures { λ r. ⌜ Put (now (out .entry)) 0 (linesFrom (header axes counts) (now (cubic .entry)) (now (quintic .entry))) (now (out .exit)) r × (r ≤ heldNodes * lineLimit) ⌝ }
+fn put_lines(
+    axes: u32,
+    counts: [u32; 3],
+    second: bool,
+    cubic: &[i32],
+    quintic: &[i32],
+    out: &mut [u8],
+) -> usize
+    requires { ⌜ Answers (withDegree (header axes counts second) 3) (now cubic) × Answers (withDegree (header axes counts second) 5) (now quintic) ⌝ }
+    requires { ⌜ (cellCount (withDegree (header axes counts second) 3) ≤ heldNodes) × (heldNodes * lineLimit ≤ length (now out)) ⌝ }
+    ensures { λ r. ⌜ Put (now (out .entry)) 0 (linesFrom (header axes counts second) (now (cubic .entry)) (now (quintic .entry))) (now (out .exit)) r × (r ≤ heldNodes * lineLimit) ⌝ }
 {
     // The cells are the same for both degrees.
     let cells = cell::cells_of(lattice::shape_of(axes, 3, counts));
@@ -91,7 +112,7 @@ fn put_lines(axes: u32, counts: [u32; 3], cubic: &[i32], quintic: &[i32], out: &
     let mut i: u32 = 0;
     while i < total {
         let cell = cell::cell_at(cells, i);
-        at = put_line(axes, counts, cubic, quintic, cell, out, at);
+        at = put_line(axes, counts, second, cubic, quintic, cell, out, at);
         i += 1;
     }
     at
@@ -105,8 +126,8 @@ fn estimate_degree(
     samples: &[i32],
     records: &mut [i32],
 ) -> usize
-    requires { ⌜ estimateOutcome (withDegree (header axes counts) degree) (now samples) (length (now records)) ≡ done tt ⌝ }
-    ensures { λ r. ⌜ (r ≤ length (now (records .exit))) × (take r (now (records .exit)) ≡ recordsOf (withDegree (header axes counts) degree) (now (samples .entry))) ⌝ }
+    requires { ⌜ estimateOutcome (shapeOf axes degree counts) (now samples) (length (now records)) ≡ done tt ⌝ }
+    ensures { λ r. ⌜ (r ≤ length (now (records .exit))) × (take r (now (records .exit)) ≡ recordsOf (shapeOf axes degree counts) (now (samples .entry))) ⌝ }
 {
     let s = lattice::shape_of(axes, degree, counts);
     estimate::estimate(s, samples, records);
@@ -114,27 +135,27 @@ fn estimate_degree(
 }
 
 // Puts the lines of a table that estimation takes: estimates of both degrees, then its cells.
-fn put_table(axes: u32, counts: [u32; 3], samples: &[i32], out: &mut [u8]) -> usize
-    requires { ⌜ TakenTable (header axes counts) (now samples) × (heldNodes * lineLimit ≤ length (now out)) ⌝ }
-    ensures { λ r. ⌜ Put (now (out .entry)) 0 (cellLines (header axes counts) (now (samples .entry))) (now (out .exit)) r × (r ≤ heldNodes * lineLimit) ⌝ }
+fn put_table(axes: u32, counts: [u32; 3], second: bool, samples: &[i32], out: &mut [u8]) -> usize
+    requires { ⌜ TakenTable (header axes counts second) (now samples) × (heldNodes * lineLimit ≤ length (now out)) ⌝ }
+    ensures { λ r. ⌜ Put (now (out .entry)) 0 (cellLines (header axes counts second) (now (samples .entry))) (now (out .exit)) r × (r ≤ heldNodes * lineLimit) ⌝ }
 {
     let mut cubic = [0i32; 4096];
     let mut quintic = [0i32; 13824];
     let low = estimate_degree(axes, counts, 3, samples, &mut cubic);
     let high = estimate_degree(axes, counts, 5, samples, &mut quintic);
-    put_lines(axes, counts, &cubic[..low], &quintic[..high], out)
+    put_lines(axes, counts, second, &cubic[..low], &quintic[..high], out)
 }
 
 // Puts the text of a table: its lines, or the line of what estimation refuses, in both degrees alike.
-fn put_text(axes: u32, counts: [u32; 3], samples: &[i32], out: &mut [u8]) -> usize
-    requires { ⌜ HeldTable (header axes counts) (now samples) × (heldNodes * lineLimit ≤ length (now out)) ⌝ }
-    ensures { λ r. ⌜ Put (now (out .entry)) 0 (textOf (done (header axes counts)) (now (samples .entry))) (now (out .exit)) r × (r ≤ heldNodes * lineLimit) ⌝ }
+fn put_text(axes: u32, counts: [u32; 3], second: bool, samples: &[i32], out: &mut [u8]) -> usize
+    requires { ⌜ HeldTable (header axes counts second) (now samples) × (heldNodes * lineLimit ≤ length (now out)) ⌝ }
+    ensures { λ r. ⌜ Put (now (out .entry)) 0 (textOf (done (header axes counts second)) (now (samples .entry))) (now (out .exit)) r × (r ≤ heldNodes * lineLimit) ⌝ }
 {
     let s = lattice::shape_of(axes, 3, counts);
     let checked = estimate::check_estimate(s, samples, 4096);
     match checked {
         Check::Refused(r) => text::put_refused_line(out, r.number),
-        Check::Done => put_table(axes, counts, samples, out),
+        Check::Done => put_table(axes, counts, second, samples, out),
     }
 }
 
@@ -150,11 +171,17 @@ pub fn report(input: &[u8], out: &mut [u8; 16896]) -> usize
     let table = table_file::read(input, &mut samples);
     match table {
         TableAnswer::Refused(r) => text::put_refused_line(out, r.number),
-        TableAnswer::Table { axes, x, y, z } => {
+        TableAnswer::Table {
+            axes,
+            x,
+            y,
+            z,
+            second,
+        } => {
             let counts = [x, y, z];
             // The number of nodes is the same for both degrees.
             let nodes = lattice::node_count(lattice::shape_of(axes, 3, counts));
-            put_text(axes, counts, &samples[..nodes], out)
+            put_text(axes, counts, second, &samples[..nodes], out)
         }
     }
 }

@@ -2,7 +2,7 @@
 use mathlib.Core.Path.{_≡_, refl, sym, ap, subst, fun-ext, _∙_}
 use mathlib.Core.List.{List, [], _∷_, _++_, append-assoc, append-nil}
 use Prim.Native.Nat.{ℕ, zero, suc, _+_, _*_, _/_, _%_, _<_, _≤_}
-use native.Mathlib.Nat.{add-zero}
+use native.Mathlib.Nat.{add-zero, add-suc}
 use native.Mathlib.Omega.{arith}
 use lib.Dec.{lit<}
 use lib.ListN.{length, getD, set, take, drop, length-append, length-drop, List·getD-eq-default}
@@ -78,6 +78,13 @@ number-of-all (v ∷ vs) h (suc k) =
     ap (λ (at : ℕ). numberAt (bytesOf v ++ bytesOfAll vs) at) e
     ∙ number-later (bytesOf v) (bytesOfAll vs) (4 * k)
     ∙ number-of-all vs (λ (j : ℕ). h (suc j)) k
+
+-- p values after k
+pub tabulate-add : (k p : ℕ) (f : ℕ → ℕ) → tabulate (k + p) f ≡ tabulate k f ++ tabulate p (λ i. f (k + i))
+unfolding tabulate
+tabulate-add k zero f = rw (add-zero k) (sym (append-nil (tabulate k f)))
+tabulate-add k (suc p) f = rw (add-suc k p) (ap (λ (l : List ℕ). l ++ (f (k + p) ∷ [])) (tabulate-add k p f)
+    ∙ append-assoc (tabulate k f) (tabulate p (λ i. f (k + i))) (f (k + p) ∷ []))
 
 -- ---- the numbers of bytes
 

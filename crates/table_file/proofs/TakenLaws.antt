@@ -1,23 +1,22 @@
 -- A file that reading takes: the facts of its sections, from the outcome of reading and back.
 use mathlib.Core.Path.{_≡_, refl, sym, _∙_}
 use mathlib.Core.List.{List}
-use Prim.Native.Nat.{ℕ, _+_, _*_, _≤_}
+use Prim.Native.Nat.{ℕ, _+_, _≤_}
 use native.Mathlib.Omega.{arith}
-use lib.ListN.{length}
 use Rattle.lattice.specs.Outcome.{done, first, firstOf}
 use Rattle.lattice.specs.Buffer.{tabulate}
 use Rattle.lattice.specs.Digits.{span}
 use Rattle.lattice.specs.Shape.{countsOutcome}
 use Rattle.lattice.proofs.OutcomeLaws.{first-done, first-passed, done-same, first-assoc}
-use Rattle.table_file.specs.File.{Header, fileNumber, axesIn, headerIn, nodesIn, samplesIn, oneOutcome, readCheck, readOutcome, countOf, nodesOf, PermittedTable}
+use Rattle.table_file.specs.File.{Header, fileNumber, axesIn, headerIn, nodesIn, samplesIn, startOfThree, secondIn, oneOutcome, readCheck, readOutcome, countOf, nodesOf, PermittedTable}
 use Rattle.table_file.specs.Parser.{restOutcome}
-use Rattle.table_file.proofs.ReadLaws.{one-facts, one-passes, two-facts, two-passes, rest-facts, rest-passes, samples-length}
+use Rattle.table_file.proofs.ReadLaws.{Third, Rest, one-facts, one-passes, two-facts, two-passes, three-facts, three-passes, rest-facts, rest-passes, samples-length}
 
 -- a file that reading takes
 pub record Taken (bytes : List ℕ) (room : ℕ) : Type 0 where
   pub permitted : PermittedTable (headerIn bytes) (samplesIn bytes)
   pub counted : fileNumber bytes (1 + axesIn bytes) ≡ nodesIn bytes
-  pub sized : length bytes ≡ 4 * (2 + axesIn bytes + nodesIn bytes)
+  pub third : Third bytes (secondIn bytes)
   pub roomy : nodesIn bytes ≤ room
 
 module _ (bytes : List ℕ) (room : ℕ) where
@@ -32,17 +31,24 @@ module _ (bytes : List ℕ) (room : ℕ) where
       let g = first-done (restOutcome bytes room) (done (headerIn bytes)) h (f .1) in
       let one = one-facts bytes (f .0) in
       let rest = rest-facts bytes room (g .0) in
-      let two = two-facts bytes (rest .0) in
+      let two = two-facts bytes (rest .two) in
       let may : PermittedTable (headerIn bytes) (samplesIn bytes) =
-      record { three = refl; axes-ok = one .0; counts-ok = one .1; counted = samples-length bytes; limited = rest .2 } in (
-        record { permitted = may; counted = two .0; sized = two .1; roomy = rest .1 },
+      record { three = refl; axes-ok = one .0; counts-ok = one .1; counted = samples-length bytes; limited = rest .limited } in (
+        record { permitted = may; counted = two .0; third = three-facts bytes (two .1) (rest .three); roomy = rest .roomy },
         done-same (headerIn bytes) h (g .1),
       )
 
   pub reads : Taken bytes room → readOutcome bytes room ≡ done (headerIn bytes)
-  unfolding headerIn countsOutcome firstOf countOf tabulate
+  unfolding headerIn countsOutcome firstOf countOf tabulate startOfThree
   reads t =
+      let rest : Rest bytes room =
+      record {
+        two = two-passes bytes (t .counted) (omega (arith, t .third .ends));
+        three = three-passes bytes (t .third);
+        roomy = t .roomy;
+        limited = t .permitted .limited;
+      } in
       read-is
-      ∙ first-passed (oneOutcome bytes) _ (one-passes bytes (omega (arith, t .sized)) (t .permitted .axes-ok) (t .permitted .counts-ok))
-      ∙ first-passed (restOutcome bytes room) _
-      (rest-passes bytes room (two-passes bytes (t .counted) (t .sized)) (t .roomy) (t .permitted .limited))
+      ∙ first-passed (oneOutcome bytes) _
+      (one-passes bytes (omega (arith, t .third .ends)) (t .permitted .axes-ok) (t .permitted .counts-ok))
+      ∙ first-passed (restOutcome bytes room) _ (rest-passes bytes room rest)

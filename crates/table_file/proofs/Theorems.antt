@@ -1,4 +1,4 @@
--- The round trip, for all files and all permitted tables.
+-- The round trip, for all files and all permitted tables of both editions.
 use mathlib.Core.Path.{_≡_, sym, ap, ap₂, subst, _∙_}
 use mathlib.Core.List.{List}
 use Prim.Native.Nat.{ℕ, _≤_}

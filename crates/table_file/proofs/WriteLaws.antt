@@ -1,5 +1,6 @@
 -- Numbers written one after the other are the file; what writing tests.
 use mathlib.Core.Path.{_≡_, refl, sym, ap, _∙_}
+use mathlib.Core.Bool.{Bool, true, false}
 use mathlib.Core.List.{List, [], _∷_, _++_, map}
 use Prim.Native.Nat.{ℕ, _+_, _*_, _≤_, _<_}
 use native.Mathlib.Numerals.{add-one}
@@ -9,6 +10,7 @@ use lib.Dec.{leb, eqb}
 use lib.IntN.{ℤ, pos}
 use lib.ListN.{length, getD, take, length-append, length-map, List·getD-map}
 use lib.Seq.{sets, take-suc, length-take-le}
+use Rattle.arith.specs.Choice.{pick}
 use Rattle.lattice.specs.Outcome.{Outcome, Check, done, refused, refuseUnless, first, whenDone}
 use Rattle.lattice.specs.Buffer.{at, overwrite}
 use Rattle.lattice.specs.Shape.{shapeOf, count, nodes, axesOutcome, degreeOutcome, countsOutcome, shapeOutcome, Shaped}
@@ -17,7 +19,7 @@ use Rattle.lattice.specs.Records.{sampleLimit, limitOutcome}
 use Rattle.lattice.proofs.OutcomeLaws.{first-done, first-passed, first-after, first-assoc, refuse-done, when-done, when-refused}
 use Rattle.arith.specs.Int.{unsignedOf}
 use Rattle.table_file.specs.Numbers.{bytesOf, bytesOfAll}
-use Rattle.table_file.specs.File.{Header, header, sectionOne, sectionTwo, fileOf, countOf, nodesOf, writeCheck, writeOutcome, PermittedTable}
+use Rattle.table_file.specs.File.{Header, sectionOne, sectionTwo, sectionThree, fileOf, countOf, nodesOf, writeCheck, writeOutcome, PermittedTable}
 use Rattle.lattice.proofs.BufferLaws.{sets-append, sets-front}
 use Rattle.lattice.proofs.ShapeLaws.{shaped, nodes-high}
 use Rattle.table_file.proofs.NumberLaws.{length-all, all-append, all-one}
@@ -44,6 +46,11 @@ sets-all vs ws l at =
     ∙ sym (sets-append (bytesOfAll vs) (bytesOfAll ws) l at)
     ∙ ap (λ (m : List ℕ). sets l at m) (sym (all-append vs ws))
 
+-- a run of numbers after another
+pub put-after : (vs ws l : List ℕ) (at k : ℕ) {m now : List ℕ} → k ≡ at + 4 * length vs → m ≡ sets l at (bytesOfAll vs)
+    → now ≡ sets m k (bytesOfAll ws) → now ≡ sets l at (bytesOfAll (vs ++ ws))
+put-after vs ws l at k e p q = rw (q, p, e) (sets-all vs ws l at)
+
 -- one number, then others after it
 pub put-first : (v : ℕ) (vs l : List ℕ) (at k : ℕ) {m now : List ℕ} → k ≡ at + 4 → m ≡ sets l at (bytesOf v)
     → now ≡ sets m k (bytesOfAll vs) → now ≡ sets l at (bytesOfAll (v ∷ vs))
@@ -63,70 +70,109 @@ sample-number xs i = List·getD-map unsignedOf xs i (pos 0)
 
 -- ---- the file
 
+-- sections one and two
 module _ (n : ℕ) (cs : List ℕ) (xs : List ℤ) (few : n ≤ length cs) where
-  abbrev us : List ℕ
-  us = map unsignedOf xs
+  abbrev pub numbers : List ℕ
+  numbers = sectionOne n cs ++ sectionTwo xs
 
-  pub length-file : length (fileOf (header n cs) xs) ≡ 4 * (2 + n + length xs)
-  unfolding fileOf sectionOne sectionTwo
+  length-one : length (sectionOne n cs) ≡ 1 + n
+  unfolding sectionOne
+  length-one = omega (arith, length-take-le n cs few)
+
+  length-two : length (sectionTwo xs) ≡ 1 + length xs
+  unfolding sectionTwo
+  length-two = omega (arith, length-map xs unsignedOf)
+
+  pub length-numbers : length numbers ≡ 2 + n + length xs
+  length-numbers = omega (arith, length-append (sectionOne n cs) (sectionTwo xs), length-one, length-two)
+
+-- all sections
+module _ (h : Header) (xs : List ℤ) (few : h .axes ≤ length (h .counts)) where
+  abbrev pub size : ℕ
+  size = 4 * (2 + h .axes + length xs + length (sectionThree (h .second)))
+
+  pub length-file : length (fileOf h xs) ≡ size
+  unfolding fileOf
   length-file =
-      length-all ((n ∷ take n cs) ++ (length xs ∷ us))
-      ∙ omega (arith, length-append (take n cs) (length xs ∷ us), length-take-le n cs few, length-map xs unsignedOf)
+      length-all (numbers (h .axes) (h .counts) xs few ++ sectionThree (h .second))
+      ∙ omega (
+        arith,
+        length-append (numbers (h .axes) (h .counts) xs few) (sectionThree (h .second)),
+        length-numbers (h .axes) (h .counts) xs few,
+      )
 
-  -- section two after section one
-  pub file-put : (l : List ℕ) {m₁ m₂ : List ℕ} → 4 * (2 + n + length xs) ≤ length l → m₁ ≡ sets l 0 (bytesOfAll (sectionOne (header n cs)))
-      → m₂ ≡ sets m₁ (4 * (1 + n)) (bytesOfAll (sectionTwo xs)) → m₂ ≡ overwrite (fileOf (header n cs) xs) l
-  unfolding fileOf sectionOne
-  file-put l h e f =
-      let k : 4 * (1 + n) ≡ 0 + 4 * length (n ∷ take n cs) = omega (arith, length-take-le n cs few) in
-      rw (f, e, k) (sets-all (n ∷ take n cs) (sectionTwo xs) l 0 ∙ sets-front (fileOf (header n cs) xs) l (omega (arith, length-file)))
+  -- section two after section one, section three after both
+  pub file-put : (l : List ℕ) {m₁ m₂ m₃ : List ℕ} → size ≤ length l → m₁ ≡ sets l 0 (bytesOfAll (sectionOne (h .axes) (h .counts)))
+      → m₂ ≡ sets m₁ (4 * (1 + h .axes)) (bytesOfAll (sectionTwo xs))
+      → m₃ ≡ sets m₂ (4 * (2 + h .axes + length xs)) (bytesOfAll (sectionThree (h .second))) → m₃ ≡ overwrite (fileOf h xs) l
+  unfolding fileOf
+  file-put l r e f g =
+      put-after (numbers (h .axes) (h .counts) xs few) (sectionThree (h .second)) l 0 _
+      (omega (arith, length-numbers (h .axes) (h .counts) xs few))
+      (put-after (sectionOne (h .axes) (h .counts)) (sectionTwo xs) l 0 _ (omega (arith, length-one (h .axes) (h .counts) xs few)) e f) g
+      ∙ sets-front (fileOf h xs) l (omega (arith, length-file))
+
+-- section three from number k on
+module _ (second : Bool) (k : ℕ) (l : List ℕ) where
+  pub two-room : second ≡ true → 4 * (k + length (sectionThree second)) ≤ length l → 4 * (k + 2) ≤ length l
+  unfolding sectionThree pick
+  two-room t h = rw t at h
+
+  pub two-put : {m now : List ℕ} → second ≡ true → m ≡ sets l (4 * k) (bytesOf 1) → now ≡ sets m (4 * (1 + k)) (bytesOf 2)
+      → now ≡ sets l (4 * k) (bytesOfAll (sectionThree second))
+  unfolding sectionThree pick
+  two-put t p q = rw t (put-first 1 (2 ∷ []) l (4 * k) (4 * (1 + k)) (omega arith) p (rw (all-one 2) q))
+
+  pub one-put : second ≡ false → l ≡ sets l (4 * k) (bytesOfAll (sectionThree second))
+  unfolding sectionThree pick bytesOfAll
+  one-put t = rw t refl
 
 -- ---- the tests
 
 -- of degree 3: both degrees have the same nodes
-pub shape-tests : (n : ℕ) (cs : List ℕ) → shapeOutcome (shapeOf n 3 cs) ≡ first (axesOutcome n) (countsOutcome n (countOf (header n cs)))
-unfolding shapeOutcome degreeOutcome count countOf
-shape-tests n cs = refl
+abbrev pub cubic : Header → Shape
+cubic h = shapeOf (h .axes) 3 (h .counts)
 
-pub shaped-of : (n : ℕ) (cs : List ℕ) → axesOutcome n ≡ done tt → countsOutcome n (countOf (header n cs)) ≡ done tt
-    → Shaped (shapeOf n 3 cs)
-shaped-of n cs e f = shaped (shapeOf n 3 cs) (shape-tests n cs ∙ first-passed (axesOutcome n) _ e ∙ f)
+pub shape-tests : (h : Header) → shapeOutcome (cubic h) ≡ first (axesOutcome (h .axes)) (countsOutcome (h .axes) (countOf h))
+unfolding shapeOutcome degreeOutcome count countOf
+shape-tests h = refl
+
+pub shaped-of : (h : Header) → axesOutcome (h .axes) ≡ done tt → countsOutcome (h .axes) (countOf h) ≡ done tt → Shaped (cubic h)
+shaped-of h e f = shaped (cubic h) (shape-tests h ∙ first-passed (axesOutcome (h .axes)) _ e ∙ f)
 
 -- 4, 9 and 5, of a table with `many` nodes and a file of `needed` bytes
 abbrev pub restCheck : List ℤ → ℕ → ℕ → ℕ → Check
 restCheck xs many needed room =
     first (refuseUnless (eqb (length xs) many) 4 0) (first (refuseUnless (leb needed room) 9 0) (limitOutcome 5 sampleLimit xs))
 
--- what holds where the shape is not refused, with the number of nodes and of bytes as the code finds them
-pub record AfterShape (n : ℕ) (cs : List ℕ) (xs : List ℤ) (room many : ℕ) : Type 0 where
-  pub few : n ≤ 3
+-- what holds where the shape is not refused, with the number of nodes and of section three's numbers as the code finds them
+pub record AfterShape (h : Header) (xs : List ℤ) (room many third : ℕ) : Type 0 where
+  pub few : h .axes ≤ 3
   pub most : many ≤ 262144
-  pub rest : restCheck xs many (4 * (2 + n + many)) room ≡ writeCheck (header n cs) xs room
-
-module _ (n : ℕ) (cs : List ℕ) (xs : List ℤ) (room : ℕ) where
-  pub write-is : writeCheck (header n cs) xs room
-      ≡ first (shapeOutcome (shapeOf n 3 cs)) (restCheck xs (nodesOf (header n cs)) (length (fileOf (header n cs) xs)) room)
-  unfolding writeCheck
-  write-is = sym (rw (shape-tests n cs) (first-assoc (axesOutcome n) (countsOutcome n (countOf (header n cs))) _))
-
-  pub after-shape : (many : ℕ) → length cs ≡ 3 → shapeOutcome (shapeOf n 3 cs) ≡ done tt → many ≡ nodes (shapeOf n 3 cs)
-      → AfterShape n cs xs room many
-  unfolding nodes nodesOf count countOf
-  after-shape many three e many-is =
-      let s = shaped (shapeOf n 3 cs) e in
-      record {
-        few = s .axes-high;
-        most = omega (arith, many-is, nodes-high (shapeOf n 3 cs) s);
-        rest = first-after (refuseUnless (eqb (length xs) many) 4 0) _ _ (λ t.
-            let same : length xs ≡ many = eqb-true (length xs) many (refuse-done (eqb (length xs) many) 4 0 t) in
-            let bytes = length-file n cs xs (omega (arith, s .axes-high)) in
-            let size : 4 * (2 + n + many) ≡ length (fileOf (header n cs) xs) = omega arith in
-            ap (λ (k : ℕ). first (refuseUnless (leb k room) 9 0) (limitOutcome 5 sampleLimit xs)) size)
-            ∙ ap (λ (k : ℕ). restCheck xs k (length (fileOf (header n cs) xs)) room) many-is
-            ∙ sym (write-is ∙ first-passed (shapeOutcome (shapeOf n 3 cs)) _ e);
-      }
+  pub rest : restCheck xs many (4 * (2 + h .axes + many + third)) room ≡ writeCheck h xs room
 
 module _ (h : Header) (xs : List ℤ) (room : ℕ) where
+  pub write-is : writeCheck h xs room ≡ first (shapeOutcome (cubic h)) (restCheck xs (nodesOf h) (length (fileOf h xs)) room)
+  unfolding writeCheck
+  write-is = sym (rw (shape-tests h) (first-assoc (axesOutcome (h .axes)) (countsOutcome (h .axes) (countOf h)) _))
+
+  pub after-shape : (many third : ℕ) → length (h .counts) ≡ 3 → shapeOutcome (cubic h) ≡ done tt → many ≡ nodes (cubic h)
+      → third ≡ length (sectionThree (h .second)) → AfterShape h xs room many third
+  unfolding nodes nodesOf count countOf
+  after-shape many third three e many-is third-is =
+      let s = shaped (cubic h) e in
+      record {
+        few = s .axes-high;
+        most = omega (arith, many-is, nodes-high (cubic h) s);
+        rest = first-after (refuseUnless (eqb (length xs) many) 4 0) _ _ (λ t.
+            let same : length xs ≡ many = eqb-true (length xs) many (refuse-done (eqb (length xs) many) 4 0 t) in
+            let bytes = length-file h xs (omega (arith, s .axes-high)) in
+            let needed : 4 * (2 + h .axes + many + third) ≡ length (fileOf h xs) = omega arith in
+            ap (λ (k : ℕ). first (refuseUnless (leb k room) 9 0) (limitOutcome 5 sampleLimit xs)) needed)
+            ∙ ap (λ (k : ℕ). restCheck xs k (length (fileOf h xs)) room) many-is
+            ∙ sym (write-is ∙ first-passed (shapeOutcome (cubic h)) _ e);
+      }
+
   -- writing takes permitted tables that have room
   pub fit : length (h .counts) ≡ 3 → writeCheck h xs room ≡ done tt → PermittedTable h xs × (length (fileOf h xs) ≤ room)
   unfolding writeCheck
@@ -152,10 +198,10 @@ module _ (h : Header) (xs : List ℤ) (room : ℕ) where
   ) refl
 
 -- sizes that the machine holds
-pub fit-size : (n : ℕ) (cs : List ℕ) (xs : List ℤ) → PermittedTable (header n cs) xs → (n ≤ 3) × (length xs ≤ 262144)
-    × (length (fileOf (header n cs) xs) ≡ 4 * (2 + n + length xs))
+pub fit-size : (h : Header) (xs : List ℤ) → PermittedTable h xs → (h .axes ≤ 3) × (length xs ≤ 262144)
+    × (length (fileOf h xs) ≡ 4 * (2 + h .axes + length xs + length (sectionThree (h .second))))
 unfolding nodesOf countOf nodes count
-fit-size n cs xs t =
-    let s = shaped-of n cs (t .axes-ok) (t .counts-ok) in
+fit-size h xs t =
+    let s = shaped-of h (t .axes-ok) (t .counts-ok) in
     let few = s .axes-high in
-    (few, omega (arith, t .counted, nodes-high (shapeOf n 3 cs) s), length-file n cs xs (omega (arith, few, t .three)))
+    (few, omega (arith, t .counted, nodes-high (cubic h) s), length-file h xs (omega (arith, few, t .three)))

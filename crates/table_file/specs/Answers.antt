@@ -9,7 +9,7 @@ use Rattle.table_file.specs.declared.WriteAnswer.{WriteAnswer}
 use Rattle.table_file.specs.declared.WriteAnswer.the-variants as W
 
 abbrev pub outcomeOfTable : TableAnswer → Outcome Header
-outcomeOfTable (T.Table n x y z) = done (header n (x ∷ y ∷ z ∷ []))
+outcomeOfTable (T.Table n x y z second) = done (header n (x ∷ y ∷ z ∷ []) second)
 outcomeOfTable (T.Refused r) = refused (r .number) (r .place)
 
 abbrev pub outcomeOfWrite : WriteAnswer → Outcome ℕ

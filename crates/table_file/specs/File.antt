@@ -1,7 +1,8 @@
--- The table file: its two sections, what reading it gives in byte order, and what writing it gives.
+-- The table file: its sections, what reading it gives in byte order, and what writing it gives.
 use mathlib.Core.Path.{_≡_}
+use mathlib.Core.Bool.{Bool}
 use Prim.Native.Nat.{ℕ, _+_, _*_, _<_}
-use mathlib.Core.List.{List, _∷_, _++_, map}
+use mathlib.Core.List.{List, [], _∷_, _++_, map}
 use lib.Dec.{leb, ltb, eqb}
 use lib.IntN.{ℤ}
 use lib.ListN.{length, getD, take}
@@ -14,26 +15,31 @@ use Rattle.lattice.specs.Records.{sampleLimit, limitOutcome}
 use Rattle.arith.specs.Int.{unsignedOf}
 use Rattle.table_file.specs.Numbers.{numberAt, bytesOfAll, signedOf}
 
--- n and three node counts
+-- n, three node counts, and whether the edition is two
 pub record Header : Type 0 where
   pub axes : ℕ
   pub counts : List ℕ
+  pub second : Bool
 
-abbrev pub header : ℕ → List ℕ → Header
-header n cs = record { axes = n; counts = cs }
+abbrev pub header : ℕ → List ℕ → Bool → Header
+header n cs second = record { axes = n; counts = cs; second = second }
 
 -- ---- the bytes of a table
 
 -- section one: n, then n node counts
-unfoldable pub sectionOne : Header → List ℕ
-sectionOne h = h .axes ∷ take (h .axes) (h .counts)
+unfoldable pub sectionOne : ℕ → List ℕ → List ℕ
+sectionOne n counts = n ∷ take n counts
 
 -- section two: number of samples, then the samples
 unfoldable pub sectionTwo : List ℤ → List ℕ
 sectionTwo samples = length samples ∷ map unsignedOf samples
 
+-- section three, in edition two only: count 1, then the number 2
+unfoldable pub sectionThree : Bool → List ℕ
+sectionThree second = pick second (1 ∷ 2 ∷ []) []
+
 unfoldable pub fileOf : Header → List ℤ → List ℕ
-fileOf h samples = bytesOfAll (sectionOne h ++ sectionTwo samples)
+fileOf h samples = bytesOfAll (sectionOne (h .axes) (h .counts) ++ sectionTwo samples ++ sectionThree (h .second))
 
 -- ---- reading
 
@@ -52,15 +58,23 @@ axesIn bytes = fileNumber bytes 0
 unfoldable pub countIn : List ℕ → ℕ → ℕ
 countIn bytes a = pick (ltb a (axesIn bytes)) (fileNumber bytes (1 + a)) 1
 
-unfoldable pub headerIn : List ℕ → Header
-headerIn bytes = header (axesIn bytes) (tabulate 3 (countIn bytes))
-
 -- the product of the node counts
 unfoldable pub nodesIn : List ℕ → ℕ
 nodesIn bytes = span 3 (countIn bytes)
 
 unfoldable pub samplesIn : List ℕ → List ℤ
 samplesIn bytes = tabulate (nodesIn bytes) (λ i. signedOf (fileNumber bytes (2 + axesIn bytes + i)))
+
+-- how many numbers sections one and two have
+unfoldable pub startOfThree : List ℕ → ℕ
+startOfThree bytes = 2 + axesIn bytes + nodesIn bytes
+
+-- a file without section three is edition one
+unfoldable pub secondIn : List ℕ → Bool
+secondIn bytes = ltb (4 * startOfThree bytes) (length bytes)
+
+unfoldable pub headerIn : List ℕ → Header
+headerIn bytes = header (axesIn bytes) (tabulate 3 (countIn bytes)) (secondIn bytes)
 
 -- 6, and 3 as read
 unfoldable pub countOutcome : List ℕ → ℕ → Check
@@ -70,22 +84,33 @@ countOutcome bytes a = first (complete bytes (2 + a)) (refuseUnless (countAllowe
 unfoldable pub oneOutcome : List ℕ → Check
 oneOutcome bytes = first (complete bytes 1) (first (axesOutcome (axesIn bytes)) (firstOf (axesIn bytes) (countOutcome bytes)))
 
+-- section two: number of samples, then the samples: 6, 8, 6 for the samples
+unfoldable pub twoOutcome : List ℕ → Check
+twoOutcome bytes =
+    first (complete bytes (2 + axesIn bytes))
+    (first (refuseUnless (eqb (fileNumber bytes (1 + axesIn bytes)) (nodesIn bytes)) 8 0) (complete bytes (startOfThree bytes)))
+
 -- 7: bytes left over after k numbers; place is the first
 unfoldable pub nothingAfter : List ℕ → ℕ → Check
 nothingAfter bytes k = refuseUnless (leb (length bytes) (4 * k)) 7 (4 * k)
 
--- section two: number of samples, then the samples: 6, 8, 6 for the samples, 7
-unfoldable pub twoOutcome : List ℕ → Check
-twoOutcome bytes =
-    first (complete bytes (2 + axesIn bytes))
-    (first (refuseUnless (eqb (fileNumber bytes (1 + axesIn bytes)) (nodesIn bytes)) 8 0)
-    (first (complete bytes (2 + axesIn bytes + nodesIn bytes)) (nothingAfter bytes (2 + axesIn bytes + nodesIn bytes))))
+-- section three, where bytes come after section two: 6, 25 once both numbers are there, 7
+unfoldable pub threeOutcome : List ℕ → Check
+threeOutcome bytes =
+    let k = startOfThree bytes in
+    pick (secondIn bytes)
+    (first (complete bytes (2 + k))
+    (first (refuseUnless (eqb (fileNumber bytes k) 1) 25 0)
+    (first (refuseUnless (eqb (fileNumber bytes (1 + k)) 2) 25 0) (nothingAfter bytes (2 + k)))))
+    (done tt)
 
 -- into a slice of `room` samples: byte order, then 9, 5
 unfoldable pub readCheck : List ℕ → ℕ → Check
 readCheck bytes room =
     first (oneOutcome bytes)
-    (first (twoOutcome bytes) (first (refuseUnless (leb (nodesIn bytes) room) 9 0) (limitOutcome 5 sampleLimit (samplesIn bytes))))
+    (first (twoOutcome bytes)
+    (first (threeOutcome bytes)
+    (first (refuseUnless (leb (nodesIn bytes) room) 9 0) (limitOutcome 5 sampleLimit (samplesIn bytes)))))
 
 unfoldable pub readOutcome : List ℕ → ℕ → Outcome Header
 readOutcome bytes room = first (readCheck bytes room) (done (headerIn bytes))

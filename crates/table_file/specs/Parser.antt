@@ -10,7 +10,7 @@ use Rattle.lattice.specs.Outcome.{Check, refuseUnless, first}
 use Rattle.lattice.specs.Buffer.{tabulate}
 use Rattle.lattice.specs.Records.{sampleLimit, limitOutcome}
 use Rattle.table_file.specs.Numbers.{signedOf}
-use Rattle.table_file.specs.File.{fileNumber, axesIn, countIn, nodesIn, samplesIn, twoOutcome}
+use Rattle.table_file.specs.File.{fileNumber, axesIn, countIn, nodesIn, samplesIn, twoOutcome, threeOutcome}
 
 -- `count` samples from number k on
 unfoldable pub samplesFrom : List ℕ → ℕ → ℕ → List ℤ
@@ -30,4 +30,5 @@ pub record AfterOne (bytes : List ℕ) (axes nodes : ℕ) : Type 0 where
 -- what comes after section one
 unfoldable pub restOutcome : List ℕ → ℕ → Check
 restOutcome bytes room =
-    first (twoOutcome bytes) (first (refuseUnless (leb (nodesIn bytes) room) 9 0) (limitOutcome 5 sampleLimit (samplesIn bytes)))
+    first (twoOutcome bytes)
+    (first (threeOutcome bytes) (first (refuseUnless (leb (nodesIn bytes) room) 9 0) (limitOutcome 5 sampleLimit (samplesIn bytes))))

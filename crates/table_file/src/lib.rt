@@ -8,16 +8,22 @@ ghost use Rattle.lattice.specs.Answers.{outcomeOf};
 ghost use Rattle.lattice.specs.Buffer.{overwrite};
 ghost use Rattle.lattice.specs.Records.{sampleLimit, limitOutcome};
 ghost use Rattle.table_file.specs.Numbers.{bytesOf, bytesOfAll, signedOf};
-ghost use Rattle.table_file.specs.File.{header, sectionOne, sectionTwo, fileOf, fileNumber, complete, axesIn, countIn, samplesIn, countOutcome, oneOutcome, twoOutcome, readOutcome, writeCheck, writeOutcome};
+ghost use Rattle.table_file.specs.File.{header, sectionOne, sectionTwo, sectionThree, fileOf, fileNumber, complete, axesIn, countIn, samplesIn, startOfThree, secondIn, countOutcome, oneOutcome, twoOutcome, threeOutcome, readOutcome, writeCheck, writeOutcome};
 ghost use Rattle.table_file.specs.Answers.{outcomeOfTable, outcomeOfWrite};
 ghost use Rattle.table_file.specs.Parser.{samplesFrom, shapeIn, restOutcome, AfterOne};
 use lattice::Check;
 use lattice::Refusal;
 use lattice::Shape;
 
-// What reading gives: n and three node counts, or a refusal.
+// What reading gives: n, three node counts and the edition, or a refusal.
 pub enum TableAnswer {
-    Table { axes: u32, x: u32, y: u32, z: u32 },
+    Table {
+        axes: u32,
+        x: u32,
+        y: u32,
+        z: u32,
+        second: bool,
+    },
     Refused(Refusal),
 }
 
@@ -67,7 +73,7 @@ fn sample_at(bytes: &[u8], k: usize) -> i32
 
 // 6 where the first `count` numbers are not complete.
 fn check_complete(bytes: &[u8], count: usize) -> Check
-    requires { ⌜ count ≤ 262149 ⌝ }
+    requires { ⌜ count ≤ 262151 ⌝ }
     ensures { λ r. ⌜ outcomeOf r ≡ complete (now (bytes .entry)) count ⌝ }
 {
     let end = 4 * count;
@@ -157,12 +163,38 @@ fn check_two(bytes: &[u8], axes: usize, nodes: usize) -> Check
         return whole;
     }
     let count = number_at(bytes, 1 + axes) as usize;
-    let all = 2 + axes + nodes;
-    let end = 4 * all;
     let counted = lattice::refuse_unless(count == nodes, 8, 0);
-    let held = check_complete(bytes, all);
+    let held = check_complete(bytes, 2 + axes + nodes);
+    lattice::earlier(counted, held)
+}
+
+// Whether bytes come after the `start` numbers of sections one and two.
+fn second_in(bytes: &[u8], start: usize) -> bool
+    requires { ⌜ (start ≡ startOfThree (now bytes)) × (start ≤ 262149) ⌝ }
+    ensures { λ r. ⌜ r ≡ secondIn (now (bytes .entry)) ⌝ }
+{
+    4 * start < bytes.len()
+}
+
+// Section three, from number `start` on where there is one.
+fn check_three(bytes: &[u8], start: usize) -> Check
+    requires { ⌜ (start ≡ startOfThree (now bytes)) × (start ≤ 262149) ⌝ }
+    ensures { λ r. ⌜ outcomeOf r ≡ threeOutcome (now (bytes .entry)) ⌝ }
+{
+    let second = second_in(bytes, start);
+    if !second {
+        return Check::Done;
+    }
+    let all = 2 + start;
+    let whole = check_complete(bytes, all);
+    if let Check::Refused(_) = whole {
+        return whole;
+    }
+    let end = 4 * all;
+    let counted = lattice::refuse_unless(number_at(bytes, start) == 1, 25, 0);
+    let named = lattice::refuse_unless(number_at(bytes, 1 + start) == 2, 25, 0);
     let spare = lattice::refuse_unless(bytes.len() <= end, 7, end);
-    lattice::earlier(counted, lattice::earlier(held, spare))
+    lattice::earlier(counted, lattice::earlier(named, spare))
 }
 
 // Refusal 5 at the first of `count` samples from number `start` on that is beyond its limit.
@@ -181,7 +213,7 @@ fn check_samples(bytes: &[u8], start: usize, count: usize) -> Check
     Check::Done
 }
 
-// Section two, then 9 and 5.
+// Sections two and three, then 9 and 5.
 fn check_rest(bytes: &[u8], axes: usize, nodes: usize, room: usize) -> Check
     requires { ⌜ AfterOne (now bytes) axes nodes ⌝ }
     ensures { λ r. ⌜ outcomeOf r ≡ restOutcome (now (bytes .entry)) room ⌝ }
@@ -189,6 +221,10 @@ fn check_rest(bytes: &[u8], axes: usize, nodes: usize, room: usize) -> Check
     let two = check_two(bytes, axes, nodes);
     if let Check::Refused(_) = two {
         return two;
+    }
+    let three = check_three(bytes, 2 + axes + nodes);
+    if let Check::Refused(_) = three {
+        return three;
     }
     let short = lattice::refuse_unless(nodes <= room, 9, 0);
     if let Check::Refused(_) = short {
@@ -226,12 +262,14 @@ pub fn read(bytes: &[u8], samples: &mut [i32]) -> TableAnswer
     if let Check::Refused(r) = rest {
         return TableAnswer::Refused(r);
     }
+    let second = second_in(bytes, 2 + axes + nodes);
     fill(bytes, 2 + axes, nodes, samples);
     TableAnswer::Table {
         axes: s.axes,
         x: s.counts[0],
         y: s.counts[1],
         z: s.counts[2],
+        second: second,
     }
 }
 
@@ -250,7 +288,7 @@ fn put_number(bytes: &mut [u8], k: usize, v: u32)
 // Puts section one.
 fn put_one(bytes: &mut [u8], axes: u32, counts: [u32; 3])
     requires { ⌜ (axes ≤ 3) × (4 * axes + 4 ≤ length (now bytes)) ⌝ }
-    ensures { λ _. ⌜ now (bytes .exit) ≡ sets (now (bytes .entry)) 0 (bytesOfAll (sectionOne (header axes counts))) ⌝ }
+    ensures { λ _. ⌜ now (bytes .exit) ≡ sets (now (bytes .entry)) 0 (bytesOfAll (sectionOne axes counts)) ⌝ }
 {
     put_number(bytes, 0, axes);
     let n = axes as usize;
@@ -275,21 +313,41 @@ fn put_two(bytes: &mut [u8], start: usize, samples: &[i32])
     }
 }
 
-// Puts the file of a table at the front of `bytes`, and gives its length.
-fn put_file(axes: u32, counts: [u32; 3], samples: &[i32], bytes: &mut [u8]) -> usize
-    requires { ⌜ (axes ≤ 3) × (length (now samples) ≤ 262144) × (4 * (2 + axes + length (now samples)) ≤ length (now bytes)) ⌝ }
-    ensures { λ r. ⌜ r ≡ length (fileOf (header axes counts) (now (samples .entry))) ⌝ }
-    ensures { λ _. ⌜ now (bytes .exit) ≡ overwrite (fileOf (header axes counts) (now (samples .entry))) (now (bytes .entry)) ⌝ }
+// How many numbers section three has.
+fn three_numbers(second: bool) -> usize
+    ensures { λ r. ⌜ (r ≡ length (sectionThree second)) × (r ≤ 2) ⌝ }
 {
-    let start = 1 + axes as usize;
+    if second { 2 } else { 0 }
+}
+
+// Puts section three from number `start` on, in edition two.
+fn put_three(bytes: &mut [u8], start: usize, second: bool)
+    requires { ⌜ 4 * (start + length (sectionThree second)) ≤ length (now bytes) ⌝ }
+    ensures { λ _. ⌜ now (bytes .exit) ≡ sets (now (bytes .entry)) (4 * start) (bytesOfAll (sectionThree second)) ⌝ }
+{
+    if second {
+        put_number(bytes, start, 1);
+        put_number(bytes, 1 + start, 2);
+    }
+}
+
+// Puts the file of a table at the front of `bytes`, and gives its length.
+fn put_file(axes: u32, counts: [u32; 3], second: bool, samples: &[i32], bytes: &mut [u8]) -> usize
+    requires { ⌜ (axes ≤ 3) × (length (now samples) ≤ 262144) × (4 * (2 + axes + length (now samples) + length (sectionThree second)) ≤ length (now bytes)) ⌝ }
+    ensures { λ r. ⌜ r ≡ length (fileOf (header axes counts second) (now (samples .entry))) ⌝ }
+    ensures { λ _. ⌜ now (bytes .exit) ≡ overwrite (fileOf (header axes counts second) (now (samples .entry))) (now (bytes .entry)) ⌝ }
+{
+    let n = axes as usize;
+    let start = 2 + n + samples.len();
     put_one(bytes, axes, counts);
-    put_two(bytes, start, samples);
-    4 * (1 + start + samples.len())
+    put_two(bytes, 1 + n, samples);
+    put_three(bytes, start, second);
+    4 * (start + three_numbers(second))
 }
 
 // 1, 3, 4, 9, 5. No sample is read before the lengths are right.
-fn check_write(axes: u32, counts: [u32; 3], samples: &[i32], room: usize) -> Check
-    ensures { λ r. ⌜ outcomeOf r ≡ writeCheck (header axes counts) (now (samples .entry)) room ⌝ }
+fn check_write(axes: u32, counts: [u32; 3], second: bool, samples: &[i32], room: usize) -> Check
+    ensures { λ r. ⌜ outcomeOf r ≡ writeCheck (header axes counts second) (now (samples .entry)) room ⌝ }
 {
     // Both degrees have the same nodes.
     let s = lattice::shape_of(axes, 3, counts);
@@ -298,7 +356,8 @@ fn check_write(axes: u32, counts: [u32; 3], samples: &[i32], room: usize) -> Che
         return shape;
     }
     let nodes = lattice::node_count(s);
-    let needed = 4 * (2 + axes as usize + nodes);
+    let three = three_numbers(second);
+    let needed = 4 * (2 + axes as usize + nodes + three);
     let counted = lattice::refuse_unless(samples.len() == nodes, 4, 0);
     if let Check::Refused(_) = counted {
         return counted;
@@ -311,13 +370,19 @@ fn check_write(axes: u32, counts: [u32; 3], samples: &[i32], room: usize) -> Che
 }
 
 // Writes a table file to the front of `bytes`.
-pub fn write(axes: u32, counts: [u32; 3], samples: &[i32], bytes: &mut [u8]) -> WriteAnswer
-    ensures { λ r. ⌜ outcomeOfWrite r ≡ writeOutcome (header axes counts) (now (samples .entry)) (length (now (bytes .entry))) ⌝ }
-    ensures { λ _. ⌜ now (bytes .exit) ≡ whenDone (writeOutcome (header axes counts) (now (samples .entry)) (length (now (bytes .entry)))) (overwrite (fileOf (header axes counts) (now (samples .entry))) (now (bytes .entry))) (now (bytes .entry)) ⌝ }
+pub fn write(
+    axes: u32,
+    counts: [u32; 3],
+    second: bool,
+    samples: &[i32],
+    bytes: &mut [u8],
+) -> WriteAnswer
+    ensures { λ r. ⌜ outcomeOfWrite r ≡ writeOutcome (header axes counts second) (now (samples .entry)) (length (now (bytes .entry))) ⌝ }
+    ensures { λ _. ⌜ now (bytes .exit) ≡ whenDone (writeOutcome (header axes counts second) (now (samples .entry)) (length (now (bytes .entry)))) (overwrite (fileOf (header axes counts second) (now (samples .entry))) (now (bytes .entry))) (now (bytes .entry)) ⌝ }
 {
-    let allowed = check_write(axes, counts, samples, bytes.len());
+    let allowed = check_write(axes, counts, second, samples, bytes.len());
     if let Check::Refused(r) = allowed {
         return WriteAnswer::Refused(r);
     }
-    WriteAnswer::Written(put_file(axes, counts, samples, bytes))
+    WriteAnswer::Written(put_file(axes, counts, second, samples, bytes))
 }

@@ -22,7 +22,7 @@ static lukhtari_index cell, u, counts;
 static uint32_t slope_axis;
 static int32_t samples[NODES], records[NODES * LUKHTARI_RECORD_ENTRIES_MAX];
 static int32_t coefficients[LUKHTARI_COEFFICIENTS_MAX], corners[LUKHTARI_COEFFICIENTS_MAX];
-static uint8_t file[LUKHTARI_FILE_BYTES(3, NODES)];
+static uint8_t file[LUKHTARI_FILE_BYTES(3, NODES, true)];
 static char text[NODES * (LUKHTARI_TOKEN_BYTES_MAX + 2)];
 static int32_t positions[3 * LUKHTARI_RAMP_MAX], answers[LUKHTARI_RAMP_MAX];
 static size_t nodes, entries, cell_numbers, bytes, letters;
@@ -78,7 +78,8 @@ static void slope_float(void) {
 }
 
 static void write_file(void) {
-    number = lukhtari_write(shape.axes, counts, samples, nodes, file, sizeof file).number;
+    bool edition = shape.second_edition;
+    number = lukhtari_write(shape.axes, counts, edition, samples, nodes, file, sizeof file).number;
 }
 
 static void read_file(void) { number = lukhtari_read(file, bytes, samples, NODES).number; }
@@ -173,14 +174,15 @@ static void type(const char *last) {
 }
 
 /* Sets everything for a table. */
-static void prepare(uint32_t axes, uint32_t degree) {
-    lukhtari_shape wanted = {axes, degree, {X, axes > 1 ? 3 : 1, axes > 2 ? 3 : 1}};
+static void prepare(uint32_t axes, uint32_t degree, bool second_edition) {
+    lukhtari_shape wanted = {
+        axes, degree, {X, axes > 1 ? 3 : 1, axes > 2 ? 3 : 1}, second_edition};
     shape = wanted;
     memcpy(counts.at, shape.counts, sizeof counts.at);
     nodes = LUKHTARI_NODES(shape.counts[0], shape.counts[1], shape.counts[2]);
     entries = LUKHTARI_ENTRIES(axes, degree, nodes);
     cell_numbers = LUKHTARI_COEFFICIENTS(axes, degree);
-    bytes = LUKHTARI_FILE_BYTES(axes, nodes);
+    bytes = LUKHTARI_FILE_BYTES(axes, nodes, second_edition);
     for (size_t i = 0; i < nodes; i++) {
         samples[i] = (int32_t)(i * 7919 % 8000) - 4000;
     }
@@ -214,9 +216,9 @@ static uint32_t due(int which, uint32_t otherwise) {
 }
 
 /* Every call on a table: with its full result, then refused for a number that it reads. */
-static int measure_table(uint32_t axes, uint32_t degree) {
+static int measure_table(uint32_t axes, uint32_t degree, bool second_edition) {
     int right = 1;
-    prepare(axes, degree);
+    prepare(axes, degree, second_edition);
     for (int which = 0; which < CALLS; which++) {
         for (slope_axis = 0; slope_axis < axes; slope_axis++) {
             right &= measure(which, due(which, LUKHTARI_NOT_REFUSED));
@@ -239,6 +241,9 @@ static int measure_table(uint32_t axes, uint32_t degree) {
     right &= measure(IMPORT, LUKHTARI_REFUSED_TOKEN_NOT_WHOLE);
     type("327.69");
     right &= measure(IMPORT, LUKHTARI_REFUSED_BEYOND_LIMIT);
+    file[bytes - 1] = 1;
+    right &= measure(READ, second_edition ? LUKHTARI_REFUSED_FILE_EDITION
+                                          : LUKHTARI_REFUSED_BEYOND_LIMIT);
     samples[nodes - 1] = LUKHTARI_SAMPLE_LIMIT + 1;
     right &= measure(ESTIMATE, LUKHTARI_REFUSED_BEYOND_ESTIMATE_LIMIT);
     right &= measure(WRITE, LUKHTARI_REFUSED_BEYOND_LIMIT);
@@ -249,7 +254,8 @@ int main(void) {
     int right = 1;
     for (uint32_t axes = 1; axes <= 3; axes++) {
         for (uint32_t degree = 3; degree <= 5; degree += 2) {
-            right &= measure_table(axes, degree);
+            right &= measure_table(axes, degree, false);
+            right &= measure_table(axes, degree, true);
         }
     }
     for (int which = 0; which < CALLS; which++) {

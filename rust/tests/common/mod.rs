@@ -78,22 +78,36 @@ impl Random {
         (0..shape.entries()).map(entry).collect()
     }
 
-    // A shape with at most so many nodes on an axis.
+    // A shape of any edition with at most so many nodes on an axis.
     pub fn shape(&mut self, axes: u32, degree: u32, most: i64) -> Shape {
         let counts = [0, 1, 2].map(|axis| match axis < axes {
             true => self.range(2, most) as u32,
             false => 1,
         });
-        shape(axes, degree, counts)
+        in_edition(shape(axes, degree, counts), self.chance(2))
     }
 }
 
+// A shape of edition one.
 pub fn shape(axes: u32, degree: u32, counts: [u32; 3]) -> Shape {
     Shape {
         axes,
         degree,
         counts,
+        second_edition: false,
     }
+}
+
+pub fn in_edition(shape: Shape, second_edition: bool) -> Shape {
+    Shape {
+        second_edition,
+        ..shape
+    }
+}
+
+// The shape in both editions.
+pub fn editions(shape: Shape) -> [Shape; 2] {
+    [false, true].map(|second| in_edition(shape, second))
 }
 
 // A shape with the same number of nodes on each used axis.
@@ -161,7 +175,7 @@ pub fn wants(shape: Shape) -> Vec<Want> {
 
 // The model's shape.
 pub fn plain_shape(shape: Shape) -> model::Shape {
-    model::Shape::new(shape.axes, shape.degree, shape.counts)
+    model::Shape::new(shape.axes, shape.degree, shape.counts).in_edition(shape.second_edition)
 }
 
 // The library's answer with the model's refusal.

@@ -43,12 +43,21 @@ fn words(text: &str) -> String {
     text.split_whitespace().collect::<Vec<_>>().join(" ")
 }
 
-// A struct as its field types in braces, any other type as it is.
+// A struct as its field types in braces, with those of a struct within it in its place, any other
+// type as it is.
 fn written_out(structs: &Structs, name: &str) -> String {
     match structs.get(name) {
-        Some(fields) => format!("{{{}}}", fields.join(", ")),
+        Some(fields) => format!("{{{}}}", field_types(structs, fields).join(", ")),
         None => name.to_string(),
     }
+}
+
+fn field_types(structs: &Structs, fields: &[String]) -> Vec<String> {
+    let types = |field: &String| match structs.get(field) {
+        Some(within) => field_types(structs, within),
+        None => vec![field.clone()],
+    };
+    fields.iter().flat_map(types).collect()
 }
 
 // Rust and Rattle without line comments.

@@ -2,7 +2,7 @@
 
 #![allow(dead_code)]
 
-use crate::common::{outcome, plain, Lent, Random};
+use crate::common::{outcome, plain, shape, Lent, Random};
 use crate::model;
 use lukhtari::{read, write};
 use model::file::Table;
@@ -18,6 +18,7 @@ pub struct Read {
 pub struct Write {
     pub axes: u32,
     pub counts: [u32; 3],
+    pub second_edition: bool,
     pub samples: Vec<i32>,
     pub room: usize,
 }
@@ -27,9 +28,10 @@ pub fn run_read_table(call: &Read) -> Answer<Table> {
     let mut buffer = Lent::new(call.room);
     let got = plain(read(&call.bytes, buffer.slice()));
     let expected = model::file::read(&call.bytes, call.room);
-    let shape = expected.as_ref().map(|table| (table.axes, table.counts));
-    let got = got.map(|table| (table.axes, table.counts));
-    assert_eq!(got, shape.map_err(|refusal| *refusal), "{:?}", call.bytes);
+    let told = |table: &Table| (table.axes, table.counts, table.second_edition);
+    let told = expected.as_ref().map(told).map_err(|refusal| *refusal);
+    let got = got.map(|table| (table.axes, table.counts, table.second_edition));
+    assert_eq!(got, told, "{:?}", call.bytes);
     let samples = expected.as_ref().map(|table| &table.samples[..]);
     buffer.check(samples.unwrap_or_default());
     expected
@@ -43,8 +45,9 @@ pub fn run_read(call: &Read) -> Answer<()> {
 pub fn run_write_bytes(call: &Write) -> Answer<Vec<u8>> {
     let mut buffer = Lent::new(call.room);
     let Write { axes, counts, .. } = *call;
-    let got = plain(write(axes, counts, &call.samples, buffer.slice()));
-    let expected = model::file::write(axes, counts, &call.samples, call.room);
+    let (edition, samples) = (call.second_edition, &call.samples);
+    let got = plain(write(axes, counts, edition, samples, buffer.slice()));
+    let expected = model::file::write(axes, counts, edition, samples, call.room);
     let length = expected.as_ref().map(|bytes| bytes.len());
     assert_eq!(got, length.map_err(|refusal| *refusal), "{call:?}");
     buffer.check(expected.as_deref().unwrap_or_default());
@@ -59,27 +62,39 @@ pub fn words(numbers: &[u32]) -> Vec<u8> {
     numbers.iter().flat_map(|n| n.to_le_bytes()).collect()
 }
 
-// A table with all buffers right for writing.
-pub fn table(random: &mut Random, axes: u32, most: i64) -> Write {
-    let shape = random.shape(axes, 3, most);
-    let samples = random.samples(shape.nodes());
-    let room = 4 * (2 + axes as usize + samples.len());
-    let counts = shape.counts;
+// A table of an edition with all buffers right for writing.
+pub fn table(random: &mut Random, axes: u32, most: i64, second_edition: bool) -> Write {
+    let counts = random.shape(axes, 3, most).counts;
+    let samples = random.samples(shape(axes, 3, counts).nodes());
+    let section = if second_edition { 2 } else { 0 };
+    let room = 4 * (2 + axes as usize + samples.len() + section);
     Write {
         axes,
         counts,
+        second_edition,
         samples,
         room,
     }
 }
 
-// A permitted file, with a buffer of the right length.
-pub fn file(random: &mut Random, axes: u32, most: i64) -> Read {
-    let table = table(random, axes, most);
+// A permitted file of an edition, with a buffer of the right length.
+pub fn file(random: &mut Random, axes: u32, most: i64, second_edition: bool) -> Read {
+    let table = table(random, axes, most, second_edition);
     let bytes = run_write_bytes(&table).expect("permitted table");
     let room = table.samples.len();
     Read { bytes, room }
 }
 
-// The file of the samples 0, 100, in numbers.
+// A number of axes with each edition.
+pub const FILES: [(u32, bool); 6] = [
+    (1, false),
+    (2, false),
+    (3, false),
+    (1, true),
+    (2, true),
+    (3, true),
+];
+
+// The file of the samples 0, 100, in numbers, and its third section in edition two.
 pub const EXAMPLE: [u32; 5] = [1, 2, 2, 0, 100];
+pub const SECTION: [u32; 2] = [1, 2];

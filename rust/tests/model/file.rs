@@ -6,6 +6,7 @@ use super::shape::*;
 pub struct Table {
     pub axes: u32,
     pub counts: [u32; 3],
+    pub second_edition: bool,
     pub samples: Vec<i32>,
 }
 
@@ -26,7 +27,11 @@ impl Reader<'_> {
     }
 }
 
-// The reading call: in byte order 6, 1, 3, 8, 6, 7, then 9, 5, else the table.
+// The third section: its count and its number.
+const SECTION: [u32; 2] = [1, 2];
+
+// The reading call: in byte order 6, 1, 3, 8, 6, then 6 and 25 of the third section, 7; then 9, 5,
+// else the table.
 pub fn read(bytes: &[u8], room: usize) -> Answer<Table> {
     let mut reader = Reader { bytes, at: 0 };
     let axes = reader.number()?;
@@ -42,18 +47,31 @@ pub fn read(bytes: &[u8], room: usize) -> Answer<Table> {
     for _ in 0..nodes {
         samples.push(reader.number()? as i32);
     }
+    // A file that ends here is of edition one.
+    let second_edition = reader.at < bytes.len();
+    if second_edition {
+        let section = [reader.number()?, reader.number()?];
+        refuse_unless(section == SECTION, 25, 0)?;
+    }
     refuse_unless(reader.at == bytes.len(), 7, reader.at)?;
     check_room(room, samples.len())?;
     check_samples(&samples)?;
     Ok(Table {
         axes,
         counts,
+        second_edition,
         samples,
     })
 }
 
 // The writing call: 1, 3, 4, 9, 5, else the file's bytes.
-pub fn write(axes: u32, counts: [u32; 3], samples: &[i32], room: usize) -> Answer<Vec<u8>> {
+pub fn write(
+    axes: u32,
+    counts: [u32; 3],
+    second_edition: bool,
+    samples: &[i32],
+    room: usize,
+) -> Answer<Vec<u8>> {
     check_axes(axes)?;
     check_counts(axes, counts)?;
     let nodes: u32 = counts.iter().product();
@@ -62,6 +80,9 @@ pub fn write(axes: u32, counts: [u32; 3], samples: &[i32], room: usize) -> Answe
     numbers.extend(&counts[..axes as usize]);
     numbers.push(nodes);
     numbers.extend(samples.iter().map(|&sample| sample as u32));
+    if second_edition {
+        numbers.extend(SECTION);
+    }
     check_room(room, 4 * numbers.len())?;
     check_samples(samples)?;
     Ok(numbers.iter().flat_map(|n| n.to_le_bytes()).collect())

@@ -43,6 +43,10 @@ impl Int {
         self.negative
     }
 
+    pub fn is_even(self) -> bool {
+        self.size[0] % 2 == 0
+    }
+
     pub fn abs(self) -> Int {
         Int::signed(false, self.size)
     }

@@ -46,7 +46,7 @@ struct Estimated {
 
 impl Estimated {
     fn new(table: &Table, degree: u32) -> Answer<Estimated> {
-        let shape = Shape::new(table.axes, degree, table.counts);
+        let shape = Shape::new(table.axes, degree, table.counts).in_edition(table.second_edition);
         let records = estimate(&shape, &table.samples, shape.entries())?;
         Ok(Estimated { shape, records })
     }

@@ -67,6 +67,18 @@ impl Rational {
         (self + Rational::ratio(1, 2)).floor()
     }
 
+    // Nearest whole number, halves to the even one.
+    pub fn round_even(self) -> Int {
+        let (low, half) = (self.floor(), Rational::ratio(1, 2));
+        let high = low + Int::ONE;
+        let above = self - Rational::from(low);
+        match above.cmp(&half) {
+            Ordering::Less => low,
+            Ordering::Greater => high,
+            Ordering::Equal => [low, high][usize::from(!low.is_even())],
+        }
+    }
+
     // The value as a 64-bit whole number, if it is one.
     pub fn to_i64(self) -> Option<i64> {
         self.is_whole().then(|| self.dividend.to_i64()).flatten()

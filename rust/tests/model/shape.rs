@@ -8,6 +8,7 @@ pub struct Shape {
     pub axes: u32,
     pub degree: u32,
     pub counts: [u32; 3],
+    pub second_edition: bool,
 }
 
 #[derive(Clone, Copy, Debug, PartialEq, Eq)]
@@ -25,11 +26,21 @@ pub fn refuse_unless(test: bool, number: u32, place: usize) -> Answer<()> {
 }
 
 impl Shape {
+    // A shape of edition one.
     pub fn new(axes: u32, degree: u32, counts: [u32; 3]) -> Shape {
         Shape {
             axes,
             degree,
             counts,
+            second_edition: false,
+        }
+    }
+
+    // The same shape in an edition.
+    pub fn in_edition(self, second_edition: bool) -> Shape {
+        Shape {
+            second_edition,
+            ..self
         }
     }
 

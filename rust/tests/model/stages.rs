@@ -5,6 +5,7 @@ use super::coefficients::{axis_coefficients, cell_coefficients};
 use super::int::Int;
 use super::rational::Rational;
 use super::shape::{indices, Shape};
+use std::cell::Cell;
 
 // Steps of a cell along an axis.
 pub const STEPS: i64 = 256;
@@ -156,7 +157,7 @@ pub fn stages_in_order(
         let (weights, divisor) = axis_weights(shape, point, axis);
         block = block.map_lines(axis, |ends| {
             let value = stage_value(shape.degree, ends, &weights, divisor);
-            vec![round_to(value, parts)]
+            vec![round_to(value, parts, shape.second_edition)]
         });
         after.push(block.clone());
     }
@@ -172,10 +173,33 @@ fn stage_value(degree: u32, ends: &[Rational], weights: &[Int], divisor: Int) ->
     sum / Rational::from(divisor)
 }
 
-// The nearest multiple of one part of a unit, halves towards plus infinity.
-pub fn round_to(value: Rational, parts: i64) -> Rational {
+// The nearest multiple of one part of a unit: halves towards plus infinity, in edition two to the
+// even multiple.
+pub fn round_to(value: Rational, parts: i64, second_edition: bool) -> Rational {
     let parts = Rational::whole(parts);
-    Rational::from((value * parts).round()) / parts
+    let rounded = match second_edition {
+        false => (value * parts).round(),
+        true => (value * parts).round_even(),
+    };
+    Rational::from(rounded) / parts
+}
+
+// Whether a number of some stage lies in the middle between the two that it could be rounded to.
+pub fn meets_half(shape: &Shape, records: &[i32], point: &Point) -> bool {
+    let order = stage_order(shape.used(), point.want);
+    let mut block = cell_block(shape, records, point.cell);
+    let met = Cell::new(false);
+    for (number, &axis) in order.iter().enumerate() {
+        let parts = if number + 1 == order.len() { 1 } else { 8 };
+        let (weights, divisor) = axis_weights(shape, point, axis);
+        block = block.map_lines(axis, |ends| {
+            let value = stage_value(shape.degree, ends, &weights, divisor);
+            let twice = value * Rational::whole(2 * parts);
+            met.set(met.get() || twice.is_whole() && !twice.floor().is_even());
+            vec![round_to(value, parts, shape.second_edition)]
+        });
+    }
+    met.get()
 }
 
 // The dose, slope or curvature that the stages give.

@@ -48,8 +48,9 @@ pub fn back(axes: u32, degree: u32, numbers: &[i32], room: usize) -> Answer<Vec<
     filled(room, cube(axes, degree, 2).entries(), call)
 }
 
-pub fn written(axes: u32, counts: [u32; 3], samples: &[i32], room: usize) -> Answer<usize> {
-    plain(write(axes, counts, samples, &mut vec![0; room]))
+pub fn written(shape: Shape, samples: &[i32], room: usize) -> Answer<usize> {
+    let (axes, counts, edition) = (shape.axes, shape.counts, shape.second_edition);
+    plain(write(axes, counts, edition, samples, &mut vec![0; room]))
 }
 
 pub fn read_numbers(numbers: &[u32], spare: usize) -> Answer<()> {
@@ -80,6 +81,6 @@ pub fn with_nothing_lent(shape: Shape) -> [Answer<()>; 5] {
         outcome(&forward(shape, &[], ORIGIN, 0)),
         ask(START),
         ask(Cell(ORIGIN, ORIGIN)),
-        outcome(&written(shape.axes, shape.counts, &[], 0)),
+        outcome(&written(shape, &[], 0)),
     ]
 }

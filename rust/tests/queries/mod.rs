@@ -2,7 +2,7 @@
 
 #![allow(dead_code)]
 
-use crate::common::{plain, plain_shape, Query};
+use crate::common::{editions, plain, plain_shape, Query};
 use crate::model;
 use lukhtari::{
     curvature, curvature_in_cell, dose, dose_in_cell, ffi, slope, slope_in_cell, Shape,
@@ -11,14 +11,16 @@ use model::query::Where;
 use model::Want::{Curvature, Dose, Slope};
 use model::{Answer, Want};
 
-// Makes the call, compares it with the model, and returns the answer.
+// Makes the call in both editions, compares each with the model, and returns the query's answer.
 #[track_caller]
 pub fn run(query: &Query) -> Answer<i32> {
-    let got = plain(call(query));
     let Query { at, want, .. } = *query;
-    let expected = model::query::query(&plain_shape(query.shape), &query.records, at, want);
-    assert_eq!(got, expected, "{:?} {at:?} {want:?}", query.shape);
-    got
+    for shape in editions(query.shape) {
+        let got = plain(answer(shape, &query.records, at, want));
+        let expected = model::query::query(&plain_shape(shape), &query.records, at, want);
+        assert_eq!(got, expected, "{shape:?} {at:?} {want:?}");
+    }
+    plain(call(query))
 }
 
 pub fn call(query: &Query) -> Result<i32, lukhtari::Refusal> {

@@ -2,7 +2,7 @@
 
 #![allow(dead_code)]
 
-use crate::common::{outcome, plain, plain_shape, Lent, Random};
+use crate::common::{editions, outcome, plain, plain_shape, Lent, Random};
 use crate::model;
 use lukhtari::{ffi, ramp, Shape};
 use model::query::last_step;
@@ -36,9 +36,26 @@ impl Ramp {
     }
 }
 
-// Makes the call, compares result and buffer with the model's, and returns what the model gives.
+// Makes the call in both editions, compares each with the model's, and returns what the model gives
+// for the call.
 #[track_caller]
 pub fn run_ramp(call: &Ramp) -> Answer<Ramped> {
+    let [first, second] = editions(call.shape).map(|shape| {
+        let call = Ramp {
+            shape,
+            ..call.clone()
+        };
+        run_edition(&call)
+    });
+    if call.shape.second_edition {
+        second
+    } else {
+        first
+    }
+}
+
+#[track_caller]
+fn run_edition(call: &Ramp) -> Answer<Ramped> {
     let mut buffer = Lent::new(call.room);
     let result = raw(call, buffer.slice());
     let shape = plain_shape(call.shape);

@@ -2,7 +2,7 @@
 
 #![allow(dead_code)]
 
-use crate::common::{cube, outcome, plain, plain_shape, Lent, Random};
+use crate::common::{cube, editions, outcome, plain, plain_shape, Lent, Random};
 use crate::model;
 use lukhtari::{import, Shape};
 use model::Answer;
@@ -30,18 +30,21 @@ impl Import {
     }
 }
 
-// Makes the call, compares answer and buffer with the model's, and returns the samples.
+// Makes the call in both editions, which do not matter here, compares answer and buffer with the
+// model's, and returns the samples.
 #[track_caller]
 pub fn run_samples(call: &Import) -> Answer<Vec<i32>> {
-    let mut buffer = Lent::new(call.room);
-    let got = plain(import(call.shape, &call.text, buffer.slice()));
     let shape = plain_shape(call.shape);
     let expected = model::text::import(&shape, &call.text, call.room);
-    if got != outcome(&expected) {
-        let text = call.text.escape_ascii();
-        panic!("{got:?} for {:?}: {text}", outcome(&expected));
+    for shape in editions(call.shape) {
+        let mut buffer = Lent::new(call.room);
+        let got = plain(import(shape, &call.text, buffer.slice()));
+        if got != outcome(&expected) {
+            let text = call.text.escape_ascii();
+            panic!("{got:?} for {:?}: {text}", outcome(&expected));
+        }
+        buffer.check(expected.as_deref().unwrap_or_default());
     }
-    buffer.check(expected.as_deref().unwrap_or_default());
     expected
 }
 

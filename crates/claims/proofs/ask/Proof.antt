@@ -15,21 +15,21 @@ returns c =
     let a = c .before .before .before .before .args in
     let w = wanted (a .derivative) in
     ap (inFloat w) (c .by-position .ensures
-    ∙ sym (ap (λ z. queried (a .s) (now (a .records)) w (queryOf z)) (c .before .before .q .given .1)))
+    ∙ sym (ap (λ z. queried (a .t) (now (a .records)) w (queryOf z)) (c .before .before .q .given .1)))
 
 returns-2 : tie.Need-returns-2
 unfolding queried
 returns-2 c =
     let a = c .before .before .before .before .args in
     let w = wanted (a .derivative) in
-    ap (inFloat w) (c .by-cell .ensures ∙ sym (ap (λ z. queried (a .s) (now (a .records)) w (queryOf z)) (c .before .before .q2 .given .1)))
+    ap (inFloat w) (c .by-cell .ensures ∙ sym (ap (λ z. queried (a .t) (now (a .records)) w (queryOf z)) (c .before .before .q2 .given .1)))
 
 returns-3 : tie.Need-returns-3
 unfolding queried
 returns-3 c =
     let a = c .before .before .before .before .args in
     let w = wanted (a .derivative) in
-    c .at-float .ensures ∙ sym (ap (λ z. inFloat w (queried (a .s) (now (a .records)) w (queryOf z))) (c .before .before .q3 .given .1))
+    c .at-float .ensures ∙ sym (ap (λ z. inFloat w (queried (a .t) (now (a .records)) w (queryOf z))) (c .before .before .q3 .given .1))
 
 pub ask-spec : {M : Type 1} → statement M
 ask-spec =

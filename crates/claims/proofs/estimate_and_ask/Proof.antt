@@ -32,20 +32,20 @@ module _ (c : tie.After-enum-told) where
   abbrev start : tie.Start
   start = c .before .before .before .before .before
 
-  taken : AcceptedTable (start .args .s) (start .args .samples .now) (start .args .records .now)
+  taken : AcceptedTable (start .args .t .shape) (start .args .samples .now) (start .args .records .now)
   taken = sym (c .before .before .before .estimate .ensures .0) ∙ ap outcomeOf (c .enum-told .given .1)
 
 enum-told : tie.Need-enum-told
 enum-told c = search needs
 
 table-entries-requires : tie.Need-table-entries-requires
-table-entries-requires c κs = let a = start c .args in estimated (a .s) (a .samples .now) (length (a .records .now)) (taken c) .shape
+table-entries-requires c κs = let a = start c .args in estimated (a .t .shape) (a .samples .now) (length (a .records .now)) (taken c) .shape
 
 slice-reshare-prefix-ask : tie.Need-slice-reshare-prefix-ask
 slice-reshare-prefix-ask c =
     let a = start (c .before) .args in
     le-trans (le-of-eq (c .table-entries .ensures))
-    (le-trans (lent-room (a .s) (a .samples .now) (a .records .now) (taken (c .before)))
+    (le-trans (lent-room (a .t .shape) (a .samples .now) (a .records .now) (taken (c .before)))
     (le-of-eq (ap length (sym (c .before .before .before .before .estimate .ensures .1)))))
 
 returns : tie.Need-returns
@@ -55,9 +55,9 @@ returns c =
     let a = b .args in
     let e = d .estimate .ensures in
     let g = ap (inFloat (want b))
-    (both-refused (a .s) (a .samples .now) (a .records .now) (want b) (question b)
+    (both-refused (a .t) (a .samples .now) (a .records .now) (want b) (question b)
     (sym (e .0) ∙ ap outcomeOf (c .before .answer .given .1))) in
-    (g, (e .1, claimed-told (a .s) (a .samples .now) (a .records .now) (want b) (question b) _ g))
+    (g, (e .1, claimed-told (a .t) (a .samples .now) (a .records .now) (want b) (question b) _ g))
 
 returns-2 : tie.Need-returns-2
 returns-2 c =
@@ -67,9 +67,9 @@ returns-2 c =
     let e = t .before .before .before .estimate .ensures in
     let lends = ap₂ take (c .before .before .table-entries .ensures) (e .1) in
     let g = c .ask .ensures
-    ∙ ap (inFloat (want b)) (ap (λ (rs : List ℤ). queried (a .s) rs (want b) (question b)) lends
-    ∙ both-asked (a .s) (a .samples .now) (a .records .now) (want b) (question b) (taken t)) in
-    (g, (e .1, claimed-told (a .s) (a .samples .now) (a .records .now) (want b) (question b) _ g))
+    ∙ ap (inFloat (want b)) (ap (λ (rs : List ℤ). queried (a .t) rs (want b) (question b)) lends
+    ∙ both-asked (a .t) (a .samples .now) (a .records .now) (want b) (question b) (taken t)) in
+    (g, (e .1, claimed-told (a .t) (a .samples .now) (a .records .now) (want b) (question b) _ g))
 
 pub estimate-and-ask-spec : {M : Type 1} → statement M
 estimate-and-ask-spec =

@@ -1,12 +1,14 @@
--- `evaluate::both_stages` meets its contract: the second stage with m as a literal is the one with m.
-use mathlib.Core.Path.{_≡_, _∙_}
+-- `evaluate::both_stages` meets its contract: the second stage with m and the edition as literals is the one with m and the edition.
+use mathlib.Core.Path.{_≡_, ap, _∙_}
+use mathlib.Core.Bool.{Bool, true, false}
 use mathlib.Core.List.{[], _∷_}
 use Prim.Native.Nat.{ℕ, _≤_}
 use native.Mathlib.Omega.{arith}
 use lib.ListN.{length}
 use lib.IntN.{ℤ}
 use denote.Ref.{now}
-use Rattle.arith.specs.Int.{roundHalfUp}
+use borrow.Author.Tests.{not-true, not-false}
+use Rattle.arith.specs.Int.{Rounding, roundingOf}
 use Rattle.arith.proofs.Machine.{read}
 use Rattle.lattice.specs.Buffer.{at}
 use Rattle.evaluate.specs.Stages.{worked, after, AllPrepared, Safe}
@@ -14,27 +16,46 @@ use Rattle.evaluate.proofs.StageOrder.{second-as, worked-as}
 use Rattle.evaluate.proofs.both_stages.Statement.{statement}
 use Rattle.evaluate.proofs.both_stages.Tie as tie
 
-module _ (s : tie.Start) (k : ℕ) (e : s .args .m ≡ k) where
+module _ (s : tie.Start) (k : ℕ) (e : s .args .m ≡ k) (b : Bool) (eb : s .args .even ≡ b) where
   abbrev g : ℕ → ℤ
   g = at (now (s .args .records))
 
+  abbrev round : Rounding
+  round = roundingOf (s .args .even)
+
   asks : (AllPrepared k (s .args .z ∷ s .args .x ∷ []) × (s .args .z .shift ≤ 44))
-      × Safe roundHalfUp k (length (now (s .args .records))) (s .args .z ∷ s .args .x ∷ []) g (s .args .p)
+      × Safe (roundingOf b) k (length (now (s .args .records))) (s .args .z ∷ s .args .x ∷ []) g (s .args .p)
   asks = let a = s .args in
-      second-as roundHalfUp (a .z) (a .x) (length (now (a .records))) g (a .p) (a .m) k e (a .z .shift) (s .pre .0) (s .pre .1)
+      second-as round (roundingOf b) (a .z) (a .x) (length (now (a .records))) g (a .p) (a .m) k e (ap roundingOf eb) (a .z .shift)
+      (s .pre .0) (s .pre .1)
 
-  gives : worked roundHalfUp (s .args .z .shift) (s .args .z) (after roundHalfUp k (s .args .x ∷ []) g) (s .args .p) ≡ worked roundHalfUp
-      (s .args .z .shift) (s .args .z) (after roundHalfUp (s .args .m) (s .args .x ∷ []) g) (s .args .p)
-  gives = let a = s .args in worked-as roundHalfUp (a .z) (a .x) (length (now (a .records))) g (a .p) (a .m) k e (a .z .shift)
+  gives : worked (roundingOf b) (s .args .z .shift) (s .args .z) (after (roundingOf b) k (s .args .x ∷ []) g) (s .args .p)
+      ≡ worked round (s .args .z .shift) (s .args .z) (after round (s .args .m) (s .args .x ∷ []) g) (s .args .p)
+  gives = let a = s .args in
+      worked-as round (roundingOf b) (a .z) (a .x) (length (now (a .records))) g (a .p) (a .m) k e (ap roundingOf eb) (a .z .shift)
 
-three : (c : tie.Else1) → c .before .args .m ≡ 3
-three c = let h = c .before .pre .0 .0 .0 in omega (arith, h .m-low, h .m-high, c .if1 .left)
+three : (s : tie.Start) → (s .args .m ≡ 2 → ⊥) → s .args .m ≡ 3
+three s n = let h = s .pre .0 .0 .0 in omega (arith, h .m-low, h .m-high, n)
 
 pub both-stages-spec : {M : Type 1} → statement M
 both-stages-spec =
     tie.close
     (tie.spec
-    (λ c κs. asks (c .before) 2 (c .if1 .taken))
-    (λ c. let d = c .before in read (c .second .result) (c .second .ok) ∙ c .second .ensures ∙ gives (d .before) 2 (d .if1 .taken))
-    (λ c κs. asks (c .before) 3 (three c))
-    (λ c. let d = c .before in read (c .second2 .result) (c .second2 .ok) ∙ c .second2 .ensures ∙ gives (d .before) 3 (three d)))
+    (λ c κs. asks (c .before .before) 2 (c .if2 .taken) false (not-true _ (c .before .if1 .taken)))
+    (λ c. let d = c .before in
+    read (c .second .result) (c .second .ok) ∙ c .second .ensures
+    ∙ gives (d .before .before) 2 (d .if2 .taken) false (not-true _ (d .before .if1 .taken)))
+    (λ c κs. let s = c .before .before in asks s 3 (three s (c .if2 .left)) false (not-true _ (c .before .if1 .taken)))
+    (λ c. let d = c .before in
+    let s = d .before .before in
+    read (c .second2 .result) (c .second2 .ok) ∙ c .second2 .ensures
+    ∙ gives s 3 (three s (d .if2 .left)) false (not-true _ (d .before .if1 .taken)))
+    (λ c κs. asks (c .before .before) 2 (c .if3 .taken) true (not-false _ (c .before .if1 .left)))
+    (λ c. let d = c .before in
+    read (c .second3 .result) (c .second3 .ok) ∙ c .second3 .ensures
+    ∙ gives (d .before .before) 2 (d .if3 .taken) true (not-false _ (d .before .if1 .left)))
+    (λ c κs. let s = c .before .before in asks s 3 (three s (c .if3 .left)) true (not-false _ (c .before .if1 .left)))
+    (λ c. let d = c .before in
+    let s = d .before .before in
+    read (c .second4 .result) (c .second4 .ok) ∙ c .second4 .ensures
+    ∙ gives s 3 (three s (d .if3 .left)) true (not-false _ (d .before .if1 .left))))

@@ -7,7 +7,7 @@ use lib.ListN.{length}
 use lib.IntN.{ℤ}
 use denote.Ref.{now}
 use borrow.Author.Needs.{needs}
-use Rattle.arith.specs.Int.{roundHalfUp}
+use Rattle.arith.specs.Int.{roundingOf}
 use Rattle.arith.proofs.Machine.{read}
 use Rattle.lattice.specs.Buffer.{at}
 use Rattle.evaluate.specs.Stages.{IsEnd, AreEnds, after}
@@ -21,7 +21,8 @@ module _ (s : tie.Start) where
 
   index : s .args .p < length rs
   index = let a = s .args in
-      safe-index roundHalfUp (a .m) (length rs) (a .x ∷ []) (at rs) (a .p) (let h = s .pre .0 .0 .m-low in omega arith) (s .pre .1)
+      safe-index (roundingOf (s .args .even)) (a .m) (length rs) (a .x ∷ []) (at rs) (a .p) (let h = s .pre .0 .0 .m-low in omega arith)
+      (s .pre .1)
 
 module _ (c : tie.After-end-in2) where
   abbrev start : tie.Start
@@ -61,7 +62,7 @@ returns : tie.Need-returns
 returns c =
     let s = start (c .before .before) in
     read (c .stage .result) (c .stage .ok) ∙ c .stage .ensures
-    ∙ stage-gives (s .pre .0 .0) (ends (c .before .before)) roundHalfUp (s .args .k)
+    ∙ stage-gives (s .pre .0 .0) (ends (c .before .before)) (roundingOf (s .args .even)) (s .args .k)
 
 pub first-spec : {M : Type 1} → statement M
 first-spec =

@@ -6,7 +6,7 @@ use native.Mathlib.Omega.{arith}
 use lib.ListN.{length}
 use lib.IntN.{ℤ}
 use denote.Ref.{now}
-use Rattle.arith.specs.Int.{roundHalfUp}
+use Rattle.arith.specs.Int.{roundingOf}
 use Rattle.arith.proofs.Machine.{read}
 use Rattle.lattice.specs.Buffer.{at}
 use Rattle.evaluate.specs.Stages.{worked, Safe}
@@ -19,15 +19,15 @@ module _ (s : tie.Start) where
   n = length (now (s .args .records))
 
   abbrev SafeAt : ℕ → Type 0
-  SafeAt = Safe roundHalfUp (s .args .m) n (s .args .x ∷ []) (at (now (s .args .records)))
+  SafeAt = Safe (roundingOf (s .args .even)) (s .args .m) n (s .args .x ∷ []) (at (now (s .args .records)))
 
   abbrev number : ℕ → ℤ
-  number = worked roundHalfUp (s .args .k) (s .args .x) (at (now (s .args .records)))
+  number = worked (roundingOf (s .args .even)) (s .args .k) (s .args .x) (at (now (s .args .records)))
 
   safe : (o i : ℕ) → o < s .args .m → s .args .p + o * s .args .order ≡ i → SafeAt i × (i < n)
   safe o i l e =
       let h = subst SafeAt e (s .pre .1 o l) in
-      (h, safe-index roundHalfUp (s .args .m) n (s .args .x ∷ []) (at (now (s .args .records))) i (omega arith) h)
+      (h, safe-index (roundingOf (s .args .even)) (s .args .m) n (s .args .x ∷ []) (at (now (s .args .records))) i (omega arith) h)
 
   safe-low : SafeAt (s .args .p) × (s .args .p < n)
   safe-low = let h = s .pre .0 .0 .m-low in safe 0 (s .args .p) (omega arith) (omega arith)

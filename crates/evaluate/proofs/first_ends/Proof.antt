@@ -4,7 +4,7 @@ use Prim.Native.Nat.{_+_, _*_}
 use native.Mathlib.Omega.{arith}
 use lib.ListN.{length}
 use denote.Ref.{now}
-use Rattle.arith.specs.Int.{roundHalfUp}
+use Rattle.arith.specs.Int.{roundingOf}
 use Rattle.lattice.specs.Buffer.{at}
 use Rattle.evaluate.proofs.EndLaws.{safe-index}
 use Rattle.evaluate.proofs.first_ends.Statement.{statement}
@@ -16,7 +16,8 @@ add-first-end c =
     let s = c .before in
     let a = s .args in
     let m = s .pre .0 .0 .m-low in
-    let h = safe-index roundHalfUp (a .m) (length (now (a .records))) (a .x ∷ []) (at (now (a .records))) (a .p + a .node + 0 * a .order)
+    let h = safe-index (roundingOf (a .even)) (a .m) (length (now (a .records))) (a .x ∷ []) (at (now (a .records)))
+    (a .p + a .node + 0 * a .order)
     (omega arith) (s .pre .1 0 (omega arith) .1) in
     omega arith
 

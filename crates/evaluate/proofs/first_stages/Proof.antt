@@ -1,6 +1,7 @@
--- `evaluate::first_stages` meets its contract: the second stage with m and its shift as literals is the one with m.
+-- `evaluate::first_stages` meets its contract: the second stage with m, its shift and the edition as literals is the one with m and the
+-- edition.
 use mathlib.Core.Path.{_≡_, sym, ap, subst, _∙_}
-use mathlib.Core.Bool.{true}
+use mathlib.Core.Bool.{Bool, true, false}
 use mathlib.Core.List.{[], _∷_}
 use Prim.Native.Nat.{ℕ, _≤_}
 use native.Mathlib.Omega.{arith}
@@ -8,7 +9,8 @@ use lib.ListN.{length}
 use lib.IntN.{ℤ}
 use denote.Ref.{now}
 use borrow.Author.Needs.{needs}
-use Rattle.arith.specs.Int.{roundHalfUp}
+use borrow.Author.Tests.{not-true, not-false}
+use Rattle.arith.specs.Int.{Rounding, roundingOf}
 use Rattle.arith.proofs.Machine.{read}
 use Rattle.lattice.specs.Buffer.{at}
 use Rattle.hermite.specs.Stage.{shiftOf}
@@ -18,9 +20,13 @@ use Rattle.evaluate.proofs.StageOrder.{second-as}
 use Rattle.evaluate.proofs.first_stages.Statement.{statement}
 use Rattle.evaluate.proofs.first_stages.Tie as tie
 
-module _ (s : tie.Start) (k : ℕ) (e : s .args .m ≡ k) (shift : ℕ) (is : shift ≡ shiftOf 0 k true true) where
+module _ (s : tie.Start) (k : ℕ) (e : s .args .m ≡ k) (b : Bool) (eb : s .args .even ≡ b) (shift : ℕ)
+    (is : shift ≡ shiftOf 0 k true true) where
   abbrev g : ℕ → ℤ
   g = at (now (s .args .records))
+
+  abbrev round : Rounding
+  round = roundingOf (s .args .even)
 
   small : shift ≤ 44
   small =
@@ -29,32 +35,60 @@ module _ (s : tie.Start) (k : ℕ) (e : s .args .m ≡ k) (shift : ℕ) (is : sh
       (shifted 0 (s .args .m) true true (omega (arith, h .m-low)) (h .m-low) (h .m-high) .low)
 
   asks : (AllPrepared k (s .args .y ∷ s .args .x ∷ []) × (shift ≤ 44))
-      × Safe roundHalfUp k (length (now (s .args .records))) (s .args .y ∷ s .args .x ∷ []) g (s .args .p)
+      × Safe (roundingOf b) k (length (now (s .args .records))) (s .args .y ∷ s .args .x ∷ []) g (s .args .p)
   asks = let a = s .args in
-      second-as roundHalfUp (a .y) (a .x) (length (now (a .records))) g (a .p) (a .m) k e shift (s .pre .0, small) (s .pre .1)
+      second-as round (roundingOf b) (a .y) (a .x) (length (now (a .records))) g (a .p) (a .m) k e (ap roundingOf eb) shift
+      (s .pre .0, small) (s .pre .1)
 
-  gives : worked roundHalfUp shift (s .args .y) (after roundHalfUp k (s .args .x ∷ []) g) (s .args .p) ≡ after roundHalfUp (s .args .m)
-      (s .args .y ∷ s .args .x ∷ []) g (s .args .p)
+  gives : worked (roundingOf b) shift (s .args .y) (after (roundingOf b) k (s .args .x ∷ []) g) (s .args .p)
+      ≡ after round (s .args .m) (s .args .y ∷ s .args .x ∷ []) g (s .args .p)
   unfolding after
   gives =
       let a = s .args in
-      ap (λ (i : ℕ). worked roundHalfUp i (a .y) (after roundHalfUp k (a .x ∷ []) g) (a .p)) is
-      ∙ ap (λ (i : ℕ). after roundHalfUp i (a .y ∷ a .x ∷ []) g (a .p)) (sym e)
+      ap (λ (i : ℕ). worked (roundingOf b) i (a .y) (after (roundingOf b) k (a .x ∷ []) g) (a .p)) is
+      ∙ ap (λ (r : Rounding). after r k (a .y ∷ a .x ∷ []) g (a .p)) (sym (ap roundingOf eb))
+      ∙ ap (λ (i : ℕ). after round i (a .y ∷ a .x ∷ []) g (a .p)) (sym e)
 
-three : (c : tie.Else1) → c .before .args .m ≡ 3
-three c = let h = c .before .pre .0 .0 in omega (arith, h .m-low, h .m-high, c .if1 .left)
+three : (s : tie.Start) → (s .args .m ≡ 2 → ⊥) → s .args .m ≡ 3
+three s n = let h = s .pre .0 .0 in omega (arith, h .m-low, h .m-high, n)
 
 pub first-stages-spec : {M : Type 1} → statement M
 first-stages-spec =
     tie.close
     (tie.spec
     (λ c κs. search needs)
-    (λ c κs. let d = c .before in asks (d .before) 2 (d .if1 .taken) (c .shift .result) (c .shift .ensures))
+    (λ c κs. let d = c .before in
+    let s = d .before .before in
+    asks s 2 (d .if2 .taken) false (not-true _ (d .before .if1 .taken)) (c .shift .result) (c .shift .ensures))
     (λ c. let d = c .before .before in
+    let s = d .before .before in
     read (c .second .result) (c .second .ok) ∙ c .second .ensures
-    ∙ gives (d .before) 2 (d .if1 .taken) (c .before .shift .result) (c .before .shift .ensures))
+    ∙ gives s 2 (d .if2 .taken) false (not-true _ (d .before .if1 .taken))
+    (c .before .shift .result) (c .before .shift .ensures))
     (λ c κs. search needs)
-    (λ c κs. let d = c .before in asks (d .before) 3 (three d) (c .shift2 .result) (c .shift2 .ensures))
+    (λ c κs. let d = c .before in
+    let s = d .before .before in
+    asks s 3 (three s (d .if2 .left)) false (not-true _ (d .before .if1 .taken)) (c .shift2 .result) (c .shift2 .ensures))
     (λ c. let d = c .before .before in
+    let s = d .before .before in
     read (c .second2 .result) (c .second2 .ok) ∙ c .second2 .ensures
-    ∙ gives (d .before) 3 (three d) (c .before .shift2 .result) (c .before .shift2 .ensures)))
+    ∙ gives s 3 (three s (d .if2 .left)) false (not-true _ (d .before .if1 .taken))
+    (c .before .shift2 .result) (c .before .shift2 .ensures))
+    (λ c κs. search needs)
+    (λ c κs. let d = c .before in
+    let s = d .before .before in
+    asks s 2 (d .if3 .taken) true (not-false _ (d .before .if1 .left)) (c .shift3 .result) (c .shift3 .ensures))
+    (λ c. let d = c .before .before in
+    let s = d .before .before in
+    read (c .second3 .result) (c .second3 .ok) ∙ c .second3 .ensures
+    ∙ gives s 2 (d .if3 .taken) true (not-false _ (d .before .if1 .left))
+    (c .before .shift3 .result) (c .before .shift3 .ensures))
+    (λ c κs. search needs)
+    (λ c κs. let d = c .before in
+    let s = d .before .before in
+    asks s 3 (three s (d .if3 .left)) true (not-false _ (d .before .if1 .left)) (c .shift4 .result) (c .shift4 .ensures))
+    (λ c. let d = c .before .before in
+    let s = d .before .before in
+    read (c .second4 .result) (c .second4 .ok) ∙ c .second4 .ensures
+    ∙ gives s 3 (three s (d .if3 .left)) true (not-false _ (d .before .if1 .left))
+    (c .before .shift4 .result) (c .before .shift4 .ensures)))

@@ -16,20 +16,20 @@ Ordered s a b c last =
 
 returns : tie.Need-returns
 unfolding ofAxis beside pick
-returns c = let s = c .before in let a = s .args in subst (Ordered s (a .y) (a .z) (a .x)) (sym (c .if1 .taken)) (refl, refl, refl)
+returns c = let s = c .before in let a = s .args in subst (Ordered s (a .x) (a .y) (a .z)) (sym (c .if1 .taken)) (refl, refl, refl)
 
 returns-2 : tie.Need-returns-2
 unfolding ofAxis beside pick
 returns-2 c = let s = c .before .before in let a = s .args in
-    subst (Ordered s (a .x) (a .z) (a .y)) (sym (c .if2 .taken)) (refl, refl, refl)
+    subst (Ordered s (a .y) (a .z) (a .x)) (sym (c .if2 .taken)) (refl, refl, refl)
 
 returns-3 : tie.Need-returns-3
 unfolding ofAxis beside pick
 returns-3 c =
     let s = c .before .before in
     let a = s .args in
-    let e : 2 ≡ a .last = omega (arith, s .pre, c .before .if1 .left, c .if2 .left) in
-    subst (Ordered s (a .x) (a .y) (a .z)) e (refl, refl, refl)
+    let e : 1 ≡ a .last = omega (arith, s .pre, c .before .if1 .left, c .if2 .left) in
+    subst (Ordered s (a .x) (a .z) (a .y)) e (refl, refl, refl)
 
 pub in-sequence-spec : {M : Type 1} → statement M
 in-sequence-spec = tie.close (tie.spec returns returns-2 returns-3)

@@ -17,20 +17,20 @@ both-stages-requires : tie.Need-both-stages-requires
 both-stages-requires c κs =
     let d = c .before in
     let s = d .before .before in
-    two-ask (s .args .b) (d .axis-of .ensures) (d .before .last-stage .ensures) (s .args .three) (not-true _ (c .if1 .taken)) (s .pre)
+    two-ask (s .args .b) (d .before .axis-of .ensures) (d .last-stage .ensures) (s .args .three) (not-true _ (c .if1 .taken)) (s .pre)
 
 returns : tie.Need-returns
 returns c =
     let d = c .before .before in
     let s = d .before .before in
-    two-give (s .args .b) (d .axis-of .ensures) (d .before .last-stage .ensures) (s .args .three) (not-true _ (c .before .if1 .taken))
+    two-give (s .args .b) (d .before .axis-of .ensures) (d .last-stage .ensures) (s .args .three) (not-true _ (c .before .if1 .taken))
     (read (c .both-stages .result) (c .both-stages .ok) ∙ c .both-stages .ensures)
 
 third-requires : tie.Need-third-requires
 third-requires c κs =
     let d = c .before .before in
     let s = d .before .before in
-    three-ask (s .args .b) (d .axis-of .ensures) (d .before .last-stage .ensures) (c .axis-of2 .ensures) (s .args .three)
+    three-ask (s .args .b) (d .before .axis-of .ensures) (d .last-stage .ensures) (c .axis-of2 .ensures) (s .args .three)
     (not-false _ (c .before .if1 .left)) (s .pre)
 
 returns-2 : tie.Need-returns-2
@@ -38,7 +38,7 @@ returns-2 c =
     let e = c .before in
     let d = e .before .before in
     let s = d .before .before in
-    three-give (s .args .b) (d .axis-of .ensures) (d .before .last-stage .ensures) (e .axis-of2 .ensures) (s .args .three)
+    three-give (s .args .b) (d .before .axis-of .ensures) (d .last-stage .ensures) (e .axis-of2 .ensures) (s .args .three)
     (not-false _ (e .before .if1 .left))
     (read (c .third .result) (c .third .ok) ∙ c .third .ensures)
 
@@ -46,8 +46,8 @@ pub more-axes-spec : {M : Type 1} → statement M
 more-axes-spec =
     tie.close
     (tie.spec
-    (λ c κs. (c .pre .smooth, c .pre .m-low, c .pre .m-high, low c .1))
-    (λ c κs. let s = c .before in (omega (arith, s .pre .m-low), s .pre .m-low, s .pre .m-high, low s .0))
+    (λ c κs. (omega (arith, c .pre .m-low), c .pre .m-low, c .pre .m-high, low c .0))
+    (λ c κs. let s = c .before in (s .pre .smooth, s .pre .m-low, s .pre .m-high, low s .1))
     both-stages-requires
     returns
     (λ c κs. let s = c .before .before .before in

@@ -1,33 +1,36 @@
 -- `evaluate::on_lattice` meets its contract: the strides are those of the axes in the sequence of work.
 use mathlib.Core.Path.{_≡_, refl, sym, ap, subst, _∙_}
 use mathlib.Core.List.{List, [], _∷_}
-use Prim.Native.Nat.{ℕ, _≤_, _<_}
+use Prim.Native.Nat.{ℕ, _^_, _≤_, _<_}
 use native.Mathlib.Omega.{arith}
 use lib.Dec.{eqb, lit<}
 use lib.ListN.{length}
 use lib.IntN.{ℤ}
 use denote.Ref.{now}
 use borrow.Author.Needs.{needs}
-use Rattle.arith.specs.Int.{roundHalfUp}
-use Rattle.arith.proofs.Round.{half-up-sound}
+use Rattle.arith.specs.Int.{roundingOf}
+use Rattle.arith.proofs.Editions.{edition-sound}
 use Rattle.arith.proofs.Choices.{by-3}
 use Rattle.lattice.specs.Axes.{axes, without}
 use Rattle.lattice.specs.Buffer.{at}
 use Rattle.lattice.specs.Records.{recordsField}
 use Rattle.cell.specs.Cell.{placeAt}
+use Rattle.cell.proofs.CellLaws.{base-in, laid-small}
 use Rattle.evaluate.specs.declared.Strides.{Strides}
-use Rattle.evaluate.specs.Evaluate.{lastAxis, askAt, answer}
+use Rattle.evaluate.specs.Evaluate.{lastAxis, askAt, answerBy}
 use Rattle.evaluate.specs.Stages.{also, ofAxis, beside, Workable, WorkedOff}
 use Rattle.evaluate.specs.Wants.{wantOf}
 use Rattle.evaluate.proofs.AnswerLaws.{order-last}
 use Rattle.evaluate.proofs.Answering.{IsAxis, AreAxes, are-axes, workable-in, answer-in, orders-low, found, fits, cast}
+use Rattle.evaluate.proofs.EndLaws.{part}
+use Rattle.evaluate.proofs.Parts.{workable-part, worked-off-part}
 use Rattle.evaluate.proofs.StageOrder.{axes-before, beside-low}
 use Rattle.evaluate.proofs.on_lattice.Statement.{statement}
 use Rattle.evaluate.proofs.on_lattice.Tie as tie
 
 low : (b : tie.Start) → b .args .l .orders ≤ 3
 low b = let a = b .args in
-    orders-low half-up-sound (a .s) (now (a .records)) (placeAt (a .cell)) (a .step) (a .order) (a .axis) (a .l) (b .pre .0)
+    orders-low (edition-sound (a .even)) (a .s) (now (a .records)) (placeAt (a .cell)) (a .step) (a .order) (a .axis) (a .l) (b .pre .0)
 
 module _ (c : tie.After-in-sequence) where
   abbrev f : tie.After-last-axis
@@ -54,7 +57,8 @@ module _ (c : tie.After-in-sequence) where
   unfolding ofAxis
   axis =
       let a = b .args in
-      let is = found half-up-sound (a .s) (now (a .records)) (placeAt (a .cell)) (a .step) (a .order) (a .axis) (a .l) (b .pre .0) in
+      let is = found (edition-sound (a .even)) (a .s) (now (a .records)) (placeAt (a .cell)) (a .step) (a .order) (a .axis) (a .l)
+      (b .pre .0) in
       let x = c .before .before .before .strides-of in
       let y = c .before .before .strides-of2 in
       let z = c .before .strides-of3 in
@@ -89,38 +93,64 @@ module _ (c : tie.After-in-sequence) where
       (are-axes (b .args .s) (placeAt (b .args .step)) (eqb n 3) (beside 0 last) (beside 2 last) (c .in-sequence .result .first)
       (c .in-sequence .result .middle) is-first is-middle)
 
-  asks : Workable roundHalfUp (b .args .l .orders) (b .args .order) (c .in-sequence .result .last) others
+  whole : Workable (roundingOf (b .args .even)) (b .args .l .orders) (b .args .order) (c .in-sequence .result .last) others
       (length (now (b .args .records))) (at (now (b .args .records))) (b .args .l .base)
-  asks =
+  whole =
       let a = b .args in
-      workable-in half-up-sound (a .s) (now (a .records)) (placeAt (a .cell)) (placeAt (a .step)) (wantOf (a .order) (a .axis)) (a .l)
+      workable-in (edition-sound (a .even)) (a .s) (now (a .records)) (placeAt (a .cell)) (placeAt (a .step)) (wantOf (a .order) (a .axis))
+      (a .l)
       (b .pre .0) n last refl refl (a .order) (order-last (a .order) (a .axis)) (c .in-sequence .result .last) others is-last are
 
-  gives : (r : ℤ) → WorkedOff roundHalfUp (b .args .l .orders) (b .args .order) (c .in-sequence .result .last) others
-      (at (now (b .args .records))) (b .args .l .base) r
-      → r ≡ answer (askAt (b .args .s) (wantOf (b .args .order) (b .args .axis)) (placeAt (b .args .cell)) (placeAt (b .args .step)))
+  -- the records from the cell on
+  abbrev here : List ℤ
+  here = part (now (b .args .records)) (b .args .l .base)
+
+  base-low : b .args .l .base ≤ length (now (b .args .records))
+  base-low =
+      let h = b .pre .0 in
+      let k = base-in (b .args .s) (placeAt (b .args .cell)) (h .shape) (h .here) in
+      let e = h .laid .base-is in
+      let f = h .long in
+      omega arith
+
+  base-small : b .args .l .base ≤ 2 ^ 32
+  base-small = let h = b .pre .0 in
+      laid-small (b .args .s) (placeAt (b .args .cell)) (b .args .l) (h .shape) (h .here) (h .laid) .base-low
+
+  asks : Workable (roundingOf (b .args .even)) (b .args .l .orders) (b .args .order) (c .in-sequence .result .last) others (length here)
+      (at here) 0
+  asks = workable-part (now (b .args .records)) (b .args .l .base) base-low whole
+
+  gives : (r : ℤ) → WorkedOff (roundingOf (b .args .even)) (b .args .l .orders) (b .args .order) (c .in-sequence .result .last) others
+      (at here) 0 r
+      → r ≡ answerBy (roundingOf (b .args .even))
+      (askAt (b .args .s) (wantOf (b .args .order) (b .args .axis)) (placeAt (b .args .cell)) (placeAt (b .args .step)))
       (recordsField (b .args .s) (now (b .args .records)))
-  gives =
+  gives r h =
       let a = b .args in
-      answer-in half-up-sound (a .s) (now (a .records)) (placeAt (a .cell)) (placeAt (a .step)) (wantOf (a .order) (a .axis)) (a .l)
-      (b .pre .0) n last refl refl (a .order) (order-last (a .order) (a .axis)) (c .in-sequence .result .last) others is-last are
+      answer-in (edition-sound (a .even)) (a .s) (now (a .records)) (placeAt (a .cell)) (placeAt (a .step)) (wantOf (a .order) (a .axis))
+      (a .l)
+      (b .pre .0) n last refl refl (a .order) (order-last (a .order) (a .axis)) (c .in-sequence .result .last) others is-last are r
+      (worked-off-part (now (a .records)) (a .l .base) r h)
 
 cast-result : tie.Need-cast-result
 cast-result c =
-    let d = c .before .before .before .before in
+    let d = c .before .before .before .before .before in
     let s = b d in
     let a = s .args in
     let r = c .more-axes in
-    fits half-up-sound (a .s) (now (a .records)) (placeAt (a .cell)) (a .step) (a .order) (a .axis) (a .l) (s .pre .0) (r .result) (r .ok)
+    fits (edition-sound (a .even)) (a .s) (now (a .records)) (placeAt (a .cell)) (a .step) (a .order) (a .axis) (a .l) (s .pre .0)
+    (r .result) (r .ok)
     (gives d (r .result) (r .ensures))
 
 returns : tie.Need-returns
 returns c =
-    let d = c .before .before .before .before in
+    let d = c .before .before .before .before .before in
     let s = b d in
     let a = s .args in
     let r = c .more-axes in
-    cast half-up-sound (a .s) (now (a .records)) (placeAt (a .cell)) (a .step) (a .order) (a .axis) (a .l) (s .pre .0) (r .result) (r .ok)
+    cast (edition-sound (a .even)) (a .s) (now (a .records)) (placeAt (a .cell)) (a .step) (a .order) (a .axis) (a .l) (s .pre .0)
+    (r .result) (r .ok)
     (gives d (r .result) (r .ensures))
 
 pub on-lattice-spec : {M : Type 1} → statement M
@@ -132,6 +162,10 @@ on-lattice-spec =
     (λ c κs. (low (c .before .before), lit< tt))
     (λ c κs. (low (c .before .before .before), lit< tt))
     (λ c κs. search needs)
-    (λ c κs. asks (c .before .before .before))
+    (λ c. let h = base-small (c .before .before .before) in search needs)
+    (λ c. let h = base-low (c .before .before .before) in search needs)
+    (λ c. let h = base-low (c .before .before .before) in search needs)
+    (λ c. let h = base-low (c .before .before .before) in search needs)
+    (λ c κs. asks (c .before .before .before .before))
     cast-result
     returns)

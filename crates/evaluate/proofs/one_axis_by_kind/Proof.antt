@@ -9,7 +9,7 @@ use lib.Signed.{mag}
 use mir.Syntax.{w64}
 use mir.Val.{toZ, ofZ}
 use denote.Ref.{now}
-use Rattle.arith.specs.Int.{roundHalfUp}
+use Rattle.arith.specs.Int.{roundingOf}
 use Rattle.arith.proofs.Machine.{read}
 use Rattle.lattice.specs.Buffer.{at}
 use Rattle.evaluate.specs.Stages.{Workable, WorkedOff}
@@ -21,17 +21,17 @@ module _ (s : tie.Start) (k o : ℕ) (em : s .args .m ≡ k) (eo : s .args .orde
   abbrev raw : ℕ → ℤ
   raw = at (now (s .args .records))
 
-  asks : Workable roundHalfUp k o (s .args .a) [] (length (now (s .args .records))) raw (s .args .p)
+  asks : Workable (roundingOf (s .args .even)) k o (s .args .a) [] (length (now (s .args .records))) raw (s .args .p)
   asks =
       let a = s .args in
-      workable-as roundHalfUp (a .a) [] raw (a .p) (a .m) k (a .order) o em eo (length (now (a .records))) (s .pre)
+      workable-as (roundingOf (s .args .even)) (a .a) [] raw (a .p) (a .m) k (a .order) o em eo (length (now (a .records))) (s .pre)
 
-  gives : (r : ℤ) → mag r < 2 ^ 63 → WorkedOff roundHalfUp k o (s .args .a) [] raw (s .args .p) r
-      → WorkedOff roundHalfUp (s .args .m) (s .args .order) (s .args .a) [] raw (s .args .p) (toZ w64 (ofZ w64 r))
+  gives : (r : ℤ) → mag r < 2 ^ 63 → WorkedOff (roundingOf (s .args .even)) k o (s .args .a) [] raw (s .args .p) r
+      → WorkedOff (roundingOf (s .args .even)) (s .args .m) (s .args .order) (s .args .a) [] raw (s .args .p) (toZ w64 (ofZ w64 r))
   gives r ok w =
       let a = s .args in
-      subst (WorkedOff roundHalfUp (a .m) (a .order) (a .a) [] raw (a .p)) (sym (read r ok))
-      (worked-off-as roundHalfUp (a .a) [] raw (a .p) (a .m) k (a .order) o em eo r w)
+      subst (WorkedOff (roundingOf (s .args .even)) (a .m) (a .order) (a .a) [] raw (a .p)) (sym (read r ok))
+      (worked-off-as (roundingOf (s .args .even)) (a .a) [] raw (a .p) (a .m) k (a .order) o em eo r w)
 
 -- a cubic's order that is not 0 is 1
 one : (c : tie.Else2) → c .before .before .args .order ≡ 1

@@ -4,7 +4,7 @@ use mathlib.Core.List.{[], _∷_}
 use Prim.Native.Nat.{ℕ, _≤_}
 use native.Mathlib.Omega.{arith}
 use denote.Ref.{now}
-use Rattle.arith.specs.Int.{roundHalfUp}
+use Rattle.arith.specs.Int.{roundingOf}
 use Rattle.arith.proofs.Machine.{read}
 use Rattle.lattice.specs.Buffer.{at}
 use Rattle.hermite.proofs.StageLaws.{shifted}
@@ -29,12 +29,13 @@ module _ (c : tie.After-first-ends) where
   abbrev start : tie.Start
   start = c .before .before
 
-  ends : AreEnds (start .args .m) (after roundHalfUp (start .args .m) (start .args .x ∷ []) (at (now (start .args .records))))
+  ends : AreEnds (start .args .m) (after (roundingOf (start .args .even)) (start .args .m) (start .args .x ∷ [])
+      (at (now (start .args .records))))
       (start .args .p) (start .args .y .order) (start .args .y .node) (c .first-ends .result)
   unfolding after
   ends =
       let a = start .args in
-      subst (λ (k : ℕ). AreEnds (a .m) (worked roundHalfUp k (a .x) (at (now (a .records)))) (a .p) (a .y .order) (a .y .node)
+      subst (λ (k : ℕ). AreEnds (a .m) (worked (roundingOf (a .even)) k (a .x) (at (now (a .records)))) (a .p) (a .y .order) (a .y .node)
       (c .first-ends .result)) (c .before .shift .ensures) (c .first-ends .ensures)
 
 stage-requires : tie.Need-stage-requires
@@ -45,7 +46,7 @@ returns : tie.Need-returns
 returns c =
     let s = start (c .before .before) in
     read (c .stage .result) (c .stage .ok) ∙ c .stage .ensures
-    ∙ stage-gives (s .pre .0 .0 .0) (ends (c .before .before)) roundHalfUp (s .args .k)
+    ∙ stage-gives (s .pre .0 .0 .0) (ends (c .before .before)) (roundingOf (s .args .even)) (s .args .k)
 
 pub second-spec : {M : Type 1} → statement M
 second-spec = tie.close (tie.spec

@@ -10,7 +10,7 @@ use mir.Syntax.{w64}
 use mir.Val.{toZ, ofZ}
 use denote.Ref.{now}
 use borrow.Author.Needs.{needs}
-use Rattle.arith.specs.Int.{roundHalfUp}
+use Rattle.arith.specs.Int.{roundingOf}
 use Rattle.arith.proofs.Machine.{read}
 use Rattle.lattice.specs.Buffer.{at}
 use Rattle.lattice.proofs.BufferLaws.{fill}
@@ -21,14 +21,14 @@ use Rattle.evaluate.proofs.second_ends.Tie as tie
 
 -- the first t numbers stand in n
 abbrev Inv-loop : tie.InvT-loop
-Inv-loop m y x records p orderStride nodeStride place n₀ t₀ n t =
+Inv-loop even m y x records p orderStride nodeStride place n₀ t₀ n t =
     (t ≤ 2 * m) × (length n ≡ 6)
-    × ((j : ℕ) → j < t → at n j ≡ after roundHalfUp m (y ∷ x ∷ []) (at records) (p + placeOf m orderStride nodeStride j))
+    × ((j : ℕ) → j < t → at n j ≡ after (roundingOf even) m (y ∷ x ∷ []) (at records) (p + placeOf m orderStride nodeStride j))
 
 abbrev μ-loop : tie.MeasureT-loop
-μ-loop m y x records p orderStride nodeStride place n₀ t₀ n t = 2 * m - t
+μ-loop even m y x records p orderStride nodeStride place n₀ t₀ n t = 2 * m - t
 
-abbrev of-three : tie.After-t55 Inv-loop μ-loop → tie.Else1 Inv-loop μ-loop
+abbrev of-three : tie.After-t56 Inv-loop μ-loop → tie.Else1 Inv-loop μ-loop
 of-three c = c .before .before .before .before .before .before
 
 module _ (s : tie.Start Inv-loop μ-loop) where
@@ -36,7 +36,7 @@ module _ (s : tie.Start Inv-loop μ-loop) where
   size = length (now (s .args .records))
 
   abbrev number : ℕ → ℤ
-  number = after roundHalfUp (s .args .m) (s .args .y ∷ s .args .x ∷ []) (at (now (s .args .records)))
+  number = after (roundingOf (s .args .even)) (s .args .m) (s .args .y ∷ s .args .x ∷ []) (at (now (s .args .records)))
 
   abbrev place : ℕ → ℕ
   place = placeOf (s .args .m) (s .args .order) (s .args .node)
@@ -49,14 +49,17 @@ module _ (s : tie.Start Inv-loop μ-loop) where
 
   -- number t may be worked out, and stands in the records
   safe : (t : ℕ) → t < 2 * s .args .m
-      → Safe roundHalfUp (s .args .m) size (s .args .y ∷ s .args .x ∷ []) (at (now (s .args .records))) (s .args .p + place t)
+      → Safe (roundingOf (s .args .even)) (s .args .m) size (s .args .y ∷ s .args .x ∷ []) (at (now (s .args .records)))
+      (s .args .p + place t)
   safe = let a = s .args in
-      at-place (a .m) (a .order) (a .node) (Safe roundHalfUp (a .m) size (a .y ∷ a .x ∷ []) (at (now (a .records)))) (a .p) (s .pre .1)
+      at-place (a .m) (a .order) (a .node) (Safe (roundingOf (a .even)) (a .m) size (a .y ∷ a .x ∷ []) (at (now (a .records)))) (a .p)
+      (s .pre .1)
 
   index : (t : ℕ) → t < 2 * s .args .m → s .args .p + place t < size
   index t l =
       let a = s .args in
-      safe-index roundHalfUp (a .m) size (a .y ∷ a .x ∷ []) (at (now (a .records))) (a .p + place t) (let h = m2 in omega arith) (safe t l)
+      safe-index (roundingOf (a .even)) (a .m) size (a .y ∷ a .x ∷ []) (at (now (a .records))) (a .p + place t) (let h = m2 in omega arith)
+      (safe t l)
 
 -- a turn of the loop
 module _ (c : tie.In-loop Inv-loop μ-loop) where
@@ -80,7 +83,7 @@ first-stages-requires c κs =
     let s = start c in
     let a = s .args in (
       s .pre .0,
-      subst (λ (i : ℕ). Safe roundHalfUp (a .m) (size s) (a .y ∷ a .x ∷ []) (at (now (a .records))) (a .p + i)) (sym (here c))
+      subst (λ (i : ℕ). Safe (roundingOf (a .even)) (a .m) (size s) (a .y ∷ a .x ∷ []) (at (now (a .records))) (a .p + i)) (sym (here c))
           (safe s (t c) (c .loop-test .taken)),
     )
 
@@ -132,11 +135,11 @@ returns c =
     let m2 = t1 .if1 .taken in
     record {
       low = end-of-two (a .m) (number (begun d)) (a .p) (a .order) _ _
-          (read _ (c .before .before .before .t25 .given) ∙ low d 0 (a .p) (omega arith) (omega arith))
-          (read _ (c .before .before .t28 .given) ∙ low d 1 (a .p + a .order) (omega arith) (omega arith)) m2;
+          (read _ (c .before .before .before .t26 .given) ∙ low d 0 (a .p) (omega arith) (omega arith))
+          (read _ (c .before .before .t29 .given) ∙ low d 1 (a .p + a .order) (omega arith) (omega arith)) m2;
       high = end-of-two (a .m) (number (begun d)) (a .p + a .node) (a .order) _ _
-          (read _ (c .before .t32 .given) ∙ high d 0 2 (a .p + a .node) (omega arith) (omega arith) (omega arith))
-          (read _ (c .t35 .given) ∙ high d 1 3 (a .p + a .node + a .order) (omega arith) (omega arith) (omega arith)) m2;
+          (read _ (c .before .t33 .given) ∙ high d 0 2 (a .p + a .node) (omega arith) (omega arith) (omega arith))
+          (read _ (c .t36 .given) ∙ high d 1 3 (a .p + a .node + a .order) (omega arith) (omega arith) (omega arith)) m2;
     }
 
 returns-2 : tie.Need-returns-2 Inv-loop μ-loop
@@ -147,13 +150,13 @@ returns-2 c =
     let m3 : a .m ≡ 3 = omega (arith, m2 (begun d), m3 (begun d), t1 .if1 .left) in
     record {
       low = end-of-three (a .m) (number (begun d)) (a .p) (a .order) _ _
-          (read _ (c .before .before .before .before .before .t39 .given) ∙ low d 0 (a .p) (omega arith) (omega arith))
-          (read _ (c .before .before .before .before .t42 .given) ∙ low d 1 (a .p + a .order) (omega arith) (omega arith)) m3 _
-          (read _ (c .before .before .before .t45 .given) ∙ low d 2 (a .p + 2 * a .order) (omega arith) refl);
+          (read _ (c .before .before .before .before .before .t40 .given) ∙ low d 0 (a .p) (omega arith) (omega arith))
+          (read _ (c .before .before .before .before .t43 .given) ∙ low d 1 (a .p + a .order) (omega arith) (omega arith)) m3 _
+          (read _ (c .before .before .before .t46 .given) ∙ low d 2 (a .p + 2 * a .order) (omega arith) refl);
       high = end-of-three (a .m) (number (begun d)) (a .p + a .node) (a .order) _ _
-          (read _ (c .before .before .t49 .given) ∙ high d 0 3 (a .p + a .node) (omega arith) (omega arith) (omega arith))
-          (read _ (c .before .t52 .given) ∙ high d 1 4 (a .p + a .node + a .order) (omega arith) (omega arith) (omega arith)) m3 _
-          (read _ (c .t55 .given) ∙ high d 2 5 (a .p + a .node + 2 * a .order) (omega arith) (omega arith) refl);
+          (read _ (c .before .before .t50 .given) ∙ high d 0 3 (a .p + a .node) (omega arith) (omega arith) (omega arith))
+          (read _ (c .before .t53 .given) ∙ high d 1 4 (a .p + a .node + a .order) (omega arith) (omega arith) (omega arith)) m3 _
+          (read _ (c .t56 .given) ∙ high d 2 5 (a .p + a .node + 2 * a .order) (omega arith) (omega arith) refl);
     }
 
 pub second-ends-spec : {M : Type 1} → statement M

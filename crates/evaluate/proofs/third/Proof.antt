@@ -1,6 +1,6 @@
 -- `evaluate::third` meets its contract: the second stage gives the numbers of both ends.
 use mathlib.Core.Path.{_∙_}
-use Rattle.arith.specs.Int.{roundHalfUp}
+use Rattle.arith.specs.Int.{roundingOf}
 use Rattle.arith.proofs.Machine.{read}
 use Rattle.evaluate.proofs.EndLaws.{stage-asks, stage-gives}
 use Rattle.evaluate.proofs.third.Statement.{statement}
@@ -16,7 +16,7 @@ returns c =
     let d = c .before .before in
     let s = d .before in
     read (c .stage .result) (c .stage .ok) ∙ c .stage .ensures
-    ∙ stage-gives (s .pre .0 .0 .0) (d .second-ends .ensures) roundHalfUp (s .args .z .shift)
+    ∙ stage-gives (s .pre .0 .0 .0) (d .second-ends .ensures) (roundingOf (s .args .even)) (s .args .z .shift)
 
 pub third-spec : {M : Type 1} → statement M
 third-spec = tie.close (tie.spec (λ c κs. (c .pre .0 .0 .1, c .pre .1 .0)) stage-requires returns)

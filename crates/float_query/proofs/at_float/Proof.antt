@@ -45,7 +45,7 @@ module _ (c : tie.After-with-ten) where
       (c .before .before .held-step3 .result)
 
   abbrev position : Outcome ℤ
-  position = byPosition (start .args .s) (now (start .args .records)) want (positionAt steps)
+  position = byPosition (start .args .t) (now (start .args .records)) want (positionAt steps)
 
   told-is : outcomeOfReading (c .with-ten .result) ≡ renumbered (tenNumber fin) position
   told-is = c .with-ten .ensures ∙ ap (renumbered (tenNumber fin)) (c .before .at-position .ensures)
@@ -65,7 +65,7 @@ module _ (c : tie.After-with-ten) where
 in-float-requires : tie.Need-in-float-requires
 in-float-requires c κs = λ v h.
     let a = start c .args in
-    by-position-small (a .s) (now (a .records)) (want c) (steps c) v
+    by-position-small (a .t) (now (a .records)) (want c) (steps c) v
     (renumbered-done (tenNumber (fin c)) (position c) v (sym (told-is c) ∙ h))
 
 returns : tie.Need-returns
@@ -74,7 +74,7 @@ returns c =
     let a = start d .args in
     c .in-float .ensures (a .derivative .axis)
     ∙ ap (inFloat (want d)) (told-is d
-    ∙ by-float (a .s) (now (a .records)) (want d) (floatsAt (a .p)) (fin d) (positionAt (steps d)) (stands d))
+    ∙ by-float (a .t) (now (a .records)) (want d) (floatsAt (a .p)) (fin d) (positionAt (steps d)) (stands d))
 
 pub at-float-spec : {M : Type 1} → statement M
 at-float-spec =

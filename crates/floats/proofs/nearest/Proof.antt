@@ -39,23 +39,23 @@ returns c = sym (ap nearestHeld (sym (back (c .before))) ∙ bits-low (bits (c .
 significand : (c : tie.After-significand) → toZ w64 (ofZ w64 (c .significand .result)) ≡ significandOf (bits (c .before .before .before))
 significand c = toZ-ofZ {w = w64} (sfits-of (c .significand .ok)) ∙ c .significand .ensures
 
-rounded-requires : tie.Need-rounded-requires
-rounded-requires c κs = (
+half-up-requires : tie.Need-half-up-requires
+half-up-requires c κs = (
   omega arith,
   rw (significand c)
       (lt-of-le-of-lt (add-le-add (digits-size (bits (c .before .before .before))) (pow-mono {j = 32} (omega arith))) (lit< tt)),
 )
 
 -- what is rounded: in 32 signed bits, and nearest to y
-module _ (c : tie.After-rounded) where
+module _ (c : tie.After-half-up) where
   rounding : ℤ
   rounding = let b = bits (c .before .before .before .before) in roundHalfUp (significandOf b) (2 ^ (158 - exponent b + 1))
 
-  result : toZ w64 (ofZ w64 (c .rounded .result)) ≡ rounding
+  result : toZ w64 (ofZ w64 (c .half-up .result)) ≡ rounding
   unfolding rounding
   result =
       let b = bits (c .before .before .before .before) in
-      toZ-ofZ {w = w64} (sfits-of (c .rounded .ok)) ∙ c .rounded .ensures
+      toZ-ofZ {w = w64} (sfits-of (c .half-up .ok)) ∙ c .half-up .ensures
       ∙ ap (λ z. roundHalfUp z (2 ^ (158 - exponent b + 1))) (significand (c .before))
 
   small : SFits w32 rounding
@@ -91,7 +91,7 @@ nearest-spec =
     returns
     (λ c κs. search needs)
     (λ c. search needs)
-    rounded-requires
+    half-up-requires
     (λ c. subst (SFits w32) (sym (result c)) (small c))
     (λ c. ap (λ z. toZ w32 (ofZ w32 z)) (result c) ∙ toZ-ofZ {w = w32} (small c) ∙ held c)
     returns-3

@@ -1,6 +1,7 @@
 -- `hermite::stage` meets its contract: the two sums fit, and together they are the numbers of the two ends by the basis.
 use mathlib.Core.Path.{_∙_}
 use Prim.Native.Nat.{_+_, _^_}
+use Rattle.arith.specs.Int.{roundingOf}
 use Rattle.arith.proofs.Machine.{read}
 use Rattle.lattice.specs.Buffer.{at}
 use Rattle.hermite.proofs.StageLaws.{low-fits, high-fits, added-fits, rounding-asks, rounds}
@@ -41,7 +42,7 @@ returns c =
     read (c .rounded .result) (c .rounded .ok) ∙ c .rounded .ensures
     ∙ rounds (s .args .b) (at (s .args .ends .low)) (at (s .args .ends .high)) (s .pre .0 .1) (d .before .dot .result) (d .dot2 .result)
     (d .before .dot .ok) (d .dot2 .ok)
-    (d .before .dot .ensures) (d .dot2 .ensures) (2 ^ (s .args .k + 1))
+    (d .before .dot .ensures) (d .dot2 .ensures) (roundingOf (s .args .even)) (2 ^ (s .args .k + 1))
 
 pub stage-spec : {M : Type 1} → statement M
 stage-spec = tie.close (tie.spec dot-requires dot-requires-2 add-rounded rounded-requires returns)

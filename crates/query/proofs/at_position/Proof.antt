@@ -32,11 +32,11 @@ returns : tie.Need-returns
 unfolding count
 returns c =
     let d = c .before in
-    let b = x d .before .before in
+    let b = x d .before .before .before in
     let a = b .args in
     let p = a .t3 .position in
     c .read .ensures
-    ∙ on-axes (a .t1) (now (a .records)) (wanted (a .t3 .derivative)) p (x d .unsigned .result) (y d .unsigned2 .result)
+    ∙ on-axes (a .t) (now (a .records)) (wanted (a .t3 .derivative)) p (x d .unsigned .result) (y d .unsigned2 .result)
     (z d .unsigned3 .result) _ _ _
     (stands-for (at p 0) (x d .before .unsigned-arg .given) (x d .unsigned .ensures))
     (stands-for (at p 1) (y d .before .unsigned-arg2 .given) (y d .unsigned2 .ensures))

@@ -15,8 +15,8 @@ returns c =
     let r = c .before in
     let a = r .before .before .before .args in
     c .by-cell .ensures ∙ ap (renumbered cellNumber) (r .read .ensures)
-    ∙ by-cell-again _ _ (a .s) (now (a .records)) (wanted (a .q .derivative))
-    ∙ ap₂ (byCell (a .s) (now (a .records)) (wanted (a .q .derivative))) (indices (a .q .cell)) (indices (a .q .step))
+    ∙ by-cell-again _ _ (a .t) (now (a .records)) (wanted (a .q .derivative))
+    ∙ ap₂ (byCell (a .t) (now (a .records)) (wanted (a .q .derivative))) (indices (a .q .cell)) (indices (a .q .step))
 
 pub in-cell-spec : {M : Type 1} → statement M
 in-cell-spec =

@@ -10,6 +10,7 @@ use denote.Ref.{now}
 use borrow.Author.Needs.{needs}
 use Rattle.lattice.specs.Answers.{outcomeOf}
 use Rattle.lattice.specs.Outcome.{done, refused}
+use Rattle.lattice.specs.Shape.{fullShape}
 use Rattle.cell.specs.Cell.{placeAt}
 use Rattle.evaluate.specs.Wants.{wantOf}
 use Rattle.query.specs.Parts.{renumbered, positionNumber}
@@ -34,14 +35,15 @@ module _ (c : tie.After-enum-told) where
   passes rs e = sym (c .before .before .check-by-axes .ensures rs e) ∙ ap outcomeOf (c .enum-told .given .1)
 
   -- what is read of the slice made anew
-  gives : reading (b .args .s) (lent (now (b .args .records))) (wantOf (b .args .order) (b .args .axis))
+  gives : reading (fullShape (b .args .s) (b .args .even)) (lent (now (b .args .records))) (wantOf (b .args .order) (b .args .axis))
       (placeAt (b .args .i ∷ b .args .j ∷ b .args .k ∷ [])) (placeAt (b .args .u ∷ b .args .v ∷ b .args .w ∷ []))
-      ≡ renumbered (number b) (byCell (b .args .s) (now (b .args .records)) (wantOf (b .args .order) (b .args .axis))
+      ≡ renumbered (number b)
+      (byCell (fullShape (b .args .s) (b .args .even)) (now (b .args .records)) (wantOf (b .args .order) (b .args .axis))
       (placeAt (b .args .i ∷ b .args .j ∷ b .args .k ∷ [])) (placeAt (b .args .u ∷ b .args .v ∷ b .args .w ∷ [])))
   gives = rw (take-length (now (b .args .records)))
-      (sym (ap (renumbered (number b)) (by-cell-reads (b .args .s) (now (b .args .records)) (wantOf (b .args .order) (b .args .axis)) _ _
-      (passes (now (b .args .records)) refl))
-      ∙ kept-reading (number b) (position-keeps _ _) (b .args .s) (now (b .args .records))
+      (sym (ap (renumbered (number b)) (by-cell-reads (fullShape (b .args .s) (b .args .even)) (now (b .args .records))
+      (wantOf (b .args .order) (b .args .axis)) _ _ (passes (now (b .args .records)) refl))
+      ∙ kept-reading (number b) (position-keeps _ _) (fullShape (b .args .s) (b .args .even)) (now (b .args .records))
       (wantOf (b .args .order) (b .args .axis)) _ _))
 
 refused-before : tie.Need-returns-2
@@ -51,8 +53,8 @@ refused-before c =
     let b = d .before in
     let a = b .args in
     ap (λ (n : ℕ). refused n (k .tested .given .0 .0 .place)) (c .position-number .ensures)
-    ∙ sym (ap (renumbered (number b))
-    (by-cell-stops (a .s) (now (a .records)) (wantOf (a .order) (a .axis)) (placeAt (a .i ∷ a .j ∷ a .k ∷ []))
+    ∙ sym (ap (renumbered (number b)) (by-cell-stops (fullShape (a .s) (a .even)) (now (a .records)) (wantOf (a .order) (a .axis))
+    (placeAt (a .i ∷ a .j ∷ a .k ∷ []))
     (placeAt (a .u ∷ a .v ∷ a .w ∷ []))
     (sym (d .check-by-axes .ensures (now (a .records)) refl) ∙ ap outcomeOf (k .tested .given .1))))
 

@@ -7,32 +7,36 @@ use Rattle.query.proofs.QueryLaws.{Reader, reader}
 use Rattle.query.proofs.read_lattice.Statement.{statement}
 use Rattle.query.proofs.read_lattice.Tie as tie
 
-reads : (b : tie.Start) → Reader (b .args .s) (now (b .args .records)) (wantOf (b .args .order) (b .args .axis)) (b .args .cell)
+reads : (b : tie.Start) → Reader (b .args .s) (b .args .even) (now (b .args .records)) (wantOf (b .args .order) (b .args .axis))
+    (b .args .cell)
     (placeAt (b .args .step))
-reads b = let a = b .args in reader (a .s) (now (a .records)) (wantOf (a .order) (a .axis)) (a .cell) (placeAt (a .step)) (b .pre .0)
+reads b = let a = b .args in reader (a .s) (a .even) (now (a .records)) (wantOf (a .order) (a .axis)) (a .cell) (placeAt (a .step))
+    (b .pre .0)
 
 pub read-lattice-spec : {M : Type 1} → statement M
 read-lattice-spec =
     tie.close
     (tie.spec
     (λ c κs. reads c .layout-asks)
-    (λ c κs. let b = c .before in reads b .corners-asks (c .layout-of .result) (c .layout-of .ensures) _ refl)
+    (λ c κs.
+    let b = c .before in
+    let a = reads b .corners-asks (c .layout-of .result) (c .layout-of .ensures) in (a .0, (a .1, (refl, b .pre .1))))
     (λ c κs.
     let w = c .before in
     let l = w .before in
     let b = l .before in (
-      reads b .stages-ask (l .layout-of .result) (l .layout-of .ensures) (w .corners-within .result) (w .corners-within .ensures)
+      reads b .stages-ask (l .layout-of .result) (l .layout-of .ensures) (w .lattice-within .result) (w .lattice-within .ensures)
           (c .if1 .taken),
       b .pre .1,
     ))
     (λ c.
     let w = c .before .before in
     let r = c .on-lattice in
-    reads (w .before .before) .answered (w .corners-within .result) (w .corners-within .ensures) (c .before .if1 .taken) (r .result)
+    reads (w .before .before) .answered (w .lattice-within .result) (w .lattice-within .ensures) (c .before .if1 .taken) (r .result)
     (r .ok) (r .ensures))
     (λ c κs.
     let w = c .before in
     let l = w .before in
-    reads (l .before) .beyond-asks (l .layout-of .result) (l .layout-of .ensures) (w .corners-within .result) (w .corners-within .ensures)
+    reads (l .before) .beyond-asks (l .layout-of .result) (l .layout-of .ensures) (w .lattice-within .result) (w .lattice-within .ensures)
     (c .if1 .left))
     (λ c. reads (c .before .before .before .before) .stopped _ (c .beyond .ensures)))

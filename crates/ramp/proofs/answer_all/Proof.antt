@@ -11,6 +11,7 @@ use mir.Val.{toZ, ofZ}
 use denote.Ref.{now}
 use borrow.Author.Needs.{needs}
 use borrow.Author.Tests.{not-true, not-false}
+use Rattle.arith.specs.Int.{roundingOf}
 use Rattle.arith.proofs.Choices.{clash}
 use Rattle.arith.proofs.Machine.{element}
 use Rattle.lattice.specs.Answers.{outcomeOf}
@@ -21,7 +22,7 @@ use Rattle.lattice.specs.Records.{recordsField}
 use Rattle.lattice.proofs.OutcomeLaws.{passed-done}
 use Rattle.lattice.proofs.ShapeLaws.{shaped}
 use Rattle.cell.specs.Cell.{placeAt, cornersOutcome}
-use Rattle.evaluate.specs.Evaluate.{dose, askAt, answer}
+use Rattle.evaluate.specs.Evaluate.{dose, askAt, answerBy}
 use Rattle.query.specs.Queries.{positionCell}
 use Rattle.ramp.specs.Ramp.{queries, queryAt}
 use Rattle.ramp.specs.Parts.{one, Readable}
@@ -31,18 +32,18 @@ use Rattle.ramp.proofs.answer_all.Statement.{statement}
 use Rattle.ramp.proofs.answer_all.Tie as tie
 
 abbrev Inv-loop : tie.InvT-loop
-Inv-loop s records positions found₀ count entries held₀ cell₀ fetches₀ i₀ found held cell fetches i =
-    (i ≤ count) × Before s records positions i found held cell fetches
+Inv-loop s even records positions found₀ count entries held₀ cell₀ fetches₀ i₀ found held cell fetches i =
+    (i ≤ count) × Before s even records positions i found held cell fetches
 
 abbrev μ-loop : tie.MeasureT-loop
-μ-loop s records positions found₀ count entries held₀ cell₀ fetches₀ i₀ found held cell fetches i = count - i
+μ-loop s even records positions found₀ count entries held₀ cell₀ fetches₀ i₀ found held cell fetches i = count - i
 
 corner-entries-requires : tie.Need-corner-entries-requires Inv-loop μ-loop
 corner-entries-requires c κs = shaped (c .args .s) (c .pre .0 .shape)
 
 loop-holds : tie.Need-loop-holds Inv-loop μ-loop
 loop-holds c = let b = c .before in
-    (omega arith, before-none (b .args .s) (b .args .records .now) (b .args .positions .now) _ _ _ (b .pre .1) refl)
+    (omega arith, before-none (b .args .s) (b .args .even) (b .args .records .now) (b .args .positions .now) _ _ _ (b .pre .1) refl)
 
 locate-requires : tie.Need-locate-requires Inv-loop μ-loop
 locate-requires c κs =
@@ -69,7 +70,7 @@ module _ (c : tie.After-check-spot Inv-loop μ-loop) where
   ps = now (start .args .positions)
 
   -- the tests of the cell and the in-cell step are those of the position
-  told : outcomeOf (c .check-spot .result) ≡ tested (start .args .s) rs ps (start .pre .0) (turn .loop .i)
+  told : outcomeOf (c .check-spot .result) ≡ tested (start .args .s) (start .args .even) rs ps (start .pre .0) (turn .loop .i)
   told = c .check-spot .ensures ∙ found-at .locate .ensures .tests
 
   inside : turn .loop .i < queries ps
@@ -81,8 +82,9 @@ returns c =
     let d = t .before .before in
     let w = turn d .loop in
     let b = start d in (
-      c .refused-at .ensures ∙ stops (b .args .s) (rs d) (ps d) (w .i) (w .found) (w .held) (w .cell) (w .fetches) (w .inv .1) (inside d)
-          (own-stops (b .args .s) (rs d) (ps d) (b .pre .0) (w .i) (sym (told d) ∙ ap outcomeOf (t .tested .given .1))),
+      c .refused-at .ensures ∙ stops (b .args .s) (b .args .even) (rs d) (ps d) (w .i) (w .found) (w .held) (w .cell) (w .fetches)
+          (w .inv .1) (inside d)
+          (own-stops (b .args .s) (b .args .even) (rs d) (ps d) (b .pre .0) (w .i) (sym (told d) ∙ ap outcomeOf (t .tested .given .1))),
       λ k e. let q = sym (c .refused-at .ensures) ∙ e in clash (cc),
     )
 
@@ -100,7 +102,7 @@ module _ (c : tie.After-is-new Inv-loop μ-loop) where
   abbrev here : List ℕ
   here = found-at checked .locate .result .cell
 
-  passes : tested (b .args .s) (rs checked) (ps checked) (b .pre .0) (at .loop .i) ≡ done tt
+  passes : tested (b .args .s) (b .args .even) (rs checked) (ps checked) (b .pre .0) (at .loop .i) ≡ done tt
   passes = sym (told checked) ∙ ap outcomeOf (c .before .enum-told .given .1)
 
   cell-is : placeAt here ≡ positionCell (b .args .s) (queryAt (ps checked) (at .loop .i))
@@ -113,7 +115,8 @@ hold-requires c κs =
     let s = b d in
     let e = checked d in (
       (shaped (s .args .s) (s .pre .0 .shape), s .pre .0 .long, found-at e .locate .ensures .here, w .inv .1 .held-long),
-      known (s .args .s) (rs e) (ps e) (w .i) (w .found) (w .held) (w .cell) (w .fetches) (w .inv .1) (here d) (d .is-new .result)
+      known (s .args .s) (s .args .even) (rs e) (ps e) (w .i) (w .found) (w .held) (w .cell) (w .fetches) (w .inv .1) (here d)
+          (d .is-new .result)
           (d .is-new .ensures),
     )
 
@@ -125,10 +128,11 @@ returns-2 c =
     let w = at d .loop in
     let s = b d in
     let e = checked d in
-    let five = own-five (s .args .s) (rs e) (ps e) (s .pre .0) (w .i) (passes d) (placeAt (here d)) (cell-is d)
+    let five = own-five (s .args .s) (s .args .even) (rs e) (ps e) (s .pre .0) (w .i) (passes d) (placeAt (here d)) (cell-is d)
     (sym (h .hold .ensures .1) ∙ not-true _ (t .if1 .taken)) in (
       c .refused-at2 .ensures
-          ∙ stops (s .args .s) (rs e) (ps e) (w .i) (w .found) (w .held) (w .cell) (w .fetches) (w .inv .1) (inside e) (five .is),
+          ∙ stops (s .args .s) (s .args .even) (rs e) (ps e) (w .i) (w .found) (w .held) (w .cell) (w .fetches) (w .inv .1) (inside e)
+          (five .is),
       λ k q. let f = sym (c .refused-at2 .ensures) ∙ q in clash (cc),
     )
 
@@ -162,7 +166,7 @@ module _ (c : tie.Else1 Inv-loop μ-loop) where
   reads =
       let s = b new in
       let e = checked new in
-      readable (s .args .s) (rs e) (ps e) (s .pre .0) (at new .loop .i) (passes new) (found-at e .locate .result)
+      readable (s .args .s) (s .args .even) (rs e) (ps e) (s .pre .0) (at new .loop .i) (passes new) (found-at e .locate .result)
       (found-at e .locate .ensures)
       held (kept .hold .ensures .0) within
 
@@ -182,15 +186,19 @@ loop-again c =
     let r = c .dose-in in
     let l = inside e in (
       omega arith,
-      subst (λ (k : ℕ). Before (s .args .s) (rs e) (ps e) (w .i + 1) (set (w .found) (w .i) (toZ w32 (ofZ w32 (r .result)))) (held d)
+      subst (λ (k : ℕ). Before (s .args .s) (s .args .even) (rs e) (ps e) (w .i + 1) (set (w .found) (w .i) (toZ w32 (ofZ w32 (r .result))))
+          (held d)
           (here n) k)
           (sym (c .before .before .counted .ensures))
-          (more (s .args .s) (rs e) (ps e) (w .i) (w .found) (w .held) (w .cell) (w .fetches) (w .inv .1) (here n) (n .is-new .result)
+          (more (s .args .s) (s .args .even) (rs e) (ps e) (w .i) (w .found) (w .held) (w .cell) (w .fetches) (w .inv .1) (here n)
+          (n .is-new .result)
           (n .is-new .ensures) (cell-is n) (held d) (kept d .hold .ensures .0) (within d) (toZ w32 (ofZ w32 (r .result))) (small d)
-          (own-answers (s .args .s) (rs e) (ps e) (s .pre .0) (w .i) (passes n) (found-at e .locate .result) (found-at e .locate .ensures)
+          (own-answers (s .args .s) (s .args .even) (rs e) (ps e) (s .pre .0) (w .i) (passes n) (found-at e .locate .result)
+          (found-at e .locate .ensures)
           (held d) (kept d .hold .ensures .0) (within d) (toZ w32 (ofZ w32 (r .result)))
           (element (r .result) (r .ok) ∙ r .ensures
-          ∙ ap (λ (k : ℕ). answer (askAt (one (s .args .s)) dose origin (placeAt (found-at e .locate .result .step)))
+          ∙ ap (λ (k : ℕ). answerBy (roundingOf (s .args .even))
+          (askAt (one (s .args .s)) dose origin (placeAt (found-at e .locate .result .step)))
           (recordsField (one (s .args .s)) (take k (held d)))) (entries-are d)))),
     )
 
@@ -198,7 +206,8 @@ returns-3 : tie.Need-returns-3 Inv-loop μ-loop
 returns-3 c =
     let w = c .before .loop in
     let s = c .before .before .before in
-    ends (s .args .s) (now (s .args .records)) (now (s .args .positions)) (w .i) (w .found) (w .held) (w .cell) (w .fetches) (w .inv .1)
+    ends (s .args .s) (s .args .even) (now (s .args .records)) (now (s .args .positions)) (w .i) (w .found) (w .held) (w .cell) (w .fetches)
+    (w .inv .1)
     (let l = c .loop-test .left in let k = w .inv .0 in omega arith)
 
 pub answer-all-spec : {M : Type 1} → statement M
@@ -221,7 +230,7 @@ answer-all-spec =
     (λ c κs. tt)
     returns-2
     (λ c κs. let n = new c in let w = at n .loop in let s = b n in let e = checked n in
-    let f = few (s .args .s) (rs e) (ps e) (w .i) (w .found) (w .held) (w .cell) (w .fetches) (w .inv .1) in
+    let f = few (s .args .s) (s .args .even) (rs e) (ps e) (w .i) (w .found) (w .held) (w .cell) (w .fetches) (w .inv .1) in
     let g = small c in omega arith)
     (λ c. fits (c .before))
     (λ c. sym (length-take-le _ _ (fits (c .before .before))))

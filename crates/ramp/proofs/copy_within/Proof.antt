@@ -1,15 +1,15 @@
 -- `ramp::copy_within` meets its contract: the copied records are tested where they stand by themselves.
 use mathlib.Core.Path.{_≡_, sym, ap, subst, _∙_}
-use Prim.Native.Nat.{ℕ, _+_, _*_, _≤_}
+use Prim.Native.Nat.{ℕ, _*_}
 use native.Mathlib.Omega.{arith}
 use mathlib.Core.List.{List}
 use lib.IntN.{ℤ}
 use borrow.Author.Needs.{needs}
 use Rattle.lattice.specs.Outcome.{firstOf, passed}
 use Rattle.cell.specs.declared.Layout.{Layout}
-use Rattle.cell.specs.Cell.{Small, startOf, limitIn, recordOutcome}
+use Rattle.cell.specs.Cell.{startOf, limitIn, recordOutcome, CornerRows}
 use Rattle.ramp.specs.Parts.{Copied}
-use Rattle.ramp.proofs.FetchLaws.{alone-small, alone-inside, within-same}
+use Rattle.ramp.proofs.FetchLaws.{alone-rows, within-same}
 use Rattle.ramp.proofs.copy_within.Statement.{statement}
 use Rattle.ramp.proofs.copy_within.Tie as tie
 
@@ -19,16 +19,10 @@ all-within-requires c κs =
     let b = h .before .before in
     let a = b .args in
     let p = b .pre .0 in
-    let long = h .copy-rows .ensures .long in (
-      (
-        p .low,
-        let k = p .few in omega arith,
-        subst Small (sym (c .layout-alone .ensures)) (alone-small (a .l .orders) (a .e) (p .low)),
-        b .pre .1,
-      ),
-      λ i l. subst (λ (k : ℕ). startOf (c .layout-alone .result) i + a .e ≤ k) (sym long)
-          (subst (λ (o : Layout). startOf o i + a .e ≤ 216) (sym (c .layout-alone .ensures))
-          (alone-inside (a .l .orders) (a .e) (a .rows) i (p .low) (p .few) l)),
+    let held : List ℤ = h .copy-rows .last .1 .1 .1 .1 .0 in (
+      subst (λ (o : Layout). CornerRows o held (a .e) (a .rows)) (sym (c .layout-alone .ensures))
+          (alone-rows (a .l .orders) (a .e) (a .rows) held (p .some) (p .low) (p .few) (h .copy-rows .ensures .long)),
+      b .pre .1,
     )
 
 returns : tie.Need-returns
@@ -55,7 +49,6 @@ copy-within-spec =
     tie.close
     (tie.spec
     (λ c κs. search needs)
-    (λ c. search needs)
     (λ c κs. search needs)
     all-within-requires
     (λ c. search needs)

@@ -10,7 +10,7 @@ use mir.Syntax.{w64}
 use mir.Val.{toZ, ofZ}
 use denote.Ref.{now}
 use borrow.Author.Needs.{needs}
-use Rattle.arith.specs.Int.{roundHalfUp}
+use Rattle.arith.specs.Int.{roundingOf}
 use Rattle.arith.proofs.Machine.{read}
 use Rattle.lattice.specs.Buffer.{at}
 use Rattle.lattice.proofs.BufferLaws.{fill}
@@ -21,14 +21,14 @@ use Rattle.ramp.proofs.ends.Tie as tie
 
 -- the first t numbers stand in n
 abbrev Inv-loop : tie.InvT-loop
-Inv-loop m y x held orderStride nodeStride n₀ t₀ n t =
+Inv-loop even m y x held orderStride nodeStride n₀ t₀ n t =
     (t ≤ 2 * m) × (length n ≡ 6)
-    × ((j : ℕ) → j < t → at n j ≡ after roundHalfUp m (y ∷ x ∷ []) (at held) (placeOf m orderStride nodeStride j))
+    × ((j : ℕ) → j < t → at n j ≡ after (roundingOf even) m (y ∷ x ∷ []) (at held) (placeOf m orderStride nodeStride j))
 
 abbrev μ-loop : tie.MeasureT-loop
-μ-loop m y x held orderStride nodeStride n₀ t₀ n t = 2 * m - t
+μ-loop even m y x held orderStride nodeStride n₀ t₀ n t = 2 * m - t
 
-abbrev of-three : tie.After-t48 Inv-loop μ-loop → tie.Else1 Inv-loop μ-loop
+abbrev of-three : tie.After-t49 Inv-loop μ-loop → tie.Else1 Inv-loop μ-loop
 of-three c = c .before .before .before .before .before .before
 
 module _ (s : tie.Start Inv-loop μ-loop) where
@@ -36,7 +36,7 @@ module _ (s : tie.Start Inv-loop μ-loop) where
   size = length (now (s .args .held))
 
   abbrev number : ℕ → ℤ
-  number = after roundHalfUp (s .args .m) (s .args .y ∷ s .args .x ∷ []) (at (now (s .args .held)))
+  number = after (roundingOf (s .args .even)) (s .args .m) (s .args .y ∷ s .args .x ∷ []) (at (now (s .args .held)))
 
   abbrev place : ℕ → ℕ
   place = placeOf (s .args .m) (s .args .order) (s .args .node)
@@ -49,15 +49,16 @@ module _ (s : tie.Start Inv-loop μ-loop) where
 
   -- number t may be worked out, and stands in the records
   safe : (t : ℕ) → t < 2 * s .args .m
-      → Safe roundHalfUp (s .args .m) size (s .args .y ∷ s .args .x ∷ []) (at (now (s .args .held))) (place t)
+      → Safe (roundingOf (s .args .even)) (s .args .m) size (s .args .y ∷ s .args .x ∷ []) (at (now (s .args .held))) (place t)
   safe t l = let a = s .args in
-      subst (Safe roundHalfUp (a .m) size (a .y ∷ a .x ∷ []) (at (now (a .held)))) (zero-add (place t))
-      (at-place (a .m) (a .order) (a .node) (Safe roundHalfUp (a .m) size (a .y ∷ a .x ∷ []) (at (now (a .held)))) 0 (s .pre .1) t l)
+      subst (Safe (roundingOf (a .even)) (a .m) size (a .y ∷ a .x ∷ []) (at (now (a .held)))) (zero-add (place t))
+      (at-place (a .m) (a .order) (a .node) (Safe (roundingOf (a .even)) (a .m) size (a .y ∷ a .x ∷ []) (at (now (a .held)))) 0 (s .pre .1)
+      t l)
 
   index : (t : ℕ) → t < 2 * s .args .m → place t < size
   index t l =
       let a = s .args in
-      safe-index roundHalfUp (a .m) size (a .y ∷ a .x ∷ []) (at (now (a .held))) (place t) (let h = m2 in omega arith) (safe t l)
+      safe-index (roundingOf (a .even)) (a .m) size (a .y ∷ a .x ∷ []) (at (now (a .held))) (place t) (let h = m2 in omega arith) (safe t l)
 
 -- a turn of the loop
 module _ (c : tie.In-loop Inv-loop μ-loop) where
@@ -79,7 +80,7 @@ first-stages-requires c κs =
     let s = start d in
     let a = s .args in (
       s .pre .0,
-      subst (Safe roundHalfUp (a .m) (size s) (a .y ∷ a .x ∷ []) (at (now (a .held)))) (sym (c .place-at .ensures))
+      subst (Safe (roundingOf (a .even)) (a .m) (size s) (a .y ∷ a .x ∷ []) (at (now (a .held)))) (sym (c .place-at .ensures))
           (safe s (t d) (d .loop-test .taken)),
     )
 
@@ -127,11 +128,11 @@ returns c =
     let m2 = t1 .if1 .taken in
     record {
       low = end-of-two (a .m) (number (begun d)) 0 (a .order) _ _
-          (read _ (c .before .before .before .t18 .given) ∙ low d 0 0 (omega arith) (omega arith))
-          (read _ (c .before .before .t21 .given) ∙ low d 1 (0 + a .order) (omega arith) (omega arith)) m2;
+          (read _ (c .before .before .before .t19 .given) ∙ low d 0 0 (omega arith) (omega arith))
+          (read _ (c .before .before .t22 .given) ∙ low d 1 (0 + a .order) (omega arith) (omega arith)) m2;
       high = end-of-two (a .m) (number (begun d)) (0 + a .node) (a .order) _ _
-          (read _ (c .before .t25 .given) ∙ high d 0 2 (0 + a .node) (omega arith) (omega arith) (omega arith))
-          (read _ (c .t28 .given) ∙ high d 1 3 (0 + a .node + a .order) (omega arith) (omega arith) (omega arith)) m2;
+          (read _ (c .before .t26 .given) ∙ high d 0 2 (0 + a .node) (omega arith) (omega arith) (omega arith))
+          (read _ (c .t29 .given) ∙ high d 1 3 (0 + a .node + a .order) (omega arith) (omega arith) (omega arith)) m2;
     }
 
 returns-2 : tie.Need-returns-2 Inv-loop μ-loop
@@ -142,13 +143,13 @@ returns-2 c =
     let m3 : a .m ≡ 3 = omega (arith, m2 (begun d), m3 (begun d), t1 .if1 .left) in
     record {
       low = end-of-three (a .m) (number (begun d)) 0 (a .order) _ _
-          (read _ (c .before .before .before .before .before .t32 .given) ∙ low d 0 0 (omega arith) (omega arith))
-          (read _ (c .before .before .before .before .t35 .given) ∙ low d 1 (0 + a .order) (omega arith) (omega arith)) m3 _
-          (read _ (c .before .before .before .t38 .given) ∙ low d 2 (0 + 2 * a .order) (omega arith) (omega arith));
+          (read _ (c .before .before .before .before .before .t33 .given) ∙ low d 0 0 (omega arith) (omega arith))
+          (read _ (c .before .before .before .before .t36 .given) ∙ low d 1 (0 + a .order) (omega arith) (omega arith)) m3 _
+          (read _ (c .before .before .before .t39 .given) ∙ low d 2 (0 + 2 * a .order) (omega arith) (omega arith));
       high = end-of-three (a .m) (number (begun d)) (0 + a .node) (a .order) _ _
-          (read _ (c .before .before .t42 .given) ∙ high d 0 3 (0 + a .node) (omega arith) (omega arith) (omega arith))
-          (read _ (c .before .t45 .given) ∙ high d 1 4 (0 + a .node + a .order) (omega arith) (omega arith) (omega arith)) m3 _
-          (read _ (c .t48 .given) ∙ high d 2 5 (0 + a .node + 2 * a .order) (omega arith) (omega arith) (omega arith));
+          (read _ (c .before .before .t43 .given) ∙ high d 0 3 (0 + a .node) (omega arith) (omega arith) (omega arith))
+          (read _ (c .before .t46 .given) ∙ high d 1 4 (0 + a .node + a .order) (omega arith) (omega arith) (omega arith)) m3 _
+          (read _ (c .t49 .given) ∙ high d 2 5 (0 + a .node + 2 * a .order) (omega arith) (omega arith) (omega arith));
     }
 
 pub ends-spec : {M : Type 1} → statement M

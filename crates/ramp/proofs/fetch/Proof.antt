@@ -10,15 +10,15 @@ use denote.Ref.{now}
 use borrow.Author.Needs.{needs}
 use Rattle.lattice.specs.Outcome.{firstOf, passed}
 use Rattle.lattice.specs.Buffer.{at}
-use Rattle.lattice.proofs.ShapeLaws.{orders-range}
-use Rattle.cell.specs.Cell.{placeAt, cornersOutcome, limitOf, limitIn, Limits, recordOutcome, startOf}
-use Rattle.ramp.specs.Parts.{Copied, CornerRows, Held}
-use Rattle.ramp.proofs.FetchLaws.{hold, rows-in, same, held-is}
+use Rattle.cell.specs.Cell.{placeAt, cornersOutcome, limitOf, limitIn, Limits, recordOutcome, startOf, CornerRows}
+use Rattle.cell.proofs.LayoutLaws.{called, quintic-orders}
+use Rattle.ramp.specs.Parts.{Copied, Held}
+use Rattle.ramp.proofs.FetchLaws.{held-is}
 use Rattle.ramp.proofs.fetch.Statement.{statement}
 use Rattle.ramp.proofs.fetch.Tie as tie
 
 -- what a call of `copy_within` needs and says, of E entries a record and 2·rows records
-record Called (f : tie.After-layout-of) (limits : List ℤ) (E rows : ℕ) : Type 0 where
+record Fetched (f : tie.After-layout-of) (limits : List ℤ) (E rows : ℕ) : Type 0 where
   asked : CornerRows (f .layout-of .result) (now (f .before .args .records)) E rows × Limits E limits
       × (length (now (f .before .args .held)) ≡ 216)
   is-held : (held : List ℤ) → Copied (f .layout-of .result) (now (f .before .args .records)) E (2 * E * rows) held
@@ -31,22 +31,19 @@ record Called (f : tie.After-layout-of) (limits : List ℤ) (E rows : ℕ) : Typ
 module _ (f : tie.After-layout-of) (limits : List ℤ) (m n E rows : ℕ) (m-is : f .layout-of .result .orders ≡ m)
     (n-is : f .before .args .s .axes ≡ n) (row : (e : ℕ) → e < m ^ 3 → at limits e ≡ pos (limitOf m e)) (E-is : m ^ n ≡ E)
     (rows-are : 2 ^ n ≡ 2 * rows) where
-  called : 1 ≤ E → E ≤ 27 → rows ≤ 4 → 2 * E * rows ≤ 216 → Called f limits E rows
-  called some low few fit =
+  fetched : 1 ≤ E → E ≤ 27 → rows ≤ 4 → 2 * E * rows ≤ 216 → Fetched f limits E rows
+  fetched some low few fit =
       let b = f .before in
       let a = b .args in
       let p = b .pre in
       let l = f .layout-of .result in
       let laid = f .layout-of .ensures in
       let rs = now (a .records) in
+      let tested = called (a .s) (a .cell) l laid m n E rows m-is n-is E-is rows-are rs limits (p .0) (p .1) (p .2) row some low few in
       record {
-        asked = (
-          rows-in (a .s) (a .cell) l rs limits (p .0) (p .1) (p .2) laid m n E rows m-is n-is row E-is rows-are some low few,
-          hold (a .s) (a .cell) l rs limits (p .0) (p .1) (p .2) laid m n E rows m-is n-is row E-is rows-are,
-          p .3,
-        );
-        is-held = held-is (a .s) (a .cell) l rs limits (p .0) (p .1) (p .2) laid m n E rows m-is n-is row E-is rows-are fit;
-        is = same (a .s) (a .cell) l rs limits (p .0) (p .1) (p .2) laid m n E rows m-is n-is row E-is rows-are;
+        asked = (tested .asked .0, tested .asked .1, p .3);
+        is-held = held-is (a .s) (a .cell) l rs (p .0) (p .2) laid m n E rows m-is n-is E-is rows-are fit;
+        is = tested .same;
       }
 
 -- the last number of axes, and of orders
@@ -54,47 +51,47 @@ three : (b : tie.Start) → (b .args .s .axes ≡ 1 → ⊥) → (b .args .s .ax
 three b f g = omega (arith, b .pre .0 .axes-low, b .pre .0 .axes-high, f, g)
 
 quintic : (f : tie.After-layout-of) → (f .layout-of .result .orders ≡ 2 → ⊥) → f .layout-of .result .orders ≡ 3
-quintic f n = let r = orders-range (f .before .args .s .degree) in let e = f .layout-of .ensures .orders-are in omega (arith, n)
+quintic f = quintic-orders (f .before .args .s) (f .before .args .cell) (f .layout-of .result) (f .layout-of .ensures)
 
-facts : (c : tie.After-limits) → let e = c .before .before in Called (e .before .before .before) (e .entry-limits .result) 2 1
+facts : (c : tie.After-limits) → let e = c .before .before in Fetched (e .before .before .before) (e .entry-limits .result) 2 1
 facts c =
     let e = c .before .before in
-    called (e .before .before .before) (e .entry-limits .result) 2 1 2 1 (e .before .if1 .taken) (c .before .if2 .taken)
+    fetched (e .before .before .before) (e .entry-limits .result) 2 1 2 1 (e .before .if1 .taken) (c .before .if2 .taken)
     (e .entry-limits .ensures) refl refl (lit≤ tt) (lit≤ tt) (lit≤ tt) (lit≤ tt)
 
-facts-2 : (c : tie.After-limits2) → let e = c .before .before .before in Called (e .before .before .before) (e .entry-limits .result) 4 2
+facts-2 : (c : tie.After-limits2) → let e = c .before .before .before in Fetched (e .before .before .before) (e .entry-limits .result) 4 2
 facts-2 c =
     let e = c .before .before .before in
-    called (e .before .before .before) (e .entry-limits .result) 2 2 4 2 (e .before .if1 .taken) (c .before .if3 .taken)
+    fetched (e .before .before .before) (e .entry-limits .result) 2 2 4 2 (e .before .if1 .taken) (c .before .if3 .taken)
     (e .entry-limits .ensures) refl refl (lit≤ tt) (lit≤ tt) (lit≤ tt) (lit≤ tt)
 
-facts-3 : (c : tie.After-limits3) → let e = c .before .before .before in Called (e .before .before .before) (e .entry-limits .result) 8 4
+facts-3 : (c : tie.After-limits3) → let e = c .before .before .before in Fetched (e .before .before .before) (e .entry-limits .result) 8 4
 facts-3 c =
     let e = c .before .before .before in
     let f = e .before .before .before in
-    called f (e .entry-limits .result) 2 3 8 4 (e .before .if1 .taken)
+    fetched f (e .entry-limits .result) 2 3 8 4 (e .before .if1 .taken)
     (three (f .before) (c .before .before .if2 .left) (c .before .if3 .left)) (e .entry-limits .ensures) refl refl
     (lit≤ tt) (lit≤ tt) (lit≤ tt) (lit≤ tt)
 
-facts-4 : (c : tie.After-limits4) → let e = c .before .before in Called (e .before .before .before) (e .entry-limits2 .result) 3 1
+facts-4 : (c : tie.After-limits4) → let e = c .before .before in Fetched (e .before .before .before) (e .entry-limits2 .result) 3 1
 facts-4 c =
     let e = c .before .before in
     let f = e .before .before .before in
-    called f (e .entry-limits2 .result) 3 1 3 1 (quintic f (e .before .if1 .left)) (c .before .if4 .taken) (e .entry-limits2 .ensures)
+    fetched f (e .entry-limits2 .result) 3 1 3 1 (quintic f (e .before .if1 .left)) (c .before .if4 .taken) (e .entry-limits2 .ensures)
     refl refl (lit≤ tt) (lit≤ tt) (lit≤ tt) (lit≤ tt)
 
-facts-5 : (c : tie.After-limits5) → let e = c .before .before .before in Called (e .before .before .before) (e .entry-limits2 .result) 9 2
+facts-5 : (c : tie.After-limits5) → let e = c .before .before .before in Fetched (e .before .before .before) (e .entry-limits2 .result) 9 2
 facts-5 c =
     let e = c .before .before .before in
     let f = e .before .before .before in
-    called f (e .entry-limits2 .result) 3 2 9 2 (quintic f (e .before .if1 .left)) (c .before .if5 .taken) (e .entry-limits2 .ensures)
+    fetched f (e .entry-limits2 .result) 3 2 9 2 (quintic f (e .before .if1 .left)) (c .before .if5 .taken) (e .entry-limits2 .ensures)
     refl refl (lit≤ tt) (lit≤ tt) (lit≤ tt) (lit≤ tt)
 
-facts-6 : (c : tie.After-limits6) → let e = c .before .before .before in Called (e .before .before .before) (e .entry-limits2 .result) 27 4
+facts-6 : (c : tie.After-limits6) → let e = c .before .before .before in Fetched (e .before .before .before) (e .entry-limits2 .result) 27 4
 facts-6 c =
     let e = c .before .before .before in
     let f = e .before .before .before in
-    called f (e .entry-limits2 .result) 3 3 27 4 (quintic f (e .before .if1 .left))
+    fetched f (e .entry-limits2 .result) 3 3 27 4 (quintic f (e .before .if1 .left))
     (three (f .before) (c .before .before .if4 .left) (c .before .if5 .left)) (e .entry-limits2 .ensures) refl refl
     (lit≤ tt) (lit≤ tt) (lit≤ tt) (lit≤ tt)
 

@@ -6,7 +6,7 @@ use Prim.Native.Nat.{ℕ, _*_, _≤_}
 use lib.ListN.{length}
 use denote.Ref.{now}
 use borrow.Author.Needs.{needs}
-use Rattle.arith.specs.Int.{roundHalfUp}
+use Rattle.arith.specs.Int.{roundingOf}
 use Rattle.arith.proofs.Machine.{read}
 use Rattle.lattice.specs.Buffer.{at}
 use Rattle.evaluate.specs.Stages.{stridesOf, AllPrepared, Safe}
@@ -25,7 +25,7 @@ module _ (c : tie.After-axis-of3) where
 
   asks : (AllPrepared (s .args .m) (z .axis-of .result ∷ c .axis-of3 .result ∷ c .before .axis-of2 .result ∷ [])
       × (z .axis-of .result .shift ≤ 44))
-      × Safe roundHalfUp (s .args .m) (length (now (s .args .held)))
+      × Safe (roundingOf (s .args .even)) (s .args .m) (length (now (s .args .held)))
       (z .axis-of .result ∷ c .axis-of3 .result ∷ c .before .axis-of2 .result ∷ []) (at (now (s .args .held))) 0
   asks =
       three-ask (stridesOf (s .args .v) (2 * s .args .e) (s .args .m)) (c .before .axis-of2 .ensures) (z .axis-of .ensures)
@@ -59,7 +59,7 @@ returns c =
     three-give (stridesOf (s h .args .v) (2 * s h .args .e) (s h .args .m)) (h .before .axis-of2 .ensures) (z h .axis-of .ensures)
     (h .axis-of3 .ensures) true refl
     (read (c .stage .result) (c .stage .ok) ∙ c .stage .ensures
-    ∙ stage-gives (a .0 .0 .0) (d .ends .ensures) roundHalfUp (z h .axis-of .result .shift))
+    ∙ stage-gives (a .0 .0 .0) (d .ends .ensures) (roundingOf (s h .args .even)) (z h .axis-of .result .shift))
 
 pub in-space-spec : {M : Type 1} → statement M
 in-space-spec =

@@ -5,6 +5,7 @@ use mir.Facts.{toZ-ofZ}
 use denote.Ref.{now}
 use Rattle.lattice.specs.declared.Shape.{Shape}
 use Rattle.lattice.specs.Outcome.{done}
+use Rattle.lattice.specs.Shape.{fullShape}
 use Rattle.lattice.proofs.OutcomeLaws.{done-same}
 use Rattle.lattice.proofs.ShapeLaws.{shaped}
 use Rattle.cell.specs.Cell.{placeAt}
@@ -20,20 +21,22 @@ use Rattle.report.proofs.dose_at.Statement.{statement}
 use Rattle.report.proofs.dose_at.Tie as tie
 
 abbrev shape : tie.Start → Shape
-shape c = withDegree (header (c .args .axes) (c .args .counts)) (c .args .degree)
+shape c = withDegree (header (c .args .axes) (c .args .counts) (c .args .second)) (c .args .degree)
 
 -- what the query gives
 module _ (c : tie.After-in-cell) where
   abbrev start : tie.Start
   start = c .before .before .before
 
-  is : outcomeOfReading (c .in-cell .result) ≡ done (doseFrom (shape start) (now (start .args .records)) (start .args .cell))
+  is : outcomeOfReading (c .in-cell .result)
+      ≡ done (doseFrom (start .args .second) (shape start) (now (start .args .records)) (start .args .cell))
   is =
       let step = placeAt (c .before .before .middle-of .result) in
       c .in-cell .ensures
-      ∙ ap (λ (s : Shape). byCell s (now (start .args .records)) dose (placeAt (start .args .cell)) step) (c .before .shape-of .ensures)
-      ∙ answered (shape start) (now (start .args .records)) (start .args .cell) step (start .pre .0) (start .pre .1)
-      (c .before .before .middle-of .ensures)
+      ∙ ap (λ (s : Shape). byCell (fullShape s (start .args .second)) (now (start .args .records)) dose (placeAt (start .args .cell)) step)
+      (c .before .shape-of .ensures)
+      ∙ answered (start .args .second) (shape start) (now (start .args .records)) (start .args .cell) step (start .pre .0)
+      (start .pre .1) (c .before .before .middle-of .ensures)
 
 enum-told : tie.Need-enum-told
 enum-told c = search needs

@@ -5,11 +5,9 @@ use native.Mathlib.Omega.{arith}
 use lib.ListN.{length, take}
 use denote.Ref.{now}
 use Rattle.lattice.specs.declared.Shape.{Shape}
-use Rattle.lattice.specs.Shape.{size}
+use Rattle.lattice.specs.Shape.{shapeOf, size}
 use Rattle.estimate.specs.Estimate.{Estimable, estimateWrites}
 use Rattle.estimate.proofs.CallLaws.{estimated}
-use Rattle.table_file.specs.File.{header}
-use Rattle.report.specs.Report.{withDegree}
 use Rattle.estimated.proofs.Estimated.{lent}
 use borrow.Author.Needs.{needs}
 use Rattle.report.proofs.estimate_degree.Statement.{statement}
@@ -17,7 +15,7 @@ use Rattle.report.proofs.estimate_degree.Tie as tie
 
 module _ (c : tie.Start) where
   abbrev shape : Shape
-  shape = withDegree (header (c .args .axes) (c .args .counts)) (c .args .degree)
+  shape = shapeOf (c .args .axes) (c .args .degree) (c .args .counts)
 
   known : Estimable shape (now (c .args .samples)) (length (now (c .args .records)))
   known = estimated shape (now (c .args .samples)) (length (now (c .args .records))) (c .pre)

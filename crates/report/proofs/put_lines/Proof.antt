@@ -12,7 +12,7 @@ use Rattle.lattice.specs.declared.Shape.{Shape}
 use Rattle.lattice.specs.Buffer.{tabulate}
 use Rattle.lattice.specs.Shape.{Shaped}
 use Rattle.lattice.proofs.ShapeLaws.{shaped}
-use Rattle.table_file.specs.File.{header}
+use Rattle.table_file.specs.File.{Header, header}
 use Rattle.text.specs.Lines.{Put}
 use Rattle.text.proofs.LineLaws.{put-as, put-length}
 use Rattle.cell.specs.Cells.{cellsAlong, cellCount, cellAt, Between}
@@ -24,19 +24,22 @@ use borrow.Author.Needs.{needs}
 use Rattle.report.proofs.put_lines.Statement.{statement}
 use Rattle.report.proofs.put_lines.Tie as tie
 
-abbrev lineAt : ℕ → List ℕ → List ℤ → List ℤ → ℕ → List ℕ
-lineAt axes counts cubic quintic i = lineFrom (header axes counts) cubic quintic (cellAt (withDegree (header axes counts) 3) i)
+abbrev lineAt : Header → List ℤ → List ℤ → ℕ → List ℕ
+lineAt h cubic quintic i = lineFrom h cubic quintic (cellAt (withDegree h 3) i)
 
 abbrev Inv-loop : tie.InvT-loop
-Inv-loop axes counts cubic quintic out₀ cells total at₀ i₀ out at i =
-    (i ≤ total) × (at ≤ lineLimit * i) × Put out₀ 0 (joined i (lineAt axes counts cubic quintic)) out at
+Inv-loop axes counts second cubic quintic out₀ cells total at₀ i₀ out at i =
+    (i ≤ total) × (at ≤ lineLimit * i) × Put out₀ 0 (joined i (lineAt (header axes counts second) cubic quintic)) out at
 
 abbrev μ-loop : tie.MeasureT-loop
-μ-loop axes counts cubic quintic out₀ cells total at₀ i₀ out at i = total - i
+μ-loop axes counts second cubic quintic out₀ cells total at₀ i₀ out at i = total - i
 
 -- the table's shape and its cells
+abbrev read : tie.Start Inv-loop μ-loop → Header
+read s = header (s .args .axes) (s .args .counts) (s .args .second)
+
 abbrev table : tie.Start Inv-loop μ-loop → Shape
-table s = withDegree (header (s .args .axes) (s .args .counts)) 3
+table s = withDegree (read s) 3
 
 shape : (s : tie.Start Inv-loop μ-loop) → Shaped (table s)
 shape s = shaped (table s) (s .pre .0 .0 .shape)
@@ -69,7 +72,7 @@ mul-total c = let b = between c in let h : getD (cells c) 1 0 * getD (cells c) 2
 
 loop-holds : tie.Need-loop-holds Inv-loop μ-loop
 loop-holds c = let a = start c .args in
-    (omega arith, omega arith, lines-none (lineAt (a .axes) (a .counts) (now (a .cubic)) (now (a .quintic))) (now (a .out)))
+    (omega arith, omega arith, lines-none (lineAt (read (start c)) (now (a .cubic)) (now (a .quintic))) (now (a .out)))
 
 put-line-requires : tie.Need-put-line-requires Inv-loop μ-loop
 put-line-requires c κs =
@@ -93,11 +96,12 @@ loop-again c =
     let p = c .before .before .put-line in
     let d = c .before .before .before .before in
     let l = d .before .before .loop in
-    let a = start (first d) .args in
-    let e = ap (lineFrom (header (a .axes) (a .counts)) (now (a .cubic)) (now (a .quintic))) (cell d) in (
+    let s = start (first d) in
+    let a = s .args in
+    let e = ap (lineFrom (read s) (now (a .cubic)) (now (a .quintic))) (cell d) in (
       omega arith,
       omega (arith, p .ensures .1, l .inv .1),
-      lines-more (lineAt (a .axes) (a .counts) (now (a .cubic)) (now (a .quintic))) (l .i) (l .inv .2) (put-as e (p .ensures .0)),
+      lines-more (lineAt (read s) (now (a .cubic)) (now (a .quintic))) (l .i) (l .inv .2) (put-as e (p .ensures .0)),
     )
 
 returns : tie.Need-returns Inv-loop μ-loop

@@ -15,7 +15,7 @@ use Rattle.report.proofs.put_table.Statement.{statement}
 use Rattle.report.proofs.put_table.Tie as tie
 
 abbrev table : tie.Start → Header
-table c = header (c .args .axes) (c .args .counts)
+table c = header (c .args .axes) (c .args .counts) (c .args .second)
 
 abbrev samples : tie.Start → List ℤ
 samples c = now (c .args .samples)

@@ -29,7 +29,7 @@ module _ (c : tie.After-check-estimate) where
   s = c .before .before .before
 
   abbrev table : Header
-  table = header (s .args .axes) (s .args .counts)
+  table = header (s .args .axes) (s .args .counts) (s .args .second)
 
   abbrev samples : List ℤ
   samples = now (s .args .samples)

@@ -1,4 +1,4 @@
--- `check_two` meets its contract: 6, then 8, 6 and 7 with the number that was read.
+-- `check_two` meets its contract: 6, then 8 and 6 with the number that was read.
 use mathlib.Core.Path.{_≡_, sym, ap, ap₂, _∙_}
 use Prim.Native.Nat.{ℕ, _+_}
 use native.Mathlib.Omega.{arith}
@@ -26,13 +26,13 @@ returns c =
 
 returns-2 : tie.Need-returns-2
 returns-2 c =
-    let s = c .before .before in
-    let t = s .before .before in
+    let s = c .before in
+    let t = s .before in
     let d = t .before .before in
     let b = d .before .before .before .before in
-    c .earlier2 .ensures
+    c .earlier .ensures
     ∙ ap₂ first (t .refuse-unless .ensures ∙ ap (λ (k : ℕ). refuseUnless (eqb k (b .args .nodes)) 8 0) (t .before .number-at .ensures))
-    (c .before .earlier .ensures ∙ ap₂ first (s .before .check-complete2 .ensures) (s .refuse-unless2 .ensures))
+    (s .check-complete2 .ensures)
     ∙ sym (two-is (b .args .bytes .now) (b .args .axes) (b .args .nodes) (b .pre) ∙ first-passed _ _ (whole d))
 
 pub check-two-spec : {M : Type 1} → statement M
@@ -47,12 +47,9 @@ check-two-spec =
     (λ c. search needs)
     (λ c κs. omega (arith, complete-holds _ _ (whole c)))
     (λ c. search needs)
+    (λ c κs. search needs)
     (λ c. search needs)
     (λ c. search needs)
-    (λ c. search needs)
-    (λ c κs. search needs)
-    (λ c κs. search needs)
-    (λ c κs. search needs)
     (λ c κs. search needs)
     (λ c κs. search needs)
     returns-2)

@@ -6,6 +6,7 @@ use Rattle.lattice.specs.Outcome.{done}
 use Rattle.lattice.specs.Shape.{shapeOf, shapeOutcome, nodes}
 use Rattle.lattice.proofs.OutcomeLaws.{first-passed, refused-first}
 use Rattle.lattice.proofs.ShapeLaws.{shaped}
+use Rattle.table_file.specs.File.{header}
 use Rattle.table_file.proofs.WriteLaws.{write-is, AfterShape, after-shape}
 use borrow.Author.Needs.{needs}
 use Rattle.table_file.proofs.check_write.Statement.{statement}
@@ -17,13 +18,15 @@ shape-passes c =
     let d = c .before .before in
     ap shapeOutcome (sym (d .before .shape-of .ensures)) ∙ sym (d .check-shape .ensures) ∙ ap outcomeOf (c .enum-told2 .given .1)
 
-facts : (c : tie.After-node-count)
-    → let a = c .before .before .before .before .before .args in
-    AfterShape (a .axes) (a .counts) (a .samples .now) (a .room) (c .node-count .result)
+facts : (c : tie.After-three-numbers)
+    → let a = c .before .before .before .before .before .before .args in
+    AfterShape (header (a .axes) (a .counts) (a .second)) (a .samples .now) (a .room) (c .before .node-count .result)
+    (c .three-numbers .result)
 facts c =
-    let d = c .before .before .before .before in
-    after-shape _ _ _ _ _ (omega (arith, d .before .good .1 .0)) (shape-passes (c .before))
-    (c .node-count .ensures ∙ ap nodes (d .shape-of .ensures))
+    let n = c .before in
+    let d = n .before .before .before .before in
+    after-shape _ _ _ _ _ (omega (arith, d .before .good .1 .0)) (shape-passes (n .before))
+    (n .node-count .ensures ∙ ap nodes (d .shape-of .ensures)) (c .three-numbers .ensures .0)
 
 returns : tie.Need-returns
 returns c =
@@ -31,7 +34,7 @@ returns c =
     let a = d .before .before .args in
     let g = ap outcomeOf (c .enum-told .given .1) in
     let tested = sym (d .check-shape .ensures ∙ ap shapeOutcome (d .before .shape-of .ensures)) ∙ g in
-    g ∙ sym (write-is (a .axes) (a .counts) (a .samples .now) (a .room) ∙ refused-first _ tested)
+    g ∙ sym (write-is (header (a .axes) (a .counts) (a .second)) (a .samples .now) (a .room) ∙ refused-first _ tested)
 
 returns-2 : tie.Need-returns-2
 returns-2 c =
@@ -66,8 +69,10 @@ check-write-spec =
     (λ c. search needs)
     (λ c κs. rw (c .before .before .before .shape-of .ensures) (shaped _ (shape-passes c)))
     (λ c. search needs)
+    (λ c. search needs)
     (λ c. omega (arith, facts c))
-    (λ c. omega (arith, facts c))
+    (λ c. omega (arith, facts c, c .three-numbers .ensures .1))
+    (λ c. omega (arith, facts c, c .three-numbers .ensures .1))
     (λ c κs. search needs)
     (λ c. search needs)
     returns-2

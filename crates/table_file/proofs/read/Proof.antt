@@ -10,7 +10,7 @@ use Rattle.lattice.specs.Outcome.{done}
 use Rattle.lattice.proofs.OutcomeLaws.{first-passed, refused-first}
 use Rattle.table_file.specs.File.{oneOutcome}
 use Rattle.table_file.specs.Parser.{restOutcome, AfterOne}
-use Rattle.table_file.proofs.ReadLaws.{shaped-in, header-is, after-one, rest-facts, samples-held, samples-are}
+use Rattle.table_file.proofs.ReadLaws.{shaped-in, header-is, after-one, start-is, rest-facts, samples-held, samples-are}
 use Rattle.table_file.proofs.TakenLaws.{read-is}
 use Rattle.table_file.proofs.WriteLaws.{answered-refused, answered-done}
 use borrow.Author.Needs.{needs}
@@ -45,22 +45,26 @@ returns-2 c =
     (read-is _ _ ∙ first-passed _ _ (one-passed (d .before .before .before))
     ∙ refused-first _ (sym (d .check-rest .ensures) ∙ ap outcomeOf (c .before .rest .given .1)))
 
+second-in-requires : tie.Need-second-in-requires
+second-in-requires c κs = start-is _ _ _ (one-gave (c .before .before .before))
+
 fill-requires : tie.Need-fill-requires
 fill-requires c κs =
-    let d = c .before in
+    let d = c .before .before in
     let p = one-gave (d .before .before .before) in
     let f = rest-facts _ _ (rest-passed d) in
-    (samples-held _ _ _ p (f .0), omega (arith, p .nodes-is, f .1))
+    (samples-held _ _ _ p (f .two), omega (arith, p .nodes-is, f .roomy))
 
 returns-3 : tie.Need-returns-3
 returns-3 c =
     let f = c .before .before .before .before in
-    let d = f .before .before in
+    let t = f .before .before in
+    let d = t .before in
     let n = d .before .before .before in
     let old = begun n .args .samples .now in
     answered-done _ _ old _ _
     (read-is _ _ ∙ first-passed _ _ (one-passed (n .before .before)) ∙ first-passed _ _ (rest-passed d)
-    ∙ ap done (header-is _ _ (n .before .shape-in .ensures)))
+    ∙ ap done (header-is _ _ _ (n .before .shape-in .ensures) (t .second-in .ensures)))
     (f .fill .ensures ∙ ap (λ (xs : List ℤ). overwrite xs old) (samples-are _ _ _ (one-gave n)))
 
 pub read-spec : {M : Type 1} → statement M
@@ -78,6 +82,9 @@ read-spec =
     (λ c. search needs)
     returns-2
     (λ c. search needs)
+    (λ c. search needs)
+    (λ c. omega (arith, one-gave (c .before .before .before)))
+    second-in-requires
     (λ c. search needs)
     fill-requires
     (λ c. search needs)

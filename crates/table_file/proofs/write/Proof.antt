@@ -5,14 +5,17 @@ use lib.ListN.{length}
 use Rattle.lattice.specs.Answers.{outcomeOf}
 use Rattle.lattice.specs.Outcome.{done}
 use Rattle.lattice.proofs.OutcomeLaws.{first-passed, refused-first}
-use Rattle.table_file.specs.File.{header, writeCheck, writeOutcome}
+use Rattle.table_file.specs.File.{Header, header, writeCheck, writeOutcome}
 use Rattle.table_file.proofs.WriteLaws.{fit, fit-size, answered-refused, answered-done}
 use borrow.Author.Needs.{needs}
 use Rattle.table_file.proofs.write.Statement.{statement}
 use Rattle.table_file.proofs.write.Tie as tie
 
+abbrev table : tie.Start → Header
+table c = header (c .args .axes) (c .args .counts) (c .args .second)
+
 passed : (d : tie.After-enum-told)
-    → writeCheck (header (d .before .before .before .before .args .axes) (d .before .before .before .before .args .counts))
+    → writeCheck (table (d .before .before .before .before))
     (d .before .before .before .before .args .samples .now) (length (d .before .before .before .before .args .bytes .now)) ≡ done tt
 passed d = sym (d .before .before .check-write .ensures) ∙ ap outcomeOf (d .enum-told .given .1)
 
@@ -20,7 +23,7 @@ put-file-requires : tie.Need-put-file-requires
 put-file-requires c κs =
     let b = c .before .before .before .before .before in
     let f = fit _ _ _ (omega (arith, b .good .1 .0)) (passed (c .before)) in
-    let s = fit-size _ _ _ (f .0) in
+    let s = fit-size _ _ (f .0) in
     (s .0, s .1, omega (arith, s .2, f .1))
 
 returns : tie.Need-returns
