@@ -1,4 +1,5 @@
-/* A cubic table of two nodes: estimates its records and prints the dose half way between them. */
+/* A cubic table of two nodes: estimates its records and prints the dose half way between them, and
+ * whether anything was rounded off. */
 #include "lukhtari.h"
 
 #include <inttypes.h>
@@ -20,10 +21,10 @@ int main(void) {
         return refused("estimate", done.number, done.place);
     }
     lukhtari_position position = {{128, 0, 0}}; /* 256 steps a cell */
-    lukhtari_whole dose = lukhtari_dose(shape, records, entries, position);
+    lukhtari_marked dose = lukhtari_dose(shape, records, entries, position);
     if (dose.number != LUKHTARI_NOT_REFUSED) {
         return refused("dose", dose.number, dose.place);
     }
-    printf("dose at step 128: %" PRId32 "\n", dose.value);
+    printf("dose at step 128: %" PRId32 ", %s\n", dose.value, dose.exact ? "exact" : "rounded");
     return 0;
 }

@@ -56,6 +56,13 @@
  * not the estimates, coefficients and positions, not the step of a float, whose halves go up, and
  * no refusal but those of the file. The distances hold for both.
  *
+ * The mark. A dose by position or by cell is marked, exact is true, if and only if no stage dropped
+ * anything: each number that a stage makes, also one that a later stage gives the weight 0, is a
+ * whole number of eighths, the dose a whole number of units, before it is rounded. A marked dose
+ * equals the exact dose. One that is not marked may equal it by luck. Both editions mark the same
+ * doses. Cells that share a point may differ in the mark; a position is read in the upper one.
+ * Slopes, curvatures, floats and ramps carry no mark.
+ *
  * A ramp. A list of at most LUKHTARI_RAMP_MAX positions stands in one slice, three numbers each, x
  * first. lukhtari_ramp writes one dose for each, the one that lukhtari_dose gives. The corner
  * records are fetched only where the cell differs from that of the position before: the number of
@@ -93,8 +100,8 @@
  *
  * Results. Every result has a number and a place. Number 0 means not refused, and then place is 0.
  * Any other number is a refusal, one of enum lukhtari_refusal: no buffer is written, value, axes,
- * counts, length and fetches are 0, and second_edition is false. Place is the first offending index
- * as said there, else 0. A buffer longer than needed keeps its tail.
+ * counts, length and fetches are 0, and exact and second_edition are false. Place is the first
+ * offending index as said there, else 0. A buffer longer than needed keeps its tail.
  *
  * Refusals come before reading. Every call but lukhtari_read, lukhtari_import and lukhtari_ramp
  * gives each refusal but 5, 13 and 19 by the numbers and lengths handed over, before it reads an
@@ -122,7 +129,7 @@ extern "C" {
 #endif
 
 /* The number of this interface; another number means other structs, calls or names. */
-#define LUKHTARI_INTERFACE 7
+#define LUKHTARI_INTERFACE 8
 
 /* Steps of a cell along an axis. */
 #define LUKHTARI_STEPS 256
@@ -277,12 +284,20 @@ typedef struct lukhtari_done {
     uint64_t place;
 } lukhtari_done;
 
-/* A dose in units, a slope in units per cell, or a curvature in units per cell squared. */
+/* A slope in units per cell, or a curvature in units per cell squared. */
 typedef struct lukhtari_whole {
     uint32_t number;
     uint64_t place;
     int32_t value;
 } lukhtari_whole;
+
+/* A dose in units, and whether no stage dropped anything: then it equals the exact dose. */
+typedef struct lukhtari_marked {
+    uint32_t number;
+    uint64_t place;
+    int32_t value;
+    bool exact;
+} lukhtari_marked;
 
 /* A dose or slope as a float, which equals the whole number exactly. */
 typedef struct lukhtari_real {
@@ -329,6 +344,7 @@ LUKHTARI_SIZE(lukhtari_position, 12);
 LUKHTARI_SIZE(lukhtari_float_position, 12);
 LUKHTARI_SIZE(lukhtari_done, 16);
 LUKHTARI_SIZE(lukhtari_whole, 24);
+LUKHTARI_SIZE(lukhtari_marked, 24);
 LUKHTARI_SIZE(lukhtari_real, 24);
 LUKHTARI_SIZE(lukhtari_table, 40);
 LUKHTARI_SIZE(lukhtari_written, 24);
@@ -360,11 +376,11 @@ lukhtari_done lukhtari_corners(uint32_t axes, uint32_t degree, const int32_t *co
 lukhtari_done lukhtari_powers(lukhtari_shape shape, const int32_t *records, size_t records_len,
                               lukhtari_index cell, int32_t *out, size_t out_len);
 
-/* Dose at a table position.
+/* Dose at a table position, with its mark.
  * Refusals in order: 1, 2, 3, 4, on each axis 23, 22 and then 11, 5 (the cell's corners in
  * order). */
-lukhtari_whole lukhtari_dose(lukhtari_shape shape, const int32_t *records, size_t records_len,
-                             lukhtari_position position);
+lukhtari_marked lukhtari_dose(lukhtari_shape shape, const int32_t *records, size_t records_len,
+                              lukhtari_position position);
 
 /* Slope along an axis (0 for x, 1 for y, 2 for z) at a table position.
  * Refusals in order: 1, 2, 3, 4, 12, on each axis 23, 22 and then 11, 5 (the cell's corners in
@@ -372,11 +388,11 @@ lukhtari_whole lukhtari_dose(lukhtari_shape shape, const int32_t *records, size_
 lukhtari_whole lukhtari_slope(lukhtari_shape shape, const int32_t *records, size_t records_len,
                               lukhtari_position position, uint32_t axis);
 
-/* Dose at the steps u (0 to 256) within a cell.
+/* Dose at the steps u (0 to 256) within a cell, with its mark.
  * Refusals in order: 1, 2, 3, 4, 14 (each axis), on each axis 23 and then 11, 5 (the cell's corners
  * in order). */
-lukhtari_whole lukhtari_dose_in_cell(lukhtari_shape shape, const int32_t *records,
-                                     size_t records_len, lukhtari_index cell, lukhtari_index u);
+lukhtari_marked lukhtari_dose_in_cell(lukhtari_shape shape, const int32_t *records,
+                                      size_t records_len, lukhtari_index cell, lukhtari_index u);
 
 /* Slope along an axis at the steps u (0 to 256) within a cell.
  * Refusals in order: 1, 2, 3, 4, 12, 14 (each axis), on each axis 23 and then 11, 5 (the cell's

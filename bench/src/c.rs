@@ -1,4 +1,4 @@
-//! Doses by position beside hand-written C, called through the same interface.
+//! Doses by position beside hand-written C, called through the same interface and without a mark.
 
 use super::clock::{side_by_side, Run};
 use super::inputs::{cube, estimable, positions, KINDS};
@@ -7,8 +7,6 @@ use lukhtari::ffi::{lukhtari_dose, Position, Whole};
 use lukhtari::{estimate, Shape};
 
 const POINTS: usize = 1024;
-
-type Call = unsafe extern "C" fn(Shape, *const i32, usize, Position) -> Whole;
 
 extern "C" {
     fn dose_by_hand(shape: Shape, records: *const i32, length: usize, position: Position) -> Whole;
@@ -21,22 +19,27 @@ pub fn run() {
         let mut records = vec![0; shape.entries()];
         estimate(shape, &estimable(shape), &mut records).expect("accepted table");
         let positions = positions(shape, POINTS);
-        let ask = |call: Call, at: [i32; 3]| {
-            // SAFETY: the pointer and the length are those of the records.
-            unsafe { call(shape, records.as_ptr(), records.len(), Position { at }) }
-        };
+        let (from, length) = (records.as_ptr(), records.len());
+        // SAFETY: here and below the pointer and the length are those of the records.
+        let library = |at| unsafe { lukhtari_dose(shape, from, length, Position { at }) };
+        let by_hand = |at| unsafe { dose_by_hand(shape, from, length, Position { at }) };
         for &at in &positions {
-            assert_eq!(ask(lukhtari_dose, at), ask(dose_by_hand, at));
+            let (dose, hand) = (library(at), by_hand(at));
+            assert_eq!(
+                (dose.number, dose.place, dose.value),
+                (hand.number, hand.place, hand.value)
+            );
         }
-        let run = |call: Call| -> Run {
-            let (ask, positions) = (&ask, &positions);
-            Box::new(move || {
-                let value = |&at: &[i32; 3]| ask(call, at).value as i64;
-                positions.iter().map(value).sum()
-            })
-        };
-        let mut runs = [run(lukhtari_dose), run(dose_by_hand)];
+        let mut runs = [
+            over(&positions, |at| library(at).value),
+            over(&positions, |at| by_hand(at).value),
+        ];
         let times = side_by_side(POINTS, &mut runs);
         line(&kind(degree, axes), &times);
     }
+}
+
+// A run of one call over all positions.
+fn over<'a>(positions: &'a [[i32; 3]], call: impl Fn([i32; 3]) -> i32 + 'a) -> Run<'a> {
+    Box::new(move || positions.iter().map(|&at| call(at) as i64).sum())
 }

@@ -1,5 +1,5 @@
-/* The dose at a table position by hand: the whole call, with a copy of the code for each degree, number of axes and
- * edition, and the table folded into the weights. */
+/* The dose at a table position by hand: the whole call but for the mark, with a copy of the code for each degree, number
+ * of axes and edition, and the table folded into the weights. */
 #include "lukhtari.h"
 
 #define INLINE static inline __attribute__((always_inline))

@@ -26,7 +26,7 @@ pub fn run() {
 fn ask(shape: Shape, records: &[i32], at: [i32; 3], want: Want) -> Answer<i32> {
     match want {
         Want::Slope(axis) => slope(shape, records, at, axis),
-        _ => dose(shape, records, at),
+        _ => dose(shape, records, at).map(|dose| dose.value),
     }
 }
 

@@ -88,7 +88,7 @@ mod linked {
         let mut runs: [Run; 2] = [
             Box::new(|| {
                 let answer = |&p: &[i32; 3]| dose(shape, &records, p).expect("accepted query");
-                points.iter().map(|p| answer(p) as i64).sum()
+                points.iter().map(|p| answer(p).value as i64).sum()
             }),
             Box::new(|| {
                 inputs

@@ -6,7 +6,7 @@
 //! Doses, slopes and curvatures by hand are of two kinds: specialised, with one copy of the code
 //! for each degree, number of axes, axis worked off last and edition; and plain, with one copy for
 //! all of them. Each kind works off an axis in two ways: as printed, and with the table folded into
-//! the weights.
+//! the weights. Doses by hand carry no mark; the library's do.
 
 mod c;
 mod clock;

@@ -112,7 +112,7 @@ impl Table {
     fn by_position(&self, want: Want) -> Vec<f64> {
         let (shape, records) = (self.shape, &self.records[..]);
         let library = |p| match want {
-            Want::Dose => dose(shape, records, p),
+            Want::Dose => dose(shape, records, p).map(|dose| dose.value),
             Want::Slope(axis) => slope(shape, records, p, axis),
             Want::Curvature(axis) => curvature(shape, records, p, axis),
         };
@@ -144,7 +144,7 @@ impl Table {
         let points = self.positions.iter().map(|&p| cell_and_u(shape, p));
         let points: &[CellAndU] = &points.collect::<Vec<_>>();
         let library = |cell, u| match want {
-            Want::Dose => dose_in_cell(shape, records, cell, u),
+            Want::Dose => dose_in_cell(shape, records, cell, u).map(|dose| dose.value),
             Want::Slope(axis) => slope_in_cell(shape, records, cell, u, axis),
             Want::Curvature(axis) => curvature_in_cell(shape, records, cell, u, axis),
         };

@@ -38,7 +38,7 @@ fn own_calls(
     answers: &mut [i32],
 ) -> Result<u64, Refusal> {
     for (answer, &position) in answers.iter_mut().zip(positions) {
-        *answer = dose(shape, records, position)?;
+        *answer = dose(shape, records, position)?.value;
     }
     Ok(0)
 }

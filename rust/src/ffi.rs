@@ -58,7 +58,7 @@ pub struct Done {
     pub place: u64,
 }
 
-/// A dose, slope or curvature, or a refusal.
+/// A slope or curvature, or a refusal.
 #[repr(C)]
 #[derive(Clone, Copy, Debug, PartialEq, Eq)]
 pub struct Whole {
@@ -66,9 +66,22 @@ pub struct Whole {
     pub number: u32,
     /// Place of the refusal, else 0
     pub place: u64,
-    /// Dose in units, slope in units per cell or curvature in units per cell squared, 0 where
-    /// refused
+    /// Slope in units per cell or curvature in units per cell squared, 0 where refused
     pub value: i32,
+}
+
+/// A dose and its mark, or a refusal.
+#[repr(C)]
+#[derive(Clone, Copy, Debug, PartialEq, Eq)]
+pub struct Marked {
+    /// 0, or the number of the refusal
+    pub number: u32,
+    /// Place of the refusal, else 0
+    pub place: u64,
+    /// Dose in units, 0 where refused
+    pub value: i32,
+    /// No stage dropped anything, and false where refused
+    pub exact: bool,
 }
 
 /// A dose or slope as a float, or a refusal.
@@ -199,7 +212,7 @@ extern "C" {
         records: *const i32,
         records_len: usize,
         position: Position,
-    ) -> Whole;
+    ) -> Marked;
 
     /// Slope at a table position: see [`slope`](crate::slope).
     ///
@@ -225,7 +238,7 @@ extern "C" {
         records_len: usize,
         cell: Index,
         u: Index,
-    ) -> Whole;
+    ) -> Marked;
 
     /// Slope within a cell: see [`slope_in_cell`](crate::slope_in_cell).
     ///

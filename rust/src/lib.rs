@@ -15,6 +15,9 @@
 //!
 //! A table has one of two editions, a part of its shape: the stages of an answer round halves up in
 //! edition one and to the even number in edition two. Nothing else depends on it.
+//!
+//! A [`Dose`] by position or by cell is marked exact where no stage dropped anything; slopes,
+//! curvatures, floats and ramps carry no mark.
 
 #![no_std]
 #![warn(missing_docs)]
@@ -38,7 +41,7 @@ mod powers;
 pub use powers::powers;
 
 mod whole;
-pub use whole::{curvature, curvature_in_cell, dose, dose_in_cell, slope, slope_in_cell};
+pub use whole::{curvature, curvature_in_cell, dose, dose_in_cell, slope, slope_in_cell, Dose};
 
 mod ramp;
 pub use ramp::ramp;

@@ -1,7 +1,7 @@
 //! Limits of tables and the largest sizes of buffers, as `lukhtari.h` has them.
 
 /// Number of the C interface; another number means other structs, calls or names.
-pub const INTERFACE: u32 = 7;
+pub const INTERFACE: u32 = 8;
 
 /// Steps of a cell along an axis.
 pub const STEPS: u32 = 256;

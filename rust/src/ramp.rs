@@ -6,9 +6,9 @@ use crate::{ffi, Refusal, Shape};
 /// Writes the doses at up to 256 table positions, in units, to the front of `answers`, and returns
 /// how often the corner records of a cell were fetched.
 ///
-/// Each answer is the one of [`dose`](crate::dose) at its position. The number of fetches is 0 for
-/// an empty list, else one more than the number of neighbouring pairs of positions with different
-/// cells.
+/// Each answer is the value of [`dose`](crate::dose) at its position, without its mark. The number of
+/// fetches is 0 for an empty list, else one more than the number of neighbouring pairs of positions
+/// with different cells.
 ///
 /// Refusals in order, also for an empty list: 1, 2, 3, 20, 4, 9; then position by position 23, 22
 /// and 11 on each axis, 5, with the index of the position in the list as place.

@@ -3,16 +3,41 @@
 use crate::answer::answer;
 use crate::{ffi, Refusal, Shape};
 
-/// Dose at a table position, in units.
+/// A dose by position or by cell, and its mark.
+#[derive(Clone, Copy, Debug, PartialEq, Eq)]
+pub struct Dose {
+    /// In units
+    pub value: i32,
+    /// The mark: no stage dropped anything, not even of a number of weight 0. Then the dose equals
+    /// the exact interpolant; one that is not marked may equal it by luck.
+    pub exact: bool,
+}
+
+// A result with its mark.
+#[inline]
+fn dose_of(result: ffi::Marked) -> Result<Dose, Refusal> {
+    let ffi::Marked {
+        number,
+        place,
+        value,
+        exact,
+    } = result;
+    answer(number, place, Dose { value, exact })
+}
+
+/// Dose at a table position, with its mark.
 ///
 /// Refusals in order: 1, 2, 3, 4, then 23, 22 and 11 on each axis, 5.
 ///
 /// ```
-/// use lukhtari::{dose, estimate, Refusal, Shape};
+/// use lukhtari::{dose, estimate, Dose, Refusal, Shape};
 /// let shape = Shape { axes: 1, degree: 3, counts: [2, 1, 1], second_edition: false };
 /// let mut records = [0; 4];
 /// estimate(shape, &[0, 100], &mut records)?;
-/// assert_eq!(dose(shape, &records, [64, 0, 0])?, 25);
+/// assert_eq!(dose(shape, &records, [64, 0, 0])?, Dose { value: 25, exact: true });
+///
+/// // 25.390625, rounded.
+/// assert_eq!(dose(shape, &records, [65, 0, 0])?, Dose { value: 25, exact: false });
 ///
 /// // Beyond the last node, below 0, and not 0 on an unused axis.
 /// for (position, number, place) in [([257, 0, 0], 11, 0), ([-1, 0, 0], 22, 0), ([0, 1, 0], 23, 1)] {
@@ -22,11 +47,10 @@ use crate::{ffi, Refusal, Shape};
 /// # Ok::<(), Refusal>(())
 /// ```
 #[inline]
-pub fn dose(shape: Shape, records: &[i32], position: [i32; 3]) -> Result<i32, Refusal> {
+pub fn dose(shape: Shape, records: &[i32], position: [i32; 3]) -> Result<Dose, Refusal> {
     let position = ffi::Position { at: position };
     // SAFETY: the slice is lent for the call, with its length.
-    let result = unsafe { ffi::lukhtari_dose(shape, records.as_ptr(), records.len(), position) };
-    answer(result.number, result.place, result.value)
+    dose_of(unsafe { ffi::lukhtari_dose(shape, records.as_ptr(), records.len(), position) })
 }
 
 /// Slope along an axis at a table position, in units per cell.
@@ -53,16 +77,20 @@ pub fn slope(shape: Shape, records: &[i32], position: [i32; 3], axis: u32) -> Re
     answer(result.number, result.place, result.value)
 }
 
-/// Dose at the steps `u` within a cell, in units.
+/// Dose at the steps `u` within a cell, with its mark. Cells that share a point agree on the dose;
+/// they may differ in the mark.
 ///
 /// Refusals in order: 1, 2, 3, 4, 14, then 23 and 11 on each axis, 5.
 ///
 /// ```
 /// use lukhtari::{dose_in_cell, estimate, Refusal, Shape};
-/// let shape = Shape { axes: 1, degree: 3, counts: [2, 1, 1], second_edition: false };
-/// let mut records = [0; 4];
-/// estimate(shape, &[0, 100], &mut records)?;
-/// assert_eq!(dose_in_cell(shape, &records, [0, 0, 0], [256, 0, 0])?, 100);
+/// let shape = Shape { axes: 2, degree: 3, counts: [2, 4, 1], second_edition: false };
+/// let mut records = [0; 32];
+/// estimate(shape, &[0, 0, 0, 0, 0, 0, 0, 1], &mut records)?;
+/// let lower = dose_in_cell(shape, &records, [0, 0, 0], [16, 256, 0])?;
+/// let upper = dose_in_cell(shape, &records, [0, 1, 0], [16, 0, 0])?;
+/// assert_eq!((lower.value, upper.value), (0, 0));
+/// assert!(lower.exact && !upper.exact);
 /// # Ok::<(), Refusal>(())
 /// ```
 #[inline]
@@ -71,12 +99,12 @@ pub fn dose_in_cell(
     records: &[i32],
     cell: [u32; 3],
     u: [u32; 3],
-) -> Result<i32, Refusal> {
+) -> Result<Dose, Refusal> {
     let (cell, u) = (ffi::Index { at: cell }, ffi::Index { at: u });
     // SAFETY: the slice is lent for the call, with its length.
     let result =
         unsafe { ffi::lukhtari_dose_in_cell(shape, records.as_ptr(), records.len(), cell, u) };
-    answer(result.number, result.place, result.value)
+    dose_of(result)
 }
 
 /// Slope along an axis at the steps `u` within a cell, in units per cell.

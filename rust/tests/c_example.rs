@@ -2,7 +2,7 @@
 
 mod c;
 
-const PRINTED: &str = "dose at step 128: 50\n";
+const PRINTED: &str = "dose at step 128: 50, exact\n";
 
 // The first block of C in the README, with what stands before it.
 fn readme_block() -> (String, String) {

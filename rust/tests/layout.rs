@@ -46,6 +46,7 @@ fn layouts() -> Layout {
     layout!(all, FloatPosition, "lukhtari_float_position", x, y, z);
     layout!(all, Done, "lukhtari_done", number, place);
     layout!(all, Whole, "lukhtari_whole", number, place, value);
+    layout!(all, Marked, "lukhtari_marked", number, place, value, exact);
     layout!(all, Real, "lukhtari_real", number, place, value);
     layout!(
         all,
@@ -89,7 +90,7 @@ fn rust_name(c: &str) -> String {
 fn header_and_rust_declare_the_same() {
     let (header, rust) = (text("include/lukhtari.h"), text("rust/src/ffi.rs"));
     let (c_structs, rust_structs) = (c_structs(&header), rust_structs(&rust));
-    assert_eq!((c_structs.len(), rust_structs.len()), (10, 10));
+    assert_eq!((c_structs.len(), rust_structs.len()), (11, 11));
     for (name, fields) in &c_structs {
         assert_eq!(rust_structs.get(&rust_name(name)), Some(fields), "{name}");
     }

@@ -1,6 +1,6 @@
 //! The reference model on all worked examples and traps of document 01, as request U2 of document
 //! 02 works them out anew, on the texts of request U1, on ramps of request U5, on curvatures of
-//! request U6 and on the editions of request U9.
+//! request U6, on the editions of request U9 and on the marks of request U10.
 
 mod model;
 
@@ -10,7 +10,7 @@ use model::file::{read, write};
 use model::float::float_step;
 use model::int::Int;
 use model::program::output;
-use model::query::{locate, query, query_float, Where};
+use model::query::{locate, marked_dose, query, query_float, Where};
 use model::ramp::ramp;
 use model::stages::{axis_weights, curvature_weights, exact, slope_weights};
 use model::stages::{stages, stages_in_order, Point};
@@ -261,6 +261,29 @@ fn halves_to_even() {
         let dose = |shape: Shape| query(&shape, &records, Where::Position(at), Dose);
         assert_eq!(dose(plane), Ok(first));
         assert_eq!(dose(plane.in_edition(true)), Ok(second));
+    }
+}
+
+#[test]
+fn marks() {
+    let line = |samples: [i32; 2], p| {
+        let records = records(&line(3), &samples);
+        marked_dose(&line(3), &records, Where::Position([p, 0, 0]))
+    };
+    assert_eq!(line([0, 100], 64), Ok((25, true)));
+    assert_eq!(line([0, 100], 65), Ok((25, false)));
+    assert_eq!(line([0, 1], 128), Ok((1, false)));
+    assert_eq!(line([0, 1], 257), refused(11, 0));
+    // A number of weight 0 drops something in the upper of two cells that share the point.
+    let plane = Shape::new(2, 3, [2, 4, 1]);
+    let records = records(&plane, &[0, 0, 0, 0, 0, 0, 0, 1]);
+    for (cell, v, mark) in [(0, 256, true), (1, 0, false)] {
+        let (cell, u) = ([0, cell, 0], [16, v, 0]);
+        let dose = marked_dose(&plane, &records, Where::Cell(cell, u));
+        assert_eq!(dose, Ok((0, mark)));
+        let want = Dose;
+        let value = exact(&plane, &records, &Point { cell, u, want });
+        assert_eq!(value, Rational::ZERO);
     }
 }
 

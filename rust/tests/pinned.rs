@@ -14,6 +14,7 @@ use model::query::Where::{Cell, Position};
 use model::Rational;
 use model::Want::{self, Curvature, Dose, Slope};
 use printed::*;
+use queries::run_dose;
 
 #[test]
 fn axes_then_degree_then_counts_then_lengths() {
@@ -284,6 +285,30 @@ fn halves_to_even_in_every_stage() {
         let records = estimated(plane, &samples, 16).expect("samples");
         for (shape, answer) in editions(plane).into_iter().zip(answers) {
             check(shape, &records, Position(at), Dose, Ok(answer));
+        }
+    }
+}
+
+#[test]
+fn no_stage_drops_anything_of_a_marked_dose() {
+    // Samples, steps, dose and mark of two cells that share a point, of the position there, and of
+    // lines whose only stage drops a half or nothing.
+    let plane = shape(2, 3, [2, 4, 1]);
+    let last = [0, 0, 0, 0, 0, 0, 0, 1];
+    let line = |degree| cube(1, degree, 2);
+    for (shape, samples, at, dose, mark) in [
+        (plane, &last[..], Cell(ORIGIN, [16, 256, 0]), [0, 0], true),
+        (plane, &last, Cell([0, 1, 0], [16, 0, 0]), [0, 0], false),
+        (plane, &last, Position([16, 256, 0]), [0, 0], false),
+        (line(3), &[0, 1], Position([128, 0, 0]), [1, 0], false),
+        (line(5), &[0, 2], Position([128, 0, 0]), [1, 1], true),
+        (line(3), &[0, 100], Position([64, 0, 0]), [25, 25], true),
+        (line(5), &[0, 100], Position([65, 0, 0]), [25, 25], false),
+    ] {
+        let records = estimated(shape, samples, shape.entries()).expect("samples");
+        for (shape, dose) in editions(shape).into_iter().zip(dose) {
+            let got = run_dose(shape, &records, at);
+            assert_eq!(got, Ok((dose, mark)), "{shape:?} {at:?}");
         }
     }
 }

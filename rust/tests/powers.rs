@@ -202,7 +202,8 @@ fn doses_are_near_the_polynomial() {
         let numbers = run_out(&call).expect("accepted cell");
         let [u, v] = [0; 2].map(|_: u32| random.below(257) as u32);
         let dose = dose_in_cell(shape, &call.records, cell, [u, v, 0]).expect("accepted query");
-        let distance = (Rational::whole(dose as i64) - polynomial_at(&numbers, u, v)).abs();
+        let dose = Rational::whole(dose.value as i64);
+        let distance = (dose - polynomial_at(&numbers, u, v)).abs();
         assert!(distance <= distance_bound(2, 0));
     }
 }

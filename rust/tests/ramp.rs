@@ -15,7 +15,7 @@ use ramps::*;
 fn run_accepted(call: &Ramp) -> Ramped {
     let ramped = run_ramp(call).expect("accepted ramp");
     let own = |at| dose(call.shape, &call.records, at).expect("accepted position");
-    let own: Vec<i32> = call.list().into_iter().map(own).collect();
+    let own: Vec<i32> = call.list().into_iter().map(|at| own(at).value).collect();
     assert_eq!(ramped.answers, own, "{:?}", call.shape);
     ramped
 }
@@ -274,7 +274,8 @@ fn a_vignette_in_the_largest_table() {
     let mut answers = [0; 256];
     let fetches = ramp(shape, &records, &list, &mut answers).expect("accepted ramp");
     let own = |&at: &[i32; 3]| dose(shape, &records, at).expect("accepted position");
-    assert_eq!(answers.to_vec(), list.iter().map(own).collect::<Vec<i32>>());
+    let own: Vec<i32> = list.iter().map(|at| own(at).value).collect();
+    assert_eq!(answers.to_vec(), own);
     let cell = |&at: &[i32; 3]| locate(&plain_shape(shape), Where::Position(at)).unwrap().0;
     let cells: Vec<[u32; 3]> = list.iter().map(cell).collect();
     assert_eq!(fetches, model::ramp::fetches(&cells));

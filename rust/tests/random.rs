@@ -181,9 +181,16 @@ fn misplace(random: &mut Random, at: &mut Where, axis: usize) {
     }
 }
 
-// Makes the call, compares it with the model and returns the answer.
+// Makes the call, compares it with the model, a dose with its mark, and returns the answer.
 fn ask(query: &Query, seed: u64) -> model::Answer<i32> {
     let (shape, records) = (query.shape, &query.records[..]);
+    if let (Where::Position(_) | Where::Cell(..), Want::Dose) = (query.at, query.want) {
+        let got = plain(queries::marked(shape, records, query.at));
+        let got = got.map(|dose| (dose.value, dose.exact));
+        let expected = model::query::marked_dose(&plain_shape(shape), records, query.at);
+        assert_eq!(got, expected, "seed {seed}: {shape:?} {:?}", query.at);
+        return expected.map(|(value, _)| value);
+    }
     let whole = |answer: Result<f32, Refusal>| {
         answer.map(|float| {
             assert!(float != 0.0 || float.is_sign_positive(), "minus zero");
@@ -253,7 +260,7 @@ fn along_path(random: &mut Random, query: &Query, seed: u64) {
     }
     if let Ok(ramped) = run_ramp(&call) {
         let own = |at| dose(call.shape, &call.records, at).expect("accepted position");
-        let own: Vec<i32> = call.list().into_iter().map(own).collect();
+        let own: Vec<i32> = call.list().into_iter().map(|at| own(at).value).collect();
         assert_eq!(ramped.answers, own, "seed {seed}");
     }
 }

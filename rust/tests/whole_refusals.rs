@@ -6,14 +6,14 @@ mod positions;
 mod queries;
 
 use common::*;
-use lukhtari::Shape;
+use lukhtari::{ffi, Shape};
 use model::query::{last_step, Where};
 use model::Answer;
 use model::Want::{self, Curvature, Dose, Slope};
 use positions::{combinations, position_kinds, step_kinds};
 use queries::*;
 
-// The outcome; a refused result has value 0 and any other has place 0.
+// The outcome; a refused result has value 0 and no mark, and any other has place 0.
 #[track_caller]
 fn run_checked(query: &Query) -> Answer<()> {
     let answer = run(query);
@@ -21,11 +21,13 @@ fn run_checked(query: &Query) -> Answer<()> {
     match answer {
         Ok(value) => assert_eq!((result.number, result.place, result.value), (0, 0, value)),
         Err(refusal) => {
-            assert_eq!(
-                (result.number, result.place),
-                (refusal.number, refusal.place)
-            );
-            assert_eq!(result.value, 0);
+            let refused = ffi::Marked {
+                number: refusal.number,
+                place: refusal.place,
+                value: 0,
+                exact: false,
+            };
+            assert_eq!(result, refused);
         }
     }
     outcome(&answer)

@@ -1,12 +1,12 @@
 -- What a choice is, by its test; and facts by cases: of both degrees, of the axes, of the orders, of the numbers of two ends.
-use mathlib.Core.Path.{_≡_, refl, sym, subst}
+use mathlib.Core.Path.{_≡_, refl, sym, ap, ap₂, subst, _∙_}
 use mathlib.Core.Bool.{Bool, true, false, _&&_}
 use Prim.Native.Nat.{ℕ, zero, suc, _+_, _*_, _-_, _≤_, _<_}
 use native.Mathlib.Nat.{not-suc-le-zero}
 use native.Mathlib.Decide.{ℕ-discrete, decLt}
 use native.Mathlib.Omega.{arith}
 use lib.Dec.{T}
-use Rattle.arith.specs.Choice.{pick}
+use Rattle.arith.specs.Choice.{pick, all}
 
 pub pick-true : {A : Type 0} (c : Bool) (x y : A) → c ≡ true → pick c x y ≡ x
 unfolding pick
@@ -42,11 +42,6 @@ and-T false y t = absurd t
 pub true-and : (a b : Bool) → a ≡ true → b ≡ true → (a && b) ≡ true
 true-and a b e f = rw e f
 
--- a test computed over all numbers below a bound
-unfoldable pub all : ℕ → (ℕ → Bool) → Bool
-all zero p = true
-all (suc n) p = p n && all n p
-
 pub all-at : (n : ℕ) (p : ℕ → Bool) → T (all n p) → (i : ℕ) → i < n → T (p i)
 unfolding all
 all-at zero p t i l = absurd (not-suc-le-zero l)
@@ -55,6 +50,39 @@ all-at (suc n) p t i l = go (λ h. all-at n p (and-T (p n) (all n p) t .1) i h) 
     go : (i < n → T (p i)) → Dec (i ≡ n) → T (p i)
     go r (yes e) = subst (λ (k : ℕ). T (p k)) (sym e) (and-T (p n) (all n p) t .0)
     go r (no k) = r (omega arith)
+
+pub all-each : (n : ℕ) (p : ℕ → Bool) → all n p ≡ true → (i : ℕ) → i < n → p i ≡ true
+unfolding all
+all-each zero p h i l = absurd (not-suc-le-zero l)
+all-each (suc n) p h i l = go (λ k. all-each n p (and-true (p n) (all n p) h .1) i k) (ℕ-discrete i n)
+  where
+    go : (i < n → p i ≡ true) → Dec (i ≡ n) → p i ≡ true
+    go r (yes e) = ap p e ∙ and-true (p n) (all n p) h .0
+    go r (no k) = r (omega arith)
+
+-- equal tests, and those of two halves
+pub all-ext : (n : ℕ) (p q : ℕ → Bool) → ((i : ℕ) → i < n → p i ≡ q i) → all n p ≡ all n q
+unfolding all
+all-ext zero p q h = refl
+all-ext (suc n) p q h = ap₂ _&&_ (h n (omega arith)) (all-ext n p q (λ i l. h i (omega arith)))
+
+pub all-twice : (m : ℕ) (p : ℕ → Bool) → all (2 * m) p ≡ (all m (λ o. p (m + o)) && all m p)
+unfolding all
+all-twice m p = ap (λ (n : ℕ). all n p) {x = 2 * m} {y = m + m} (omega arith) ∙ joined m
+  where
+    assoc : (a b c : Bool) → (a && (b && c)) ≡ ((a && b) && c)
+    assoc true b c = refl
+    assoc false b c = refl
+
+    joined : (n : ℕ) → all (m + n) p ≡ (all n (λ o. p (m + o)) && all m p)
+    joined zero = ap (λ (k : ℕ). all k p) {x = m + 0} {y = m} (omega arith)
+    joined (suc n) = ap (λ (k : ℕ). all k p) {x = m + suc n} {y = suc (m + n)} (omega arith) ∙ ap (λ b. p (m + n) && b) (joined n)
+        ∙ assoc (p (m + n)) (all n (λ o. p (m + o))) (all m p)
+
+pub all-true : (n : ℕ) → all n (λ i. true) ≡ true
+unfolding all
+all-true zero = refl
+all-true (suc n) = all-true n
 
 -- m is 2 for degree 3 and 3 for degree 5
 pub by-m : (P : ℕ → Type 0) → P 2 → P 3 → (m : ℕ) → 2 ≤ m → m ≤ 3 → P m

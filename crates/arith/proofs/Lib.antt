@@ -6,6 +6,7 @@ pub mod Order
 pub mod Linear
 pub mod Abs
 pub mod Round
+pub mod Rests
 pub mod Editions
 pub mod Machine
 pub mod Sums

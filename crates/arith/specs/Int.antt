@@ -37,6 +37,10 @@ unfoldable pub roundingOf : (secondEdition : Bool) → Rounding
 roundingOf false = roundHalfUp
 roundingOf true = roundHalfEven
 
+-- x / y is a whole number
+unfoldable pub divides : ℕ → ℤ → Bool
+divides y x = eqb (natAbs x % y) 0
+
 -- x / y is a half: it lies in the middle between two whole numbers
 abbrev pub IsHalf : ℤ → ℕ → Type 0
 IsHalf x y = (q : ℤ) × (pos 2 *ℤ x ≡ (pos 2 *ℤ q +ℤ pos 1) *ℤ pos y)

@@ -1,8 +1,9 @@
 // Signed whole numbers: rounding to the nearest, size, and two's complement.
 ghost use mathlib.Core.Path.{_≡_};
 ghost use Prim.Native.Nat.{_+_, _≤_, _<_, _^_};
+ghost use lib.Dec.{eqb};
 ghost use lib.IntN.{natAbs};
-ghost use Rattle.arith.specs.Int.{roundHalfUp, roundHalfEven, roundingOf, unsignedOf};
+ghost use Rattle.arith.specs.Int.{roundHalfUp, roundHalfEven, roundingOf, divides, unsignedOf};
 
 // x / 2^(k+1) to the nearest, halves up.
 pub fn half_up(x: i64, k: u32) -> i64
@@ -33,6 +34,16 @@ pub fn rounded(even: bool, x: i64, k: u32) -> i64
         return half_even(x, k);
     }
     half_up(x, k)
+}
+
+// What a quotient x / 2^(k+1) drops: x less the multiple of 2^(k+1) below it.
+pub fn dropped(x: i64, k: u32) -> u64
+    requires { ⌜ (k ≤ 60) × (natAbs x + 2 ^ (k + 1) ≤ 2 ^ 63) ⌝ }
+    ensures { λ r. ⌜ eqb r 0 ≡ divides (2 ^ (k + 1)) x ⌝ }
+{
+    let divisor: i64 = 1 << (k + 1);
+    let below = x >> (k + 1);
+    (x - divisor * below) as u64
 }
 
 // The distance of x from 0.

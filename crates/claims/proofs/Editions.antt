@@ -5,7 +5,6 @@ use mathlib.Core.List.{List, [], _∷_}
 use Prim.Native.Nat.{ℕ, _+_, _*_, _<_}
 use native.Mathlib.Omega.{arith}
 use lib.Dec.{lit<}
-use lib.IntN.{ℤ}
 use lib.ListN.{length}
 use Rattle.arith.specs.Int.{roundHalfUp, roundingOf}
 use Rattle.arith.proofs.Editions.{off-half}
@@ -16,30 +15,24 @@ use Rattle.lattice.specs.Shape.{fullShape, orders}
 use Rattle.lattice.specs.Axes.{Place, Field, origin, put, along, sweep}
 use Rattle.lattice.proofs.OutcomeLaws.{first-after}
 use Rattle.hermite.specs.Hermite.{steps}
-use Rattle.hermite.proofs.HermiteLaws.{stage-moved}
 use Rattle.hermite.proofs.Sizes.{divisor-some}
 use Rattle.estimate.specs.Estimate.{tableRecords, recordsOf, estimateOutcome}
 use Rattle.query.specs.Queries.{askedOutcome}
 use Rattle.evaluate.specs.Evaluate.{Want, Ask, orderOn, lastAxis, divisorOn, stageOn, toEighth, toUnit, inEighths, before, answerBy, askAt}
 use Rattle.claims.specs.Third.{Query, asked, bothCalls}
+use Rattle.claims.proofs.General.{same-sum}
 use Rattle.claims.proofs.Gates.{gate}
 use Rattle.claims.proofs.Demand.{asked-known, readHere, both-is, read-is, query, both-asked}
 use Rattle.claims.specs.Editions.{OffHalves, NoHalf, EditionsAgree}
 
 module _ (second : Bool) (q : Ask) (some : (a : ℕ) → 0 < divisorOn q a) where
-  -- a stage reads the numbers of its cell
-  same-sum : (a : ℕ) (x y : ℕ → ℤ) → ((t : ℕ) → t < 2 * q .m → x (q .m * q .cell a + t) ≡ y (q .m * q .cell a + t)) → (j : ℕ)
-      → stageOn q a x j ≡ stageOn q a y j
-  unfolding stageOn
-  same-sum a x y e j = stage-moved (orderOn (q .want) a) (q .m) (q .N a) (q .cell a) (q .cell a) (q .step a) x y e j j
-
   stages-off : (ls : List ℕ) (g : Field) (p : Place) → OffHalves q ls g p
       → sweep ls (toEighth (roundingOf second) q) g p ≡ sweep ls (toEighth roundHalfUp q) g p
   unfolding sweep OffHalves toEighth
   stages-off [] g p h = refl
   stages-off (a ∷ ls) g p h =
       ap (λ z. roundingOf second z (divisorOn q a))
-      (same-sum a (λ t. sweep ls (toEighth (roundingOf second) q) g (put a t p)) (λ t. sweep ls (toEighth roundHalfUp q) g (put a t p))
+      (same-sum q a (λ t. sweep ls (toEighth (roundingOf second) q) g (put a t p)) (λ t. sweep ls (toEighth roundHalfUp q) g (put a t p))
       (λ t l. stages-off ls g (put a (q .m * q .cell a + t) p) (h .0 t l)) (p a))
       ∙ off-half (along a (stageOn q a) (sweep ls (toEighth roundHalfUp q) g) p) (divisorOn q a) (some a) (h .1) second
 
@@ -47,7 +40,7 @@ module _ (second : Bool) (q : Ask) (some : (a : ℕ) → 0 < divisorOn q a) wher
   unfolding answerBy NoHalf toUnit
   answer-off g h =
       ap (λ z. roundingOf second z (8 * divisorOn q l))
-      (same-sum l (λ t. sweep (before q) (toEighth (roundingOf second) q) (inEighths g) (put l t origin))
+      (same-sum q l (λ t. sweep (before q) (toEighth (roundingOf second) q) (inEighths g) (put l t origin))
       (λ t. sweep (before q) (toEighth roundHalfUp q) (inEighths g) (put l t origin))
       (λ t k. stages-off (before q) (inEighths g) (put l (q .m * q .cell l + t) origin) (h .0 t k)) 0)
       ∙ off-half (along l (stageOn q l) (sweep (before q) (toEighth roundHalfUp q) (inEighths g)) origin) (8 * divisorOn q l)

@@ -5,9 +5,9 @@ use mathlib.Core.List.{List, _++_, map-append}
 use Prim.Native.Nat.{ℕ, _+_, _*_, _<_}
 use lib.Dec.{lit<}
 use lib.IntN.{pos}
-use Rattle.arith.specs.Int.{roundHalfUp, isEven, roundHalfEven, roundingOf, unsignedOf}
+use Rattle.arith.specs.Int.{roundHalfUp, isEven, roundHalfEven, roundingOf, divides, unsignedOf}
 use Rattle.arith.specs.Sum.{sum, total, product, times}
-use Rattle.arith.specs.Choice.{pick}
+use Rattle.arith.specs.Choice.{pick, all}
 use Rattle.arith.proofs.Choices.{by-2, by-3}
 use Rattle.lattice.specs.Outcome.{firstOf}
 use Rattle.lattice.specs.Buffer.{at, tabulate}
@@ -24,19 +24,21 @@ use Rattle.table_file.specs.File.{sectionOne, sectionTwo, sectionThree, fileOf,
 use Rattle.estimate.specs.Estimate.{left, right, byOrder, estimate, records, tableRecords, recordsOf, estimateLimit, estimateOutcome, estimateWrites}
 use Rattle.coefficients.specs.Coefficients.{requestOutcome, coefficientList, coefficientsOutcome}
 use Rattle.corners.specs.Corners.{numbersOutcome, coefficientsField, doubledEntry, entryAllowed, possibleOutcome, entryList, backOutcome}
-use Rattle.evaluate.specs.Evaluate.{dose, orderWanted, orderOn, lastAxis, weightOn, sumOver, exactSum, divisorOn, exactDivisor, stageOn, toEighth, toUnit, inEighths, before, answerBy, askAt}
-use Rattle.query.specs.Queries.{wantOutcome, askedOutcome, reading, positionTest, stepsOutcome, testedOutcome, byCell, positionAt, positionOutcome, cellOf, positionCell, positionStep, byPosition}
+use Rattle.evaluate.specs.Evaluate.{dose, orderWanted, orderOn, lastAxis, weightOn, sumOver, exactSum, divisorOn, exactDivisor, stageOn, toEighth, toUnit, inEighths, before, answerBy, clean, exactBy, askAt}
+use Rattle.query.specs.Queries.{wantOutcome, askedOutcome, reading, positionTest, stepsOutcome, testedOutcome, byCell, positionAt, positionOutcome, cellOf, positionCell, positionStep, byPosition, cellMark, positionMark}
 use Rattle.floats.specs.Step.{step}
 use Rattle.float_query.specs.Floats.{floatsAt, stepsOf, floatOutcome, byFloat}
 use Rattle.claims.specs.Third.{atPosition, queried, pointOf, cellRead, stepRead, bothCalls, _over_, allowedDistance, WithinDistance}
 use Rattle.claims.specs.Examples.{Row, recordsFrom, coefficientsOf, coefficientsFrom, backInto, firstStage, exactly, answerIn, table, AllRows}
-use Rattle.claims.specs.Pinned.{answerFrom, notZero, sparse, among, numbered, limits, leftOver, distances, only, flat, fileWith, refusals, positions, readings, numbers, editions, pins}
+use Rattle.claims.specs.Marks.{markOf}
+use Rattle.claims.specs.Pinned.{answerFrom, doseIn, notZero, sparse, among, numbered, limits, leftOver, distances, only, flat, fileWith, refusals, positions, readings, numbers, editions, marks, pins}
 use Rattle.claims.specs.Straight.{valueOf, valueAt, wantedOf, Straight, saddle, saddleTable, inSaddle, saddleRows}
 use Rattle.claims.proofs.Straight.{nearly-straight}
 
 -- all definitions that the rows compute with, opened together
 opened : Unit {0}
-unfolding answerFrom notZero sparse among numbered limits leftOver distances only flat fileWith allowedDistance readCheck threeOutcome
+unfolding doseIn markOf positionMark cellMark exactBy clean divides all
+    answerFrom notZero sparse among numbered limits leftOver distances only flat fileWith allowedDistance readCheck threeOutcome
     nothingAfter twoOutcome oneOutcome countOutcome secondIn startOfThree samplesIn nodesIn countIn complete fileOf sectionThree sectionTwo
     sectionOne bytesOfAll bytesOf numberAt signedOf unsignedOf
     step floatsAt stepsOf floatOutcome byFloat positionTest placeAt byCell testedOutcome stepsOutcome recordsFrom coefficientsOf
@@ -56,7 +58,7 @@ pub examples : AllRows table
 unfolding opened table
 examples = refl
 
--- the further rows, in four groups: so many as the checker computes at once
+-- the further rows, in groups: so many as the checker computes at once
 of-refusals : AllRows refusals
 unfolding opened refusals
 of-refusals = refl
@@ -77,12 +79,18 @@ of-editions : AllRows editions
 unfolding opened editions
 of-editions = refl
 
+of-marks : AllRows marks
+unfolding opened marks
+of-marks = refl
+
 pub pinned : AllRows pins
 unfolding pins
 pinned =
-    joined (refusals ++ positions ++ readings ++ numbers) editions
+    joined (refusals ++ positions ++ readings ++ numbers ++ editions) marks
+    (joined (refusals ++ positions ++ readings ++ numbers) editions
     (joined (refusals ++ positions ++ readings) numbers
-    (joined (refusals ++ positions) readings (joined refusals positions of-refusals of-positions) of-readings) of-numbers) of-editions
+    (joined (refusals ++ positions) readings (joined refusals positions of-refusals of-positions) of-readings) of-numbers) of-editions)
+    of-marks
   where
     joined : (xs ys : List Row) → AllRows xs → AllRows ys → AllRows (xs ++ ys)
     joined xs ys e f = map-append (λ (r : Row). r .computed) xs ys ∙ ap₂ _++_ e f ∙ sym (map-append (λ (r : Row). r .printed) xs ys)

@@ -1,7 +1,7 @@
--- General facts of whole numbers.
+-- General facts of whole numbers, and what a stage reads.
 use mathlib.Core.Path.{_≡_, sym, ap, _∙_}
 use mathlib.Core.List.{[], _∷_}
-use Prim.Native.Nat.{ℕ, _+_, _≤_, _<_}
+use Prim.Native.Nat.{ℕ, _+_, _*_, _≤_, _<_}
 use native.Mathlib.Omega.{arith}
 use lib.Dec.{leb, le→leb}
 use borrow.Author.Tests.{leb-true, leb-false, le-leb}
@@ -9,6 +9,8 @@ use lib.IntN.{ℤ, pos, _+ℤ_, _-ℤ_}
 use lib.Signed.{_≤ℤ_, leZ-yes}
 use Rattle.arith.proofs.Choices.{split}
 use Rattle.arith.proofs.Quote.{quotes, ring! }
+use Rattle.hermite.proofs.HermiteLaws.{stage-moved}
+use Rattle.evaluate.specs.Evaluate.{Ask, orderOn, stageOn}
 
 pub less : (c u : ℕ) → pos (c + u) -ℤ pos c ≡ pos u
 less c u = go (pos c) (pos u)
@@ -33,3 +35,9 @@ leb-same a b c d h k =
   where
     apart : b < a → a ≤ b → ⊥
     apart l m = omega arith
+
+-- a stage reads the numbers of its cell
+pub same-sum : (q : Ask) (a : ℕ) (x y : ℕ → ℤ)
+    → ((t : ℕ) → t < 2 * q .m → x (q .m * q .cell a + t) ≡ y (q .m * q .cell a + t)) → (j : ℕ) → stageOn q a x j ≡ stageOn q a y j
+unfolding stageOn
+same-sum q a x y e j = stage-moved (orderOn (q .want) a) (q .m) (q .N a) (q .cell a) (q .cell a) (q .step a) x y e j j

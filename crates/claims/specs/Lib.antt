@@ -1,8 +1,9 @@
--- Reading order: Third, Second, Corners, Calls, Examples, Pinned, Straight, Editions.
+-- Reading order: Third, Second, Corners, Calls, Marks, Examples, Pinned, Straight, Editions.
 pub mod Third
 pub mod Second
 pub mod Corners
 pub mod Calls
+pub mod Marks
 pub mod Examples
 pub mod Pinned
 pub mod Straight

@@ -1,6 +1,7 @@
 -- Further rows: where a theorem would hold of more than one reading of document 01, a computed row fixes the reading.
 -- Refusal numbers, places and order, those of a position apart; borders; the order of nodes, entries, coefficients and corners on two and
--- three axes; limits; the order of the stages; the cell of a shared node; curvatures; the distances; the rounding of both editions.
+-- three axes; limits; the order of the stages; the cell of a shared node; curvatures; the distances; the rounding of both editions; the
+-- mark.
 use mathlib.Core.Bool.{Bool, true, false}
 use mathlib.Core.List.{List, [], _∷_, _++_}
 use Prim.Native.Nat.{ℕ, suc, _+_, _*_, _-_}
@@ -15,11 +16,12 @@ use Rattle.lattice.specs.Buffer.{tabulate}
 use Rattle.lattice.specs.Shape.{shapeOf, fullShape, size}
 use Rattle.lattice.specs.Digits.{digit}
 use Rattle.lattice.specs.Records.{entryLimit}
-use Rattle.estimate.specs.Estimate.{tableRecords, estimateOutcome}
+use Rattle.estimate.specs.Estimate.{tableRecords, recordsOf, estimateOutcome}
 use Rattle.evaluate.specs.Evaluate.{Want, dose, slopeAlong, curvatureAlong, orderWanted, exactSum, exactDivisor}
 use Rattle.table_file.specs.File.{readCheck, fileOf, header}
 use Rattle.float_query.specs.Floats.{floatsAt}
 use Rattle.claims.specs.Third.{Query, atPosition, inCell, atFloats, queried, allowedDistance, asked}
+use Rattle.claims.specs.Marks.{markOf}
 use Rattle.claims.specs.Examples.{Table, listed, Row, _gives_, _refusedAs_atPlace_, recordsFrom, coefficientsOf, backFrom, backInto, answerIn, pair, at-x}
 
 -- ---- what a row computes
@@ -32,6 +34,18 @@ tested (refused number place) = refused number place
 -- a query of records, in edition one
 unfoldable pub answerFrom : Shape → List ℤ → Want → Query → Outcome (List ℤ)
 answerFrom s rs want q = listed (queried (fullShape s false) rs want q)
+
+-- an answer and its mark, 1 where it is marked
+abbrev pub withMark : Outcome ℤ → Bool → Outcome (List ℤ)
+withMark (done v) mark = done (v ∷ pick mark (pos 1) (pos 0) ∷ [])
+withMark (refused number place) mark = refused number place
+
+-- a dose from samples, in an edition
+unfoldable pub doseIn : (secondEdition : Bool) → Table → Query → Outcome (List ℤ)
+doseIn secondEdition t q =
+    let s = fullShape (t .shape) secondEdition in
+    let rs = recordsOf (t .shape) (t .samples) in
+    withMark (queried s rs dose q) (markOf s rs dose q)
 
 -- the numbers of a list that are not 0, each after its index; the first has index i
 unfoldable pub notZero : ℕ → List ℤ → List ℤ
@@ -258,5 +272,23 @@ editions =
     ∷ (answerIn true (fourSamples (pos 0) (pos 7) (negsuc 7) (negsuc 7)) dose (at-x 16) gives pos 0 ∷ [])
     ∷ []
 
+-- ---- the mark
+
+-- cubic, 2 by 4 nodes, all samples 0 but the last
+abbrev pub corner : Table
+corner = record { shape = shapeOf 2 3 (2 ∷ 4 ∷ 1 ∷ []); samples = replicate 7 (pos 0) ++ (pos 1 ∷ []) }
+
+unfoldable pub marks : List Row
+marks =
+    -- cells that share a point may differ: a number of weight 0 drops something in the upper one, which a position is read in
+    (doseIn false corner (inCell (0 ∷ 0 ∷ 0 ∷ []) (16 ∷ 256 ∷ 0 ∷ [])) gives pos 0 ∷ pos 1 ∷ [])
+    ∷ (doseIn false corner (inCell (0 ∷ 1 ∷ 0 ∷ []) (16 ∷ 0 ∷ 0 ∷ [])) gives pos 0 ∷ pos 0 ∷ [])
+    ∷ (doseIn false corner (atPoint (pos 16) (pos 256) (pos 0)) gives pos 0 ∷ pos 0 ∷ [])
+    -- the last stage drops a half, in either edition, or nothing
+    ∷ (doseIn false (pair 3 (pos 0) (pos 1)) (atPosition (at-x 128)) gives pos 1 ∷ pos 0 ∷ [])
+    ∷ (doseIn true (pair 3 (pos 0) (pos 1)) (atPosition (at-x 128)) gives pos 0 ∷ pos 0 ∷ [])
+    ∷ (doseIn true (pair 5 (pos 0) (pos 2)) (atPosition (at-x 128)) gives pos 1 ∷ pos 1 ∷ [])
+    ∷ []
+
 unfoldable pub pins : List Row
-pins = refusals ++ positions ++ readings ++ numbers ++ editions
+pins = refusals ++ positions ++ readings ++ numbers ++ editions ++ marks

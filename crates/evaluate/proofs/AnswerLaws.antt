@@ -1,7 +1,7 @@
 -- What an answer reads, for every rounding: the numbers of the corners only, whichever cell they are of, and no place on the axes worked
 -- off; and what it is on one axis.
-use mathlib.Core.Path.{_≡_, refl, sym, ap, subst, _∙_, fun-ext}
-use mathlib.Core.Bool.{Bool, true, false}
+use mathlib.Core.Path.{_≡_, refl, sym, ap, ap₂, subst, _∙_, fun-ext}
+use mathlib.Core.Bool.{Bool, true, false, _&&_}
 use mathlib.Core.List.{List, [], _∷_}
 use Prim.Native.Nat.{ℕ, zero, suc, _+_, _*_, _≤_, _<_}
 use native.Mathlib.Omega.{arith}
@@ -9,9 +9,9 @@ use native.Mathlib.Decide.{ℕ-discrete, decLt}
 use lib.Dec.{eqb}
 use lib.IntN.{ℤ, pos, _*ℤ_}
 use borrow.Author.Tests.{ne-eqb, eq-eqb}
-use Rattle.arith.specs.Int.{Rounding}
-use Rattle.arith.specs.Choice.{pick}
-use Rattle.arith.proofs.Choices.{pick-true, pick-false}
+use Rattle.arith.specs.Int.{Rounding, divides}
+use Rattle.arith.specs.Choice.{pick, all}
+use Rattle.arith.proofs.Choices.{pick-true, pick-false, all-ext}
 use Rattle.lattice.specs.Axes.{Place, Field, origin, put, along, sweep, axes, without}
 use Rattle.lattice.proofs.Along.{put-at, put-off, Each, each-axes, each-without, Fresh, Distinct, distinct-axes, distinct-without, fresh-out, fresh-back}
 use Rattle.lattice.proofs.Local.{Carries, sweep-carries, used}
@@ -19,7 +19,7 @@ use Rattle.hermite.specs.Hermite.{stageSum}
 use Rattle.hermite.specs.Stage.{Smooth}
 use Rattle.hermite.proofs.HermiteLaws.{stage-moved}
 use Rattle.cell.specs.Cell.{AtEnds, InCorners}
-use Rattle.evaluate.specs.Evaluate.{Want, dose, derivativeAlong, Ask, orderWanted, orderOn, lastAxis, divisorOn, stageOn, toEighth, toUnit, inEighths, before, answerBy}
+use Rattle.evaluate.specs.Evaluate.{Want, dose, derivativeAlong, Ask, orderWanted, orderOn, lastAxis, divisorOn, stageOn, toEighth, toUnit, inEighths, before, answerBy, clean, exactBy}
 use Rattle.evaluate.specs.Wants.{wantOf}
 
 -- on an axis before the last no derivative is taken
@@ -182,27 +182,46 @@ module _ (round : Rounding) (q : Ask) where
       ap (λ (x : ℕ → ℤ). round (stageOn q a x 0) (divisorOn q a))
       (fun-ext (λ t. stages-anywhere g ls (put a t p) (put a t r) (beside-put a ls p r h t)))
 
-  -- the answer, at any place that is 0 on the unused axes
-  pub answer-anywhere : (g : Field) (p : Place) → ((a : ℕ) → q .n ≤ a → p a ≡ 0)
-      → answerBy round q g
-      ≡ along (lastAxis (q .n) (q .want)) (toUnit round q (lastAxis (q .n) (q .want))) (sweep (before q) (toEighth round q) (inEighths g)) p
-  unfolding answerBy before toUnit stageOn stageSum Beside
-  answer-anywhere g p none =
-      ap (λ (x : ℕ → ℤ). round (stageOn q l x 0) (8 * divisorOn q l))
-      (fun-ext (λ t. stages-anywhere (inEighths g) ls (put l t origin) (put l t p) (λ b f. go t b f (ℕ-discrete b l))))
-    where
-      l : ℕ
-      l = lastAxis (q .n) (q .want)
+  sum-anywhere : (g : Field) (a : ℕ) (ls : List ℕ) (p r : Place) → Beside (a ∷ ls) p r
+      → along a (stageOn q a) (sweep ls (toEighth round q) g) p ≡ along a (stageOn q a) (sweep ls (toEighth round q) g) r
+  unfolding stageOn stageSum
+  sum-anywhere g a ls p r h =
+      ap (λ (x : ℕ → ℤ). stageOn q a x 0) (fun-ext (λ t. stages-anywhere g ls (put a t p) (put a t r) (beside-put a ls p r h t)))
 
-      ls : List ℕ
-      ls = without l (axes (q .n))
+  clean-anywhere : (g : Field) (ls : List ℕ) (p r : Place) → Beside ls p r → clean round q ls g p ≡ clean round q ls g r
+  unfolding clean
+  clean-anywhere g [] p r h = refl
+  clean-anywhere g (a ∷ ls) p r h =
+      ap₂ _&&_ (ap (divides (divisorOn q a)) (sum-anywhere g a ls p r h))
+      (all-ext _ _ _ (λ t l. clean-anywhere g ls (put a (q .m * q .cell a + t) p) (put a (q .m * q .cell a + t) r)
+      (beside-put a ls p r h (q .m * q .cell a + t))))
 
-      unused : (b : ℕ) → Fresh b ls → (b ≡ l → ⊥) → q .n ≤ b
-      unused b f n = let z = used (q .n) b in let y = fresh-back b l (axes (q .n)) n f in omega-not (λ k. z k y)
-        where
-          omega-not : (b < q .n → ⊥) → q .n ≤ b
-          omega-not h = omega (arith, h)
+  -- the answer and its mark, at any place that is 0 on the unused axes
+  module _ (g : Field) (p : Place) (none : (a : ℕ) → q .n ≤ a → p a ≡ 0) where
+    abbrev l : ℕ
+    l = lastAxis (q .n) (q .want)
 
-      go : (t b : ℕ) → Fresh b ls → Dec (b ≡ l) → put l t origin b ≡ put l t p b
-      go t b f (yes e) = subst (λ (i : ℕ). put l t origin i ≡ put l t p i) (sym e) (put-at l t origin ∙ sym (put-at l t p))
-      go t b f (no n) = put-off l t b origin n ∙ sym (put-off l t b p n ∙ none b (unused b f n))
+    beside-origin : Beside (l ∷ before q) origin p
+    unfolding Beside before
+    beside-origin b f = sym (none b (unused b (f .0) (f .1)))
+      where
+        unused : (b : ℕ) → (b ≡ l → ⊥) → Fresh b (without l (axes (q .n))) → q .n ≤ b
+        unused b n f = let z = used (q .n) b in let y = fresh-back b l (axes (q .n)) n f in omega-not (λ k. z k y)
+          where
+            omega-not : (b < q .n → ⊥) → q .n ≤ b
+            omega-not h = omega (arith, h)
+
+    pub answer-anywhere : answerBy round q g ≡ along l (toUnit round q l) (sweep (before q) (toEighth round q) (inEighths g)) p
+    unfolding answerBy toUnit
+    answer-anywhere = ap (λ z. round z (8 * divisorOn q l)) (sum-anywhere (inEighths g) l (before q) origin p beside-origin)
+
+    pub exact-anywhere : exactBy round q g
+        ≡ (divides (8 * divisorOn q l) (along l (stageOn q l) (sweep (before q) (toEighth round q) (inEighths g)) p)
+        && all (2 * q .m) (λ t. clean round q (before q) (inEighths g) (put l (q .m * q .cell l + t) p)))
+    unfolding exactBy
+    exact-anywhere =
+        ap₂ _&&_ (ap (divides (8 * divisorOn q l)) (sum-anywhere (inEighths g) l (before q) origin p beside-origin))
+        (all-ext (2 * q .m) (λ t. clean round q (before q) (inEighths g) (put l (q .m * q .cell l + t) origin))
+        (λ t. clean round q (before q) (inEighths g) (put l (q .m * q .cell l + t) p))
+        (λ t k. clean-anywhere (inEighths g) (before q) (put l (q .m * q .cell l + t) origin) (put l (q .m * q .cell l + t) p)
+        (beside-put l (before q) origin p beside-origin (q .m * q .cell l + t))))

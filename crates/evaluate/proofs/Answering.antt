@@ -6,7 +6,7 @@ use Prim.Native.Nat.{ℕ, suc, _+_, _*_, _-_, _%_, _^_, _≤_, _<_}
 use native.Mathlib.Nat.{lt-of-lt-of-le, le-trans, le-of-eq, mul-le-mul-left, le-of-mul-le-mul-left}
 use native.Mathlib.Omega.{arith}
 use native.Mathlib.Decide.{decLt}
-use lib.Dec.{ltb, lit≤}
+use lib.Dec.{ltb, eqb, lit≤}
 use lib.ListN.{length, getD}
 use lib.Pow.{pow-mono}
 use lib.IntN.{ℤ, pos, _*ℤ_, natAbs}
@@ -27,6 +27,7 @@ use Rattle.lattice.specs.Axes.{Place, put, axes, without}
 use Rattle.lattice.specs.Records.{totalOrder, entryLimit, entryIndex, recordsField}
 use Rattle.lattice.proofs.Along.{Each, Fresh, Distinct}
 use Rattle.lattice.proofs.ShapeLaws.{orders-range}
+use Rattle.hermite.specs.declared.Rounded.{Rounded}
 use Rattle.hermite.specs.Hermite.{steps, divisor}
 use Rattle.hermite.specs.Stage.{Smooth, Folds, eighthsIn, shiftOf}
 use Rattle.hermite.proofs.StageLaws.{worth-some, shifted, stage-fits}
@@ -34,13 +35,14 @@ use Rattle.cell.specs.Cell.{Accepted, InCorners, offset, placeAt, Laid, base, n
 use Rattle.cell.proofs.CellLaws.{Numbers, placed, entry-at, entry-below}
 use Rattle.cell.proofs.CornerLaws.{corners-within}
 use Rattle.evaluate.specs.declared.Axis.{Axis}
-use Rattle.evaluate.specs.Evaluate.{Want, Ask, askAt, orderOn, lastAxis, before, answerBy}
+use Rattle.evaluate.specs.Evaluate.{Want, Ask, askAt, orderOn, lastAxis, before, answerBy, exactBy}
 use Rattle.evaluate.specs.Wants.{wantOf}
-use Rattle.evaluate.specs.Stages.{after, numbersAt, also, stridesOf, Safe, Made, later, AllMade, AllSteps, Workable, WorkedOff, Ready}
+use Rattle.evaluate.specs.Stages.{after, numbersAt, also, stridesOf, Safe, Made, later, AllMade, AllSteps, Workable, WorkedOff, Gives, Cleans, Reports, Ready}
 use Rattle.evaluate.proofs.AnswerLaws.{order-smooth, distinct-before, fresh-before}
 use Rattle.evaluate.proofs.EndLaws.{number-at}
+use Rattle.evaluate.proofs.StageOrder.{worked-off-then}
 use Rattle.evaluate.proofs.Sizes.{noughts, orders-left, cap, Plain, reads-size, plain-before, answer-below}
-use Rattle.evaluate.proofs.ByIndex.{Holds, low-at, high-at, lows, highs, counts, AllHeld, Left, index, index-put, placed-put, left-put, got, after-is, index-base, nought, answer-is}
+use Rattle.evaluate.proofs.ByIndex.{Holds, low-at, high-at, lows, highs, counts, AllHeld, Left, index, index-put, left-put, got, got-at, index-base, nought, answer-is, exact-is}
 use mathlib.Core.Bool.{Bool, true, false}
 use Rattle.cell.specs.declared.Layout.{Layout}
 use Rattle.evaluate.specs.declared.Strides.{Strides}
@@ -229,12 +231,7 @@ module _ {round : Rounding} (sound : Sound round) (s : Shape) (rs : List ℤ) (c
       where
         value : got s ok cell here sound rs want step ls (put a (m * cell a + u) (placed s cell t)) ≡ pos (counts ls) *ℤ after round m xs
             (at rs) (place t + offset s a u)
-        value =
-            ap (got s ok cell here sound rs want step ls) (placed-put s ok cell here a u t)
-            ∙ after-is s ok cell here sound rs want step ls xs hs d (below-all ls plains) (put a u t)
-            (left-put s ok cell here a ls u t fresh used l left)
-            ∙ ap (λ (i : ℕ). pos (counts ls) *ℤ after round m xs (at rs) i)
-            (index-put s ok cell here a u t (axis-low (ok .axes-high)) (left .worked-off .0))
+        value = got-at s ok cell here sound rs want step a ls xs hs fresh d used (below-all ls plains) t left u l
 
     small : capOf ls * 2 ^ order ≤ 2 ^ 21
     unfolding noughts
@@ -342,15 +339,26 @@ module _ {round : Rounding} (sound : Sound round) (s : Shape) (rs : List ℤ) (c
             (nought s ok cell here sound rs want step)
             (safe prior xs (others-held xs hx) (distinct-before q) plain)
 
-    pub worked-answer : (r : ℤ) → WorkedOff round (l .orders) order b vs (at rs) (l .base) r
+    -- by the layout as by the shape and the cell
+    laid-out : (Is : ℕ → ℕ → Axis → List Axis → Type 0) → WorkedOff (l .orders) order b vs (Is (l .orders) (l .base))
+        → WorkedOff m order b vs (Is m (base s cell))
+    laid-out Is w =
+        subst (λ (m : ℕ). WorkedOff m order b vs (Is m (base s cell))) (ready .laid .orders-are)
+        (subst (λ (p : ℕ). WorkedOff (l .orders) order b vs (Is (l .orders) p)) (ready .laid .base-is) w)
+
+    pub worked-answer : (r : ℤ) → WorkedOff (l .orders) order b vs (Gives round (l .orders) (at rs) (l .base) r)
         → r ≡ answerBy round (askAt s want cell step) (recordsField s rs)
-    worked-answer r w =
-        finish (subst (λ (m : ℕ). WorkedOff round m order b vs (at rs) (base s cell) r) (ready .laid .orders-are)
-        (subst (λ (p : ℕ). WorkedOff round (l .orders) order b vs (at rs) p r) (ready .laid .base-is) w))
-      where
-        finish : WorkedOff round m order b vs (at rs) (base s cell) r → r ≡ answerBy round (askAt s want cell step) (recordsField s rs)
-        finish w = w .is ∙ sym (answer-is s ok cell here sound rs want step (w .last) (w .others) (ready .last)
-            (last-held (w .last) (w .made-last)) (others-held (w .others) (w .made)))
+    worked-answer r h =
+        let w = laid-out (λ m p. Gives round m (at rs) p r) h in
+        w .is ∙ sym (answer-is s ok cell here sound rs want step (w .last) (w .others) (ready .last)
+        (last-held (w .last) (w .made-last)) (others-held (w .others) (w .made)))
+
+    pub worked-exact : (c : Bool) → WorkedOff (l .orders) order b vs (Cleans round (l .orders) (at rs) (l .base) c)
+        → c ≡ exactBy round (askAt s want cell step) (recordsField s rs)
+    worked-exact c h =
+        let w = laid-out (λ m p. Cleans round m (at rs) p c) h in
+        w .is ∙ sym (exact-is s ok cell here sound rs want step (w .last) (w .others) (ready .last)
+        (last-held (w .last) (w .made-last)) (others-held (w .others) (w .made)))
 
   -- the answer fits 32 bits
   pub answer-fits : natAbs (answerBy round (askAt s want cell step) (recordsField s rs)) < 2 ^ 24
@@ -373,9 +381,18 @@ module _ {round : Rounding} (sound : Sound round) (s : Shape) (rs : List ℤ) (c
     pub workable-in : Workable round (l .orders) order b vs (length rs) (at rs) (l .base)
     workable-in = workable order (order-is (s .axes)) b vs last-in are-in
 
-    pub answer-in : (r : ℤ) → WorkedOff round (l .orders) order b vs (at rs) (l .base) r
+    pub answer-in : (r : ℤ) → WorkedOff (l .orders) order b vs (Gives round (l .orders) (at rs) (l .base) r)
         → r ≡ answerBy round (askAt s want cell step) (recordsField s rs)
     answer-in = worked-answer order (order-is (s .axes)) b vs last-in are-in
+
+    -- what is reported is the answer and its mark
+    pub reported-in : (r : Rounded) → WorkedOff (l .orders) order b vs (Reports round (l .orders) (at rs) (l .base) r)
+        → (r .number ≡ answerBy round (askAt s want cell step) (recordsField s rs))
+        × (eqb (r .rest) 0 ≡ exactBy round (askAt s want cell step) (recordsField s rs))
+    reported-in r w = (
+      answer-in (r .number) (worked-off-then (λ z xs h. h .number-is) w),
+      worked-exact order (order-is (s .axes)) b vs last-in are-in (eqb (r .rest) 0) (worked-off-then (λ z xs h. h .rest-is) w),
+    )
 
 -- the axes of a layout
 module _ (s : Shape) (cell : Place) (xs : List ℕ) (l : Layout) (laid : Laid s cell l) where

@@ -1,6 +1,6 @@
 -- The stages by index in the records are those of the definition: number t of a cell stands at its base plus its offset on each axis.
 use mathlib.Core.Path.{_≡_, refl, sym, ap, ap₂, subst, _∙_, fun-ext}
-use mathlib.Core.Bool.{true}
+use mathlib.Core.Bool.{Bool, true, _&&_}
 use mathlib.Core.List.{List, [], _∷_}
 use Prim.Native.Nat.{ℕ, _+_, _*_, _/_, _^_, _≤_, _<_}
 use native.Mathlib.Nat.{zero-div, zero-mod, mul-one, mul-comm, mod-eq-of-lt, add-mod-left, div-eq-of-lt, add-div-left}
@@ -8,11 +8,12 @@ use lib.Pow.{pow-pos}
 use native.Mathlib.Omega.{arith}
 use native.Mathlib.Decide.{ℕ-discrete}
 use lib.IntN.{ℤ, pos, _*ℤ_}
-use Rattle.arith.specs.Int.{Rounding}
-use Rattle.arith.specs.Choice.{pick}
-use Rattle.arith.proofs.Choices.{by-3}
+use Rattle.arith.specs.Int.{Rounding, divides}
+use Rattle.arith.specs.Choice.{pick, all}
+use Rattle.arith.proofs.Choices.{all-ext, by-3, by-place}
 use Rattle.arith.proofs.Laws.{pos-one-*ℤ}
 use Rattle.arith.proofs.Round.{Sound}
+use Rattle.arith.proofs.Rests.{common-divides}
 use Rattle.lattice.specs.declared.Shape.{Shape}
 use Rattle.lattice.specs.Buffer.{at}
 use Rattle.lattice.specs.Shape.{orders, Shaped}
@@ -27,10 +28,10 @@ use Rattle.hermite.proofs.StageLaws.{stage-folded}
 use Rattle.cell.specs.Cell.{Accepted, base, nodeStride, orderStride, offset}
 use Rattle.cell.proofs.CellLaws.{Numbers, placed, entry-at}
 use Rattle.evaluate.specs.declared.Axis.{Axis}
-use Rattle.evaluate.specs.Evaluate.{Want, Ask, orderOn, lastAxis, stageOn, divisorOn, toEighth, toUnit, inEighths, before, answerBy, askAt}
-use Rattle.evaluate.specs.Stages.{worked, later, after}
-use Rattle.evaluate.proofs.AnswerLaws.{each-before, distinct-before, fresh-before, answer-anywhere}
-use Rattle.evaluate.proofs.EndLaws.{stage-of}
+use Rattle.evaluate.specs.Evaluate.{Want, Ask, orderOn, lastAxis, stageOn, divisorOn, toEighth, toUnit, inEighths, before, answerBy, clean, exactBy, askAt}
+use Rattle.evaluate.specs.Stages.{placeOf, allAt, sumAt, worked, cleanly, later, after, cleanAfter}
+use Rattle.evaluate.proofs.AnswerLaws.{each-before, distinct-before, fresh-before, answer-anywhere, exact-anywhere}
+use Rattle.evaluate.proofs.EndLaws.{stage-of, place-low, place-high}
 
 -- ---- one stage
 
@@ -69,22 +70,40 @@ module _ {s : Shape} {want : Want} {step : Place} {from to a k : ℕ} {x : Axis}
         assoc : (i f n : ℕ) → i + f + n ≡ i + (f + n)
         assoc i f n = omega arith
 
-    -- the definition's stage of numbers X, which count `from` eighths each
-    worked-is : {round : Rounding} → Sound round → (c j : ℕ) (X : ℕ → ℤ)
-        → ((t : ℕ) → t < 2 * orders s → X (orders s * c + t) ≡ pos from *ℤ g (i + offset s a t))
-        → round (stageSum (orderOn want a) (orders s) steps c (step a) X j)
-        (divisor (orderOn want a) (orders s) steps * to) ≡ worked round k x g i
-    unfolding worked
-    worked-is {round} sound c j X e =
-        ap₂ round
-        (stage-of (orderOn want a) (orders s) steps c (step a) X (λ t. pos from *ℤ g (i + offset s a t)) j e
-        ∙ linear-multiple (stage-linear (orderOn want a) (orders s) steps 0 (step a)) (pos from) (λ t. g (i + offset s a t)) 0)
-        (sym (h .shift-is) ∙ mul-comm (2 ^ (k + 1)) from)
-        ∙ sound .common from (stageSum (orderOn want a) (orders s) steps 0 (step a) (λ t. g (i + offset s a t)) 0) (2 ^ (k + 1)) (h .some)
-        (pow-pos (k + 1))
-        ∙ ap (λ z. round z (2 ^ (k + 1)))
-        (sym (stage-folded (h .folds) (λ o. g (i + o * x .order)) (λ o. g (i + x .node + o * x .order))
-        (λ t. g (i + offset s a t)) lows highs))
+    -- the definition's stage of numbers X, which count `from` eighths each, by a rule that a common factor does not change
+    module _ (c j : ℕ) (X : ℕ → ℤ)
+        (e : (t : ℕ) → t < 2 * orders s → X (orders s * c + t) ≡ pos from *ℤ g (i + offset s a t)) where
+      stage-is : {A : Type 0} (f : ℤ → ℕ → A) → ((k : ℕ) (x : ℤ) (y : ℕ) → 0 < k → 0 < y → f (pos k *ℤ x) (k * y) ≡ f x y)
+          → f (stageSum (orderOn want a) (orders s) steps c (step a) X j) (divisor (orderOn want a) (orders s) steps * to)
+          ≡ f (sumAt x g i) (2 ^ (k + 1))
+      unfolding sumAt
+      stage-is f common =
+          ap₂ f
+          (stage-of (orderOn want a) (orders s) steps c (step a) X (λ t. pos from *ℤ g (i + offset s a t)) j e
+          ∙ linear-multiple (stage-linear (orderOn want a) (orders s) steps 0 (step a)) (pos from) (λ t. g (i + offset s a t)) 0)
+          (sym (h .shift-is) ∙ mul-comm (2 ^ (k + 1)) from)
+          ∙ common from (stageSum (orderOn want a) (orders s) steps 0 (step a) (λ t. g (i + offset s a t)) 0) (2 ^ (k + 1)) (h .some)
+          (pow-pos (k + 1))
+          ∙ ap (λ z. f z (2 ^ (k + 1)))
+          (sym (stage-folded (h .folds) (λ o. g (i + o * x .order)) (λ o. g (i + x .node + o * x .order))
+          (λ t. g (i + offset s a t)) lows highs))
+
+      worked-is : {round : Rounding} → Sound round
+          → round (stageSum (orderOn want a) (orders s) steps c (step a) X j) (divisor (orderOn want a) (orders s) steps * to)
+          ≡ worked round k x g i
+      unfolding worked
+      worked-is {round} sound = stage-is round (sound .common)
+
+      divided-is : divides (divisor (orderOn want a) (orders s) steps * to) (stageSum (orderOn want a) (orders s) steps c (step a) X j)
+          ≡ divides (2 ^ (k + 1)) (sumAt x g i)
+      divided-is = stage-is (λ z y. divides y z) common-divides
+
+  -- the offset of a number is its place
+  placed-at : (u : ℕ) → u < 2 * orders s → offset s a u ≡ placeOf (orders s) (x .order) (x .node) u
+  placed-at =
+      by-place (orders s) (λ u. offset s a u ≡ placeOf (orders s) (x .order) (x .node) u)
+      (λ o l. low-at o l ∙ sym (place-low (orders s) (x .order) (x .node) o l))
+      (λ o l. high-at o l ∙ sym (place-high (orders s) (x .order) (x .node) o))
 
 -- ---- all stages
 
@@ -171,15 +190,61 @@ module _ (s : Shape) (ok : Shaped s) (cell : Place) (here : Accepted s cell) whe
     after-is (a ∷ ls) (x ∷ xs) m d e t h =
         ap (round (stageSum (orderOn want a) (orders s) steps (cell a) (step a) (λ j. got ls (put a j (placed s cell t)))
         (placed s cell t a))) (sym (mul-one (divisor (orderOn want a) (orders s) steps)))
-        ∙ worked-is (m .0) (after round (orders s) xs (at rs)) (index t) sound (cell a) (placed s cell t a)
+        ∙ worked-is (m .0) (after round (orders s) xs (at rs)) (index t) (cell a) (placed s cell t a)
         (λ j. got ls (put a j (placed s cell t)))
         (λ u l. ap (got ls) (placed-put a u t) ∙ after-is ls xs (m .1) (d .1) (e .1) (put a u t) (left-put a ls u t (d .0) (e .0) l h)
         ∙ ap (λ (i : ℕ). pos (counts ls) *ℤ after round (orders s) xs (at rs) i)
-        (index-put a u t (below a (e .0) (ok .axes-high)) (h .worked-off .0)))
+        (index-put a u t (below a (e .0) (ok .axes-high)) (h .worked-off .0))) sound
         ∙ sym (pos-one-*ℤ (after round (orders s) (x ∷ xs) (at rs) (index t)))
       where
         below : (a : ℕ) → a < s .axes → s .axes ≤ 3 → a < 3
         below a i k = omega arith
+
+    -- the numbers of a further axis a
+    module _ (a : ℕ) (ls : List ℕ) (xs : List Axis) (m : AllHeld s want step ls xs) (f : Fresh a ls) (d : Distinct ls) (i : a < s .axes)
+        (e : Each (λ a. a < s .axes) ls) (t : Place) (h : Left s (a ∷ ls) t) where
+      moved : (u : ℕ) → index (put a u t) ≡ index t + offset s a u
+      moved u = index-put a u t (below (ok .axes-high)) (h .worked-off .0)
+        where
+          below : s .axes ≤ 3 → a < 3
+          below k = omega (arith, i)
+
+      pub got-at : (u : ℕ) → u < 2 * orders s
+          → got ls (put a (orders s * cell a + u) (placed s cell t))
+          ≡ pos (counts ls) *ℤ after round (orders s) xs (at rs) (index t + offset s a u)
+      got-at u l =
+          ap (got ls) (placed-put a u t) ∙ after-is ls xs m d e (put a u t) (left-put a ls u t f i l h)
+          ∙ ap (λ (j : ℕ). pos (counts ls) *ℤ after round (orders s) xs (at rs) j) (moved u)
+
+      -- nothing is dropped of them by the definition where nothing is by index
+      abbrev keeps : Place → Bool
+      keeps = clean round q ls (inEighths (recordsField s rs))
+
+      module _ (same : (t : Place) → Left s ls t → keeps (placed s cell t) ≡ cleanAfter round (orders s) xs (at rs) (index t))
+          {to k : ℕ} {x : Axis} (hx : Holds s want step (counts ls) to a k x) where
+        cleans : all (2 * orders s) (λ u. keeps (put a (orders s * cell a + u) (placed s cell t)))
+            ≡ allAt (orders s) (cleanAfter round (orders s) xs (at rs)) (index t) (x .order) (x .node)
+        cleans =
+            all-ext (2 * orders s) (λ u. keeps (put a (orders s * cell a + u) (placed s cell t)))
+            (λ u. cleanAfter round (orders s) xs (at rs) (index t + placeOf (orders s) (x .order) (x .node) u))
+            (λ u l. ap keeps (placed-put a u t) ∙ same (put a u t) (left-put a ls u t f i l h)
+            ∙ ap (cleanAfter round (orders s) xs (at rs)) (moved u ∙ ap (λ (j : ℕ). index t + j) (placed-at hx u l)))
+
+    pub clean-is : (ls : List ℕ) (xs : List Axis) → AllHeld s want step ls xs → Distinct ls → Each (λ a. a < s .axes) ls → (t : Place)
+        → Left s ls t
+        → clean round q ls (inEighths (recordsField s rs)) (placed s cell t) ≡ cleanAfter round (orders s) xs (at rs) (index t)
+    unfolding clean cleanAfter cleanly stageOn divisorOn askAt
+    clean-is [] [] m d e t h = refl
+    clean-is [] (x ∷ xs) m d e t h = absurd m
+    clean-is (a ∷ ls) [] m d e t h = absurd m
+    clean-is (a ∷ ls) (x ∷ xs) m d e t h =
+        ap₂ _&&_
+        (ap (λ (y : ℕ). divides y (stageSum (orderOn want a) (orders s) steps (cell a) (step a) (λ j. got ls (put a j (placed s cell t)))
+        (placed s cell t a))) (sym (mul-one (divisor (orderOn want a) (orders s) steps)))
+        ∙ divided-is (m .0) (after round (orders s) xs (at rs)) (index t) (cell a) (placed s cell t a)
+        (λ j. got ls (put a j (placed s cell t)))
+        (got-at a ls xs (m .1) (d .0) (d .1) (e .0) (e .1) t h))
+        (cleans a ls xs (m .1) (d .0) (d .1) (e .0) (e .1) t h (clean-is ls xs (m .1) (d .1) (e .1)) (m .0))
 
     -- ---- the answer
 
@@ -196,27 +261,44 @@ module _ (s : Shape) (ok : Shaped s) (cell : Place) (here : Accepted s cell) whe
         each [] = tt
         each (a ∷ ls) = (refl, each ls)
 
-    pub answer-is : (z : Axis) (xs : List Axis) → l < s .axes → Holds s want step (counts (before q)) 8 l (z .shift) z
-        → AllHeld s want step (before q) xs
-        → answerBy round q (recordsField s rs) ≡ worked round (z .shift) z (after round (orders s) xs (at rs)) (base s cell)
-    unfolding toUnit stageOn divisorOn askAt
-    answer-is z xs last hz hx =
-        answer-anywhere round q (recordsField s rs) (placed s cell (λ a. 0)) none
-        ∙ ap (round (stageSum (orderOn want l) (orders s) steps (cell l) (step l) X (placed s cell (λ a. 0) l)))
-        (mul-comm 8 (divisor (orderOn want l) (orders s) steps))
-        ∙ worked-is hz (after round (orders s) xs (at rs)) (index (λ a. 0)) sound (cell l) (placed s cell (λ a. 0) l) X
-        (λ u k. ap (got (before q)) (placed-put l u (λ a. 0))
-        ∙ after-is (before q) xs hx (distinct-before q) (each-before q (λ a. a < s .axes) (λ a i n. i)) (put l u (λ a. 0))
-        (left-put l (before q) u (λ a. 0) (fresh-before q) last k nought)
-        ∙ ap (λ (i : ℕ). pos (counts (before q)) *ℤ after round (orders s) xs (at rs) i)
-        (index-put l u (λ a. 0) (below (ok .axes-high)) refl))
-        ∙ ap (worked round (z .shift) z (after round (orders s) xs (at rs))) index-base
-      where
-        X : ℕ → ℤ
-        X j = got (before q) (put l j (placed s cell (λ a. 0)))
+    none : (a : ℕ) → s .axes ≤ a → orders s * cell a + 0 ≡ 0
+    none a h = rw (here .unused a h) (omega arith)
 
-        none : (a : ℕ) → s .axes ≤ a → orders s * cell a + 0 ≡ 0
-        none a h = rw (here .unused a h) (omega arith)
+    used-before : Each (λ a. a < s .axes) (before q)
+    unfolding askAt
+    used-before = each-before q (λ a. a < s .axes) (λ a i n. i)
 
-        below : s .axes ≤ 3 → l < 3
-        below k = omega (arith, last)
+    module _ (z : Axis) (xs : List Axis) (last : l < s .axes) (hz : Holds s want step (counts (before q)) 8 l (z .shift) z)
+        (hx : AllHeld s want step (before q) xs) where
+      abbrev start : Place
+      start = placed s cell (λ a. 0)
+
+      abbrev X : ℕ → ℤ
+      X j = got (before q) (put l j start)
+
+      numbers : (u : ℕ) → u < 2 * orders s → X (orders s * cell l + u)
+          ≡ pos (counts (before q)) *ℤ after round (orders s) xs (at rs) (index (λ a. 0) + offset s l u)
+      unfolding askAt
+      numbers = got-at l (before q) xs hx (fresh-before q) (distinct-before q) last used-before (λ a. 0) nought
+
+      pub answer-is : answerBy round q (recordsField s rs) ≡ worked round (z .shift) z (after round (orders s) xs (at rs)) (base s cell)
+      unfolding toUnit stageOn divisorOn askAt
+      answer-is =
+          answer-anywhere round q (recordsField s rs) start none
+          ∙ ap (round (stageSum (orderOn want l) (orders s) steps (cell l) (step l) X (start l)))
+          (mul-comm 8 (divisor (orderOn want l) (orders s) steps))
+          ∙ worked-is hz (after round (orders s) xs (at rs)) (index (λ a. 0)) (cell l) (start l) X numbers sound
+          ∙ ap (worked round (z .shift) z (after round (orders s) xs (at rs))) index-base
+
+      pub exact-is : exactBy round q (recordsField s rs)
+          ≡ cleanly (orders s) (z .shift) z (after round (orders s) xs (at rs)) (cleanAfter round (orders s) xs (at rs)) (base s cell)
+      unfolding cleanly stageOn divisorOn askAt
+      exact-is =
+          exact-anywhere round q (recordsField s rs) start none
+          ∙ ap₂ _&&_
+          (ap (λ (y : ℕ). divides y (stageSum (orderOn want l) (orders s) steps (cell l) (step l) X (start l)))
+          (mul-comm 8 (divisor (orderOn want l) (orders s) steps))
+          ∙ divided-is hz (after round (orders s) xs (at rs)) (index (λ a. 0)) (cell l) (start l) X numbers)
+          (cleans l (before q) xs hx (fresh-before q) (distinct-before q) last used-before (λ a. 0) nought
+          (clean-is (before q) xs hx (distinct-before q) used-before) hz)
+          ∙ ap (cleanly (orders s) (z .shift) z (after round (orders s) xs (at rs)) (cleanAfter round (orders s) xs (at rs))) index-base

@@ -1,19 +1,22 @@
 -- The numbers of two ends, by index: what a stage of the code asks for of them, and that it makes of them the number of the definition's
 -- stage.
 use mathlib.Core.Path.{_≡_, refl, sym, ap, ap₂, subst, _∙_}
+use mathlib.Core.Bool.{Bool, true, false, _&&_}
 use mathlib.Core.List.{List, [], _∷_}
 use Prim.Native.Nat.{ℕ, _+_, _*_, _-_, _^_, _≤_, _<_}
 use native.Mathlib.Nat.{le-trans, le-of-eq}
 use native.Mathlib.Omega.{arith}
-use lib.Dec.{ltb, lit<}
+use lib.Bits.{bitOr}
+use lib.Dec.{ltb, eqb, lit<}
 use lib.IntN.{ℤ, pos, _+ℤ_, _*ℤ_, natAbs}
 use lib.ListN.{length, take, drop, length-take, length-drop}
 use lib.Seq.{take-all, getD-drop}
 use borrow.Author.Tests.{lt-ltb, le-ltb}
-use Rattle.arith.specs.Choice.{pick}
-use Rattle.arith.specs.Int.{Rounding}
+use Rattle.arith.specs.Choice.{pick, all}
+use Rattle.arith.specs.Int.{Rounding, divides}
 use Rattle.arith.specs.Sum.{sum, total}
-use Rattle.arith.proofs.Choices.{pick-true, pick-false, by-3, by-place}
+use Rattle.arith.proofs.Choices.{pick-true, pick-false, all-ext, all-twice, by-3, by-place}
+use Rattle.arith.proofs.Bits.{or-none}
 use Rattle.arith.proofs.Sums.{sum-ext, total-ext}
 use Rattle.lattice.specs.Buffer.{at}
 use Rattle.hermite.specs.declared.Basis.{Basis}
@@ -23,7 +26,7 @@ use Rattle.hermite.specs.Stage.{weighted, load}
 use Rattle.hermite.proofs.HermiteLaws.{stage-linear}
 use Rattle.hermite.proofs.StageLaws.{end-sum}
 use Rattle.evaluate.specs.declared.Axis.{Axis}
-use Rattle.evaluate.specs.Stages.{numbersAt, IsEnd, AreEnds, AtBoth, placeOf, worked, Prepared, Safe}
+use Rattle.evaluate.specs.Stages.{numbersAt, IsEnd, AreEnds, AtBoth, placeOf, allAt, sumAt, worked, cleanly, Prepared, Safe}
 
 -- ---- a stage of the 2m numbers y, wherever they stand
 
@@ -59,6 +62,39 @@ module _ (m : ℕ) (g : ℕ → ℤ) (p orderStride : ℕ) (a b : ℤ) (ea : a �
 
   pub end-of-three : m ≡ 3 → (c : ℤ) → c ≡ g (p + 2 * orderStride) → IsEnd m g p orderStride (a ∷ b ∷ c ∷ [])
   end-of-three e c ec = end-numbers c (omega arith) (ec ∙ sym (number-at m g p orderStride 2 (omega arith)))
+
+-- the rests of the numbers of an end, joined
+module _ (m : ℕ) (c : ℕ → Bool) (p orderStride a b : ℕ) (ea : eqb a 0 ≡ c p) (eb : eqb b 0 ≡ c (p + orderStride)) where
+  low-rest : eqb a 0 ≡ c (p + 0 * orderStride)
+  low-rest = ea ∙ ap c (omega arith)
+
+  next-rest : eqb b 0 ≡ c (p + 1 * orderStride)
+  next-rest = eb ∙ ap c (omega arith)
+
+  pub rest-of-two : m ≡ 2 → eqb (bitOr b a) 0 ≡ all m (λ o. c (p + o * orderStride))
+  unfolding all
+  rest-of-two e =
+      or-none b a ∙ ap₂ _&&_ next-rest low-rest ∙ last (c (p + 1 * orderStride)) (c (p + 0 * orderStride))
+      ∙ ap (λ (n : ℕ). all n (λ o. c (p + o * orderStride))) (sym e)
+    where
+      last : (x y : Bool) → (x && y) ≡ (x && (y && true))
+      last true true = refl
+      last true false = refl
+      last false y = refl
+
+  pub rest-of-three : m ≡ 3 → (d : ℕ) → eqb d 0 ≡ c (p + 2 * orderStride)
+      → eqb (bitOr (bitOr d b) a) 0 ≡ all m (λ o. c (p + o * orderStride))
+  unfolding all
+  rest-of-three e d ed =
+      or-none (bitOr d b) a ∙ ap₂ _&&_ (or-none d b ∙ ap₂ _&&_ ed next-rest) low-rest
+      ∙ last (c (p + 2 * orderStride)) (c (p + 1 * orderStride)) (c (p + 0 * orderStride))
+      ∙ ap (λ (n : ℕ). all n (λ o. c (p + o * orderStride))) (sym e)
+    where
+      last : (x y z : Bool) → ((x && y) && z) ≡ (x && (y && (z && true)))
+      last true true true = refl
+      last true true false = refl
+      last true false z = refl
+      last false y z = refl
 
 -- ---- numbers read from index p of a list on
 
@@ -109,14 +145,12 @@ module _ {m : ℕ} {x : Axis} {g : ℕ → ℤ} {p : ℕ} {e : Ends} (h : Prepar
     ),
   )
 
-  -- and what it gives
-  pub stage-gives : (round : Rounding) (k : ℕ)
-      → round (weighted (x .basis) (at (e .low)) (at (e .high))) (2 ^ (k + 1)) ≡ worked round k x g p
-  unfolding worked weighted
-  stage-gives round k =
-      ap (λ z. round z (2 ^ (k + 1)))
-      (ap₂ _+ℤ_ (one (at (x .basis .low)) (λ o i l. h .none o i l .0) (at (e .low)) p (ends .low))
-      (one (at (x .basis .high)) (λ o i l. h .none o i l .1) (at (e .high)) (p + x .node) (ends .high)))
+  -- its sum
+  sum-here : weighted (x .basis) (at (e .low)) (at (e .high)) ≡ sumAt x g p
+  unfolding sumAt weighted
+  sum-here =
+      ap₂ _+ℤ_ (one (at (x .basis .low)) (λ o i l. h .none o i l .0) (at (e .low)) p (ends .low))
+      (one (at (x .basis .high)) (λ o i l. h .none o i l .1) (at (e .high)) (p + x .node) (ends .high))
     where
       -- of order m and above nothing counts
       one : (r : ℕ → ℤ) → ((o : ℕ) → m ≤ o → o < 3 → r o ≡ pos 0) → (y : ℕ → ℤ) (p : ℕ)
@@ -127,6 +161,18 @@ module _ {m : ℕ} {x : Axis} {g : ℕ → ℤ} {p : ℕ} {e : Ends} (h : Prepar
           (λ o l. is o (let k = h .m-high in omega arith) ∙ number-at m g p (x .order) o l)
           ∙ sym (end-sum m (h .m-low) (h .m-high) r (λ o. g (p + o * x .order)) none r (λ o. g (p + o * x .order)) (λ o l. refl)
           (λ o l. refl))
+
+  -- what it gives
+  pub stage-gives : (round : Rounding) (k : ℕ)
+      → round (weighted (x .basis) (at (e .low)) (at (e .high))) (2 ^ (k + 1)) ≡ worked round k x g p
+  unfolding worked
+  stage-gives round k = ap (λ z. round z (2 ^ (k + 1))) sum-here
+
+  -- and whether it drops anything
+  pub stage-cleans : (k : ℕ) (c : ℕ → Bool) → eqb (e .rest) 0 ≡ allAt m c p (x .order) (x .node)
+      → (divides (2 ^ (k + 1)) (weighted (x .basis) (at (e .low)) (at (e .high))) && eqb (e .rest) 0) ≡ cleanly m k x g c p
+  unfolding cleanly
+  stage-cleans k c rest = ap₂ (λ z b. divides (2 ^ (k + 1)) z && b) sum-here rest
 
 -- ---- where the numbers of two ends stand
 
@@ -152,6 +198,20 @@ module _ (m orderStride nodeStride : ℕ) where
       (λ o l. subst P (assoc p nodeStride (o * orderStride) ∙ ap (λ (i : ℕ). p + i) (sym (place-high o))) (h o l .1))
     where
       assoc : (p f k : ℕ) → p + f + k ≡ p + (f + k)
+      assoc p f k = omega arith
+
+  -- a test of all numbers of two ends is one of each end
+  pub all-ends : (c : ℕ → Bool) (p : ℕ)
+      → allAt m c p orderStride nodeStride ≡ (all m (λ o. c (p + nodeStride + o * orderStride)) && all m (λ o. c (p + o * orderStride)))
+  all-ends c p =
+      all-twice m (λ t. c (p + placeOf m orderStride nodeStride t))
+      ∙ ap₂ _&&_
+      (all-ext m (λ o. c (p + placeOf m orderStride nodeStride (m + o))) (λ o. c (p + nodeStride + o * orderStride))
+      (λ o l. ap c (ap (λ (i : ℕ). p + i) (place-high o) ∙ assoc p nodeStride (o * orderStride))))
+      (all-ext m (λ o. c (p + placeOf m orderStride nodeStride o)) (λ o. c (p + o * orderStride))
+      (λ o l. ap (λ (i : ℕ). c (p + i)) (place-low o l)))
+    where
+      assoc : (p f k : ℕ) → p + (f + k) ≡ p + f + k
       assoc p f k = omega arith
 
 -- what is safe is an index of the records

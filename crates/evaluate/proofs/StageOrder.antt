@@ -1,5 +1,5 @@
 -- The axes in their working order, and the stages of two or three of them.
-use mathlib.Core.Path.{_≡_, refl, sym, ap, subst, _∙_}
+use mathlib.Core.Path.{_≡_, refl, sym, subst}
 use mathlib.Core.Bool.{Bool, true, false}
 use mathlib.Core.List.{List, [], _∷_}
 use Prim.Native.Nat.{ℕ, _≤_, _<_}
@@ -10,11 +10,12 @@ use Rattle.arith.specs.Int.{Rounding}
 use Rattle.arith.specs.Choice.{pick}
 use Rattle.arith.proofs.Choices.{clash, by-m, by-2, by-3}
 use Rattle.lattice.specs.Axes.{axes, without}
+use Rattle.hermite.specs.declared.Rounded.{Rounded}
 use Rattle.hermite.specs.Hermite.{steps}
 use Rattle.hermite.proofs.StageLaws.{folds-none, shifted}
 use Rattle.evaluate.specs.declared.Axis.{Axis}
 use Rattle.evaluate.specs.declared.Strides.{Strides}
-use Rattle.evaluate.specs.Stages.{worked, after, also, beside, Prepared, AllPrepared, Safe, Made, AllSteps, Workable, WorkedOff}
+use Rattle.evaluate.specs.Stages.{also, beside, Prepared, AllPrepared, Safe, Made, AllSteps, Workable, WorkedOff, Reported, Reports}
 
 -- ---- the axes in their working order
 
@@ -53,20 +54,22 @@ pub steps-of : (a b c : Strides) (three : Bool) → AllSteps (c ∷ also three b
 steps-of a b c true h = (h .1 .1 .0, h .0, λ e. h .1 .0)
 steps-of a b c false h = (h .1 .0, h .0, λ e. apart false e refl)
 
-module _ {round : Rounding} {m order : ℕ} {a c : Strides} (b : Strides) {x z : Axis} (made-x : Made m 0 false true a x)
+module _ {m order : ℕ} {a c : Strides} (b : Strides) {x z : Axis} (made-x : Made m 0 false true a x)
     (made-z : Made m order true false c z) where
-  pub two-ask : {n : ℕ} {g : ℕ → ℤ} {p : ℕ} (three : Bool) → three ≡ false → Workable round m order c (also three b (a ∷ [])) n g p
+  pub two-ask : {round : Rounding} {n : ℕ} {g : ℕ → ℤ} {p : ℕ} (three : Bool) → three ≡ false
+      → Workable round m order c (also three b (a ∷ [])) n g p
       → (AllPrepared m (z ∷ x ∷ []) × (z .shift ≤ 44)) × Safe round m n (z ∷ x ∷ []) g p
   two-ask true e w = apart true refl e
   two-ask false e w = (((made-prepared made-z, (made-prepared made-x, tt)), made-small made-z), w .safe z (x ∷ []) made-z (made-x, tt))
 
-  pub two-give : {g : ℕ → ℤ} {p : ℕ} {r : ℤ} (three : Bool) → three ≡ false → r ≡ worked round (z .shift) z (after round m (x ∷ []) g) p
-      → WorkedOff round m order c (also three b (a ∷ [])) g p r
+  pub two-give : {Is : Axis → List Axis → Type 0} (three : Bool) → three ≡ false → Is z (x ∷ [])
+      → WorkedOff m order c (also three b (a ∷ [])) Is
   two-give true e is = apart true refl e
   two-give false e is = record { last = z; others = x ∷ []; made-last = made-z; made = (made-x, tt); is = is }
 
   module _ {y : Axis} (made-y : Made m 0 true true b y) where
-    pub three-ask : {n : ℕ} {g : ℕ → ℤ} {p : ℕ} (three : Bool) → three ≡ true → Workable round m order c (also three b (a ∷ [])) n g p
+    pub three-ask : {round : Rounding} {n : ℕ} {g : ℕ → ℤ} {p : ℕ} (three : Bool) → three ≡ true
+        → Workable round m order c (also three b (a ∷ [])) n g p
         → (AllPrepared m (z ∷ y ∷ x ∷ []) × (z .shift ≤ 44)) × Safe round m n (z ∷ y ∷ x ∷ []) g p
     three-ask true e w = (
       ((made-prepared made-z, (made-prepared made-y, (made-prepared made-x, tt))), made-small made-z),
@@ -74,9 +77,8 @@ module _ {round : Rounding} {m order : ℕ} {a c : Strides} (b : Strides) {x z :
     )
     three-ask false e w = apart false e refl
 
-    pub three-give : {g : ℕ → ℤ} {p : ℕ} {r : ℤ} (three : Bool) → three ≡ true
-        → r ≡ worked round (z .shift) z (after round m (y ∷ x ∷ []) g) p
-        → WorkedOff round m order c (also three b (a ∷ [])) g p r
+    pub three-give : {Is : Axis → List Axis → Type 0} (three : Bool) → three ≡ true → Is z (y ∷ x ∷ [])
+        → WorkedOff m order c (also three b (a ∷ [])) Is
     three-give true e is = record { last = z; others = y ∷ x ∷ []; made-last = made-z; made = (made-y, (made-x, tt)); is = is }
     three-give false e is = apart false e refl
 
@@ -88,16 +90,23 @@ module _ (round constant : Rounding) (y x : Axis) (n : ℕ) (g : ℕ → ℤ) (p
       subst (λ (r : Rounding). (AllPrepared k (y ∷ x ∷ []) × (shift ≤ 44)) × Safe r k n (y ∷ x ∷ []) g p) er
       (subst (λ (i : ℕ). (AllPrepared i (y ∷ x ∷ []) × (shift ≤ 44)) × Safe round i n (y ∷ x ∷ []) g p) e (h, s))
 
-  pub worked-as : (shift : ℕ) → worked constant shift y (after constant k (x ∷ []) g) p ≡ worked round shift y (after round m (x ∷ []) g) p
-  worked-as shift =
-      ap (λ (r : Rounding). worked r shift y (after r k (x ∷ []) g) p) (sym er)
-      ∙ ap (λ (i : ℕ). worked round shift y (after round i (x ∷ []) g) p) (sym e)
+  pub reported-as : (shift : ℕ) (r : Rounded) → Reported constant k shift y (x ∷ []) g p r → Reported round m shift y (x ∷ []) g p r
+  reported-as shift r h =
+      subst (λ (i : ℕ). Reported round i shift y (x ∷ []) g p r) (sym e)
+      (subst (λ (f : Rounding). Reported f k shift y (x ∷ []) g p r) (sym er) h)
 
 -- a stage of one axis with m and the order as constants
 module _ (round : Rounding) (a : Strides) (rest : List Strides) (g : ℕ → ℤ) (p m k order c : ℕ) (em : m ≡ k) (eo : order ≡ c) where
   pub workable-as : (n : ℕ) → Workable round m order a rest n g p → Workable round k c a rest n g p
   workable-as n w = subst (λ (i : ℕ). Workable round i c a rest n g p) em (subst (λ (o : ℕ). Workable round m o a rest n g p) eo w)
 
-  pub worked-off-as : (r : ℤ) → WorkedOff round k c a rest g p r → WorkedOff round m order a rest g p r
+  pub worked-off-as : (r : Rounded) → WorkedOff k c a rest (Reports round k g p r) → WorkedOff m order a rest (Reports round m g p r)
   worked-off-as r w =
-      subst (λ (o : ℕ). WorkedOff round m o a rest g p r) (sym eo) (subst (λ (i : ℕ). WorkedOff round i c a rest g p r) (sym em) w)
+      subst (λ (o : ℕ). WorkedOff m o a rest (Reports round m g p r)) (sym eo)
+      (subst (λ (i : ℕ). WorkedOff i c a rest (Reports round i g p r)) (sym em) w)
+
+-- what follows of the stages
+pub worked-off-then : {m order : ℕ} {b : Strides} {rest : List Strides} {Is So : Axis → List Axis → Type 0}
+    → ((z : Axis) (xs : List Axis) → Is z xs → So z xs) → WorkedOff m order b rest Is → WorkedOff m order b rest So
+worked-off-then f w =
+    record { last = w .last; others = w .others; made-last = w .made-last; made = w .made; is = f (w .last) (w .others) (w .is) }

@@ -1,14 +1,15 @@
--- A dose, a slope or a curvature at step u of a cell: the exact value, and the rounded stages.
-use Prim.Native.Nat.{ℕ, _*_, _-_}
-use mathlib.Core.List.{List}
+-- A dose, a slope or a curvature at step u of a cell: the exact value, the rounded stages, and whether they dropped anything.
+use Prim.Native.Nat.{ℕ, _+_, _*_, _-_}
+use mathlib.Core.Bool.{Bool, true, _&&_}
+use mathlib.Core.List.{List, [], _∷_}
 use lib.Dec.{eqb}
 use lib.IntN.{ℤ, pos, _*ℤ_}
-use Rattle.arith.specs.Int.{Rounding}
+use Rattle.arith.specs.Int.{Rounding, divides}
 use Rattle.arith.specs.Sum.{sum, product, times}
-use Rattle.arith.specs.Choice.{pick}
+use Rattle.arith.specs.Choice.{pick, all}
 use Rattle.lattice.specs.declared.Shape.{Shape}
 use Rattle.lattice.specs.Shape.{orders}
-use Rattle.lattice.specs.Axes.{Place, Field, Rule, origin, along, sweep, axes, without}
+use Rattle.lattice.specs.Axes.{Place, Field, Rule, origin, put, along, sweep, axes, without}
 use Rattle.hermite.specs.Hermite.{steps, weightAt, divisor, stageSum}
 use Rattle.cell.specs.Coefficients.{coefficients}
 
@@ -95,7 +96,25 @@ answerBy round q g =
     along (lastAxis (q .n) (q .want)) (toUnit round q (lastAxis (q .n) (q .want)))
     (sweep (before q) (toEighth round q) (inEighths g)) origin
 
--- of a table of shape s
+-- ---- the mark: no stage dropped anything
+
+-- of the number at place p after the stages of a list of axes: its sum is a multiple of its divisor, and nothing was dropped of any number
+-- that it is made of, whatever its weight
+unfoldable pub clean : Rounding → Ask → List ℕ → Field → Place → Bool
+clean round q [] g p = true
+clean round q (a ∷ ls) g p =
+    divides (divisorOn q a) (along a (stageOn q a) (sweep ls (toEighth round q) g) p)
+    && all (2 * q .m) (λ t. clean round q ls g (put a (q .m * q .cell a + t) p))
+
+-- of the answer
+unfoldable pub exactBy : Rounding → Ask → Field → Bool
+exactBy round q g =
+    let l = lastAxis (q .n) (q .want) in
+    divides (8 * divisorOn q l) (along l (stageOn q l) (sweep (before q) (toEighth round q) (inEighths g)) origin)
+    && all (2 * q .m) (λ t. clean round q (before q) (inEighths g) (put l (q .m * q .cell l + t) origin))
+
+-- ---- what is asked of a table of shape s
+
 unfoldable pub askAt : Shape → Want → Place → Place → Ask
 askAt s want cell step = record { m = orders s; n = s .axes; want = want; N = λ a. steps; cell = cell; step = step }
 

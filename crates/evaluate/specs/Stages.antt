@@ -1,13 +1,13 @@
 -- What the functions of the stages state. Numbers are known by their index in the records; g is what stands at each index.
 use mathlib.Core.Path.{_≡_}
-use mathlib.Core.Bool.{Bool, true, false}
+use mathlib.Core.Bool.{Bool, true, false, _&&_}
 use Prim.Native.Nat.{ℕ, zero, suc, _+_, _*_, _-_, _^_, _≤_, _<_}
 use mathlib.Core.List.{List, [], _∷_}
 use lib.Dec.{ltb, eqb}
 use lib.IntN.{ℤ, pos}
 use lib.ListN.{length}
-use Rattle.arith.specs.Int.{Rounding}
-use Rattle.arith.specs.Choice.{pick}
+use Rattle.arith.specs.Int.{Rounding, divides}
+use Rattle.arith.specs.Choice.{pick, all}
 use Rattle.lattice.specs.declared.Shape.{Shape}
 use Rattle.lattice.specs.Buffer.{at}
 use Rattle.lattice.specs.Outcome.{done}
@@ -15,6 +15,7 @@ use Rattle.lattice.specs.Shape.{orders, size, Shaped}
 use Rattle.lattice.specs.Axes.{Place}
 use Rattle.hermite.specs.Hermite.{steps}
 use Rattle.hermite.specs.declared.Ends.{Ends}
+use Rattle.hermite.specs.declared.Rounded.{Rounded}
 use Rattle.hermite.specs.Stage.{Smooth, Folds, weighted, load, shiftOf}
 use Rattle.cell.specs.declared.Layout.{Layout}
 use Rattle.cell.specs.Cell.{Accepted, Laid, cornersOutcome}
@@ -43,9 +44,21 @@ AtBoth m P p orderStride nodeStride = (o : ℕ) → o < m → P (p + o * orderSt
 unfoldable pub placeOf : ℕ → ℕ → ℕ → ℕ → ℕ
 placeOf m orderStride nodeStride t = pick (ltb t m) (t * orderStride) (nodeStride + (t - m) * orderStride)
 
--- the number that a stage of shift k along axis x makes of the numbers g from index p on
+-- a test of the number at each of these places
+abbrev pub allAt : ℕ → (ℕ → Bool) → ℕ → ℕ → ℕ → Bool
+allAt m c p orderStride nodeStride = all (2 * m) (λ t. c (p + placeOf m orderStride nodeStride t))
+
+-- the sum of a stage along axis x of the numbers g from index p on
+unfoldable pub sumAt : Axis → (ℕ → ℤ) → ℕ → ℤ
+sumAt x g p = weighted (x .basis) (λ o. g (p + o * x .order)) (λ o. g (p + x .node + o * x .order))
+
+-- the number that a stage of shift k makes of it
 unfoldable pub worked : Rounding → ℕ → Axis → (ℕ → ℤ) → ℕ → ℤ
-worked round k x g p = round (weighted (x .basis) (λ o. g (p + o * x .order)) (λ o. g (p + x .node + o * x .order))) (2 ^ (k + 1))
+worked round k x g p = round (sumAt x g p) (2 ^ (k + 1))
+
+-- nothing is dropped of that number, where c says so of each of the numbers g
+unfoldable pub cleanly : ℕ → ℕ → Axis → (ℕ → ℤ) → (ℕ → Bool) → ℕ → Bool
+cleanly m k x g c p = divides (2 ^ (k + 1)) (sumAt x g p) && allAt m c p (x .order) (x .node)
 
 -- numbers come in units to the first stage and in eighths to each later one
 abbrev pub later : {A : Type 0} → List A → Bool
@@ -56,6 +69,16 @@ later (a ∷ rest) = true
 unfoldable pub after : Rounding → ℕ → List Axis → (ℕ → ℤ) → ℕ → ℤ
 after round m [] g = g
 after round m (x ∷ xs) g = worked round (shiftOf 0 m (later xs) true) x (after round m xs g)
+
+-- nothing is dropped by them
+unfoldable pub cleanAfter : Rounding → ℕ → List Axis → (ℕ → ℤ) → ℕ → Bool
+cleanAfter round m [] g = λ i. true
+cleanAfter round m (x ∷ xs) g = cleanly m (shiftOf 0 m (later xs) true) x (after round m xs g) (cleanAfter round m xs g)
+
+-- a stage of shift k along axis x, after those of a list of axes, reports its number, and a rest of 0 where nothing was dropped
+pub record Reported (round : Rounding) (m k : ℕ) (x : Axis) (xs : List Axis) (g : ℕ → ℤ) (p : ℕ) (r : Rounded) : Type 0 where
+  pub number-is : r .number ≡ worked round k x (after round m xs g) p
+  pub rest-is : eqb (r .rest) 0 ≡ cleanly m k x (after round m xs g) (cleanAfter round m xs g) p
 
 -- the basis of a stage has nothing from order m on
 pub record Prepared (m : ℕ) (x : Axis) : Type 0 where
@@ -120,13 +143,25 @@ pub record Workable (round : Rounding) (m order : ℕ) (b : Strides) (rest : Lis
   pub steps-in : AllSteps (b ∷ rest)
   pub safe : (z : Axis) (xs : List Axis) → Made m order (later rest) false b z → AllMade m rest xs → Safe round m n (z ∷ xs) g p
 
--- and r is their result
-pub record WorkedOff (round : Rounding) (m order : ℕ) (b : Strides) (rest : List Strides) (g : ℕ → ℤ) (p : ℕ) (r : ℤ) : Type 0 where
+-- and something holds of them
+pub record WorkedOff (m order : ℕ) (b : Strides) (rest : List Strides) (Is : Axis → List Axis → Type 0) : Type 0 where
   pub last : Axis
   pub others : List Axis
   pub made-last : Made m order (later rest) false b last
   pub made : AllMade m rest others
-  pub is : r ≡ worked round (last .shift) last (after round m others g) p
+  pub is : Is last others
+
+-- r is their number
+abbrev pub Gives : Rounding → ℕ → (ℕ → ℤ) → ℕ → ℤ → Axis → List Axis → Type 0
+Gives round m g p r z xs = r ≡ worked round (z .shift) z (after round m xs g) p
+
+-- c says that nothing is dropped by them
+abbrev pub Cleans : Rounding → ℕ → (ℕ → ℤ) → ℕ → Bool → Axis → List Axis → Type 0
+Cleans round m g p c z xs = c ≡ cleanly m (z .shift) z (after round m xs g) (cleanAfter round m xs g) p
+
+-- r reports both
+abbrev pub Reports : Rounding → ℕ → (ℕ → ℤ) → ℕ → Rounded → Axis → List Axis → Type 0
+Reports round m g p r z xs = Reported round m (z .shift) z xs g p r
 
 -- what a query has tested before its stages
 pub record Ready (s : Shape) (rs : List ℤ) (cell step : Place) (want : Want) (l : Layout) : Type 0 where

@@ -1,21 +1,24 @@
 // The stages of a dose, a slope or a curvature in a cell, straight from the records.
 ghost use mathlib.Core.Path.{_≡_};
 ghost use mathlib.Core.Bool.{true, false};
+ghost use lib.Dec.{eqb};
 ghost use mathlib.Core.List.{[], _∷_};
 ghost use Prim.Native.Nat.{ℕ, _+_, _*_, _^_, _<_, _≤_};
 ghost use lib.ListN.{length, getD};
 ghost use Rattle.lattice.specs.Buffer.{at};
 ghost use Rattle.lattice.specs.Records.{recordsField};
+ghost use Rattle.arith.specs.Choice.{all};
 ghost use Rattle.arith.specs.Int.{roundingOf};
 ghost use Rattle.hermite.specs.Hermite.{steps};
-ghost use Rattle.hermite.specs.Stage.{Smooth};
+ghost use Rattle.hermite.specs.Stage.{Smooth, shiftOf};
 ghost use Rattle.cell.specs.Cell.{placeAt};
-ghost use Rattle.evaluate.specs.Evaluate.{answerBy, askAt, lastAxis};
+ghost use Rattle.evaluate.specs.Evaluate.{answerBy, exactBy, askAt, lastAxis};
 ghost use Rattle.evaluate.specs.Wants.{wantOf};
-ghost use Rattle.evaluate.specs.Stages.{IsEnd, AreEnds, AtBoth, worked, after, placeOf, also, stridesOf, ofAxis, beside, Made, Prepared, AllPrepared, Safe, Workable, WorkedOff, Ready};
+ghost use Rattle.evaluate.specs.Stages.{IsEnd, AreEnds, AtBoth, allAt, worked, cleanly, after, cleanAfter, Reported, placeOf, also, stridesOf, ofAxis, beside, Made, Prepared, AllPrepared, Safe, Workable, WorkedOff, Reports, Ready};
 use cell::Layout;
 use hermite::Basis;
 use hermite::Ends;
+use hermite::Rounded;
 use lattice::Shape;
 
 // The order of the derivative and its axis; a query for a dose has order 0 and no axis of its own.
@@ -44,6 +47,18 @@ pub struct Sequence {
     pub first: Strides,
     pub middle: Strides,
     pub last: Strides,
+}
+
+// The numbers of one end, and what was dropped of them.
+pub struct End {
+    pub numbers: [i64; 3],
+    pub rest: u64,
+}
+
+// A dose or derivative, and whether nothing was dropped of it.
+pub struct Value {
+    pub number: i32,
+    pub exact: bool,
 }
 
 // The stage of an axis whose numbers come and go in units, or in eighths where `from` or `to` is set.
@@ -90,10 +105,10 @@ fn end_in(m: usize, records: &[i32], p: usize, order: usize) -> [i64; 3]
 }
 
 // The number after the first stage, from p on; here and below k is the stage's shift, and `even` is set in edition two.
-fn first(even: bool, m: usize, k: u32, x: Axis, records: &[i32], p: usize) -> i64
+fn first(even: bool, m: usize, k: u32, x: Axis, records: &[i32], p: usize) -> Rounded
     requires { ⌜ Prepared m x × (k ≤ 44) ⌝ }
     requires { ⌜ Safe (roundingOf even) m (length (now records)) (x ∷ []) (at (now records)) p ⌝ }
-    ensures { λ r. ⌜ r ≡ worked (roundingOf even) k x (at (now (records .entry))) p ⌝ }
+    ensures { λ r. ⌜ Reported (roundingOf even) m k x [] (at (now (records .entry))) p r ⌝ }
 {
     // A part that starts at p spares the inner sums its addition.
     let here = &records[p..];
@@ -103,30 +118,31 @@ fn first(even: bool, m: usize, k: u32, x: Axis, records: &[i32], p: usize) -> i6
     let ends = Ends {
         low: low,
         high: high,
+        rest: 0,
     };
     hermite::stage(even, m, basis, k, ends)
 }
 
 // The numbers of an end after the first stage.
-fn first_end(
-    even: bool,
-    m: usize,
-    k: u32,
-    x: Axis,
-    records: &[i32],
-    p: usize,
-    order: usize,
-) -> [i64; 3]
+fn first_end(even: bool, m: usize, k: u32, x: Axis, records: &[i32], p: usize, order: usize) -> End
     requires { ⌜ Prepared m x × (k ≤ 44) ⌝ }
     requires { ⌜ ((o : ℕ) → o < m → Safe (roundingOf even) m (length (now records)) (x ∷ []) (at (now records)) (p + o * order)) ⌝ }
-    ensures { λ r. ⌜ IsEnd m (worked (roundingOf even) k x (at (now (records .entry)))) p order r ⌝ }
+    ensures { λ r. ⌜ IsEnd m (worked (roundingOf even) k x (at (now (records .entry)))) p order (r .numbers) ⌝ }
+    ensures { λ r. ⌜ eqb (r .rest) 0 ≡ all m (λ o. cleanly m k x (at (now (records .entry))) (λ i. true) (p + o * order)) ⌝ }
 {
     let a = first(even, m, k, x, records, p);
     let b = first(even, m, k, x, records, p + order);
     if m == 2 {
-        return [a, b, 0];
+        return End {
+            numbers: [a.number, b.number, 0],
+            rest: b.rest | a.rest,
+        };
     }
-    [a, b, first(even, m, k, x, records, p + 2 * order)]
+    let c = first(even, m, k, x, records, p + 2 * order);
+    End {
+        numbers: [a.number, b.number, c.number],
+        rest: c.rest | b.rest | a.rest,
+    }
 }
 
 // The numbers of two ends after the first stage.
@@ -143,20 +159,24 @@ fn first_ends(
     requires { ⌜ Prepared m x × (k ≤ 44) ⌝ }
     requires { ⌜ AtBoth m (Safe (roundingOf even) m (length (now records)) (x ∷ []) (at (now records))) p order node ⌝ }
     ensures { λ r. ⌜ AreEnds m (worked (roundingOf even) k x (at (now (records .entry)))) p order node r ⌝ }
+    ensures { λ r. ⌜ eqb (r .rest) 0 ≡ allAt m (cleanly m k x (at (now (records .entry))) (λ i. true)) p order node ⌝ }
 {
     let low = first_end(even, m, k, x, records, p, order);
     let high = first_end(even, m, k, x, records, p + node, order);
+    let from_low = low.numbers;
+    let from_high = high.numbers;
     Ends {
-        low: low,
-        high: high,
+        low: from_low,
+        high: from_high,
+        rest: high.rest | low.rest,
     }
 }
 
 // The number after the second stage.
-pub fn second(even: bool, m: usize, k: u32, y: Axis, x: Axis, records: &[i32], p: usize) -> i64
+pub fn second(even: bool, m: usize, k: u32, y: Axis, x: Axis, records: &[i32], p: usize) -> Rounded
     requires { ⌜ AllPrepared m (y ∷ x ∷ []) × (k ≤ 44) ⌝ }
     requires { ⌜ Safe (roundingOf even) m (length (now records)) (y ∷ x ∷ []) (at (now records)) p ⌝ }
-    ensures { λ r. ⌜ r ≡ worked (roundingOf even) k y (after (roundingOf even) m (x ∷ []) (at (now (records .entry)))) p ⌝ }
+    ensures { λ r. ⌜ Reported (roundingOf even) m k y (x ∷ []) (at (now (records .entry))) p r ⌝ }
 {
     let before = hermite::shift(0, m, false, true);
     let ends = first_ends(even, m, before, x, records, p, y.order, y.node);
@@ -165,10 +185,10 @@ pub fn second(even: bool, m: usize, k: u32, y: Axis, x: Axis, records: &[i32], p
 }
 
 // The stages of two axes, m and the edition constants of the call.
-fn both_stages(even: bool, m: usize, z: Axis, x: Axis, records: &[i32], p: usize) -> i64
+fn both_stages(even: bool, m: usize, z: Axis, x: Axis, records: &[i32], p: usize) -> Rounded
     requires { ⌜ AllPrepared m (z ∷ x ∷ []) × (z .shift ≤ 44) ⌝ }
     requires { ⌜ Safe (roundingOf even) m (length (now records)) (z ∷ x ∷ []) (at (now records)) p ⌝ }
-    ensures { λ r. ⌜ r ≡ worked (roundingOf even) (z .shift) z (after (roundingOf even) m (x ∷ []) (at (now (records .entry)))) p ⌝ }
+    ensures { λ r. ⌜ Reported (roundingOf even) m (z .shift) z (x ∷ []) (at (now (records .entry))) p r ⌝ }
 {
     let k = z.shift;
     if !even {
@@ -184,10 +204,10 @@ fn both_stages(even: bool, m: usize, z: Axis, x: Axis, records: &[i32], p: usize
 }
 
 // The stages of three axes but the last, m and the edition constants of the call.
-fn first_stages(even: bool, m: usize, y: Axis, x: Axis, records: &[i32], p: usize) -> i64
+fn first_stages(even: bool, m: usize, y: Axis, x: Axis, records: &[i32], p: usize) -> Rounded
     requires { ⌜ AllPrepared m (y ∷ x ∷ []) ⌝ }
     requires { ⌜ Safe (roundingOf even) m (length (now records)) (y ∷ x ∷ []) (at (now records)) p ⌝ }
-    ensures { λ r. ⌜ r ≡ after (roundingOf even) m (y ∷ x ∷ []) (at (now (records .entry))) p ⌝ }
+    ensures { λ r. ⌜ Reported (roundingOf even) m (shiftOf 0 m true true) y (x ∷ []) (at (now (records .entry))) p r ⌝ }
 {
     if !even {
         if m == 2 {
@@ -212,23 +232,6 @@ pub fn place_at(m: usize, order: usize, node: usize, t: usize) -> usize
     node + (t - m) * order
 }
 
-// Where all of them stand.
-fn places_of(m: usize, order: usize, node: usize) -> [usize; 6]
-    requires { ⌜ (2 ≤ m) × (m ≤ 3) × ((t : ℕ) → t < 2 * m → placeOf m order node t < 2 ^ 64) ⌝ }
-    ensures { λ r. ⌜ ((t : ℕ) → t < 2 * m → getD r t 0 ≡ placeOf m order node t) ⌝ }
-{
-    let a = place_at(m, order, node, 0);
-    let b = place_at(m, order, node, 1);
-    let c = place_at(m, order, node, 2);
-    let d = place_at(m, order, node, 3);
-    if m == 2 {
-        return [a, b, c, d, 0, 0];
-    }
-    let e = place_at(m, order, node, 4);
-    let f = place_at(m, order, node, 5);
-    [a, b, c, d, e, f]
-}
-
 // The numbers of two ends after the second stage.
 fn second_ends(
     even: bool,
@@ -243,31 +246,38 @@ fn second_ends(
     requires { ⌜ AllPrepared m (y ∷ x ∷ []) ⌝ }
     requires { ⌜ AtBoth m (Safe (roundingOf even) m (length (now records)) (y ∷ x ∷ []) (at (now records))) p order node ⌝ }
     ensures { λ r. ⌜ AreEnds m (after (roundingOf even) m (y ∷ x ∷ []) (at (now (records .entry)))) p order node r ⌝ }
+    ensures { λ r. ⌜ eqb (r .rest) 0 ≡ allAt m (cleanAfter (roundingOf even) m (y ∷ x ∷ []) (at (now (records .entry)))) p order node ⌝ }
 {
-    let place = places_of(m, order, node);
     let mut n = [0i64; 6];
+    let mut rest: u64 = 0;
     let mut t: usize = 0;
     while t < 2 * m {
-        n[t] = first_stages(even, m, y, x, records, p + place[t]);
+        let place = place_at(m, order, node, t);
+        let r = first_stages(even, m, y, x, records, p + place);
+        let number = r.number;
+        n[t] = number;
+        rest = r.rest | rest;
         t += 1;
     }
     if m == 2 {
         return Ends {
             low: [n[0], n[1], 0],
             high: [n[2], n[3], 0],
+            rest: rest,
         };
     }
     Ends {
         low: [n[0], n[1], n[2]],
         high: [n[3], n[4], n[5]],
+        rest: rest,
     }
 }
 
 // The number after the third stage.
-fn third(even: bool, m: usize, z: Axis, y: Axis, x: Axis, records: &[i32], p: usize) -> i64
+fn third(even: bool, m: usize, z: Axis, y: Axis, x: Axis, records: &[i32], p: usize) -> Rounded
     requires { ⌜ AllPrepared m (z ∷ y ∷ x ∷ []) × (z .shift ≤ 44) ⌝ }
     requires { ⌜ Safe (roundingOf even) m (length (now records)) (z ∷ y ∷ x ∷ []) (at (now records)) p ⌝ }
-    ensures { λ r. ⌜ r ≡ worked (roundingOf even) (z .shift) z (after (roundingOf even) m (y ∷ x ∷ []) (at (now (records .entry)))) p ⌝ }
+    ensures { λ r. ⌜ Reported (roundingOf even) m (z .shift) z (y ∷ x ∷ []) (at (now (records .entry))) p r ⌝ }
 {
     let ends = second_ends(even, m, y, x, records, p, z.order, z.node);
     let basis = z.basis;
@@ -275,18 +285,25 @@ fn third(even: bool, m: usize, z: Axis, y: Axis, x: Axis, records: &[i32], p: us
 }
 
 // The stage of one axis, to units.
-pub fn one_axis(even: bool, m: usize, order: u32, a: Strides, records: &[i32], p: usize) -> i64
+pub fn one_axis(even: bool, m: usize, order: u32, a: Strides, records: &[i32], p: usize) -> Rounded
     requires { ⌜ Workable (roundingOf even) m order a [] (length (now records)) (at (now records)) p ⌝ }
-    ensures { λ r. ⌜ WorkedOff (roundingOf even) m order a [] (at (now (records .entry))) p r ⌝ }
+    ensures { λ r. ⌜ WorkedOff m order a [] (Reports (roundingOf even) m (at (now (records .entry))) p r) ⌝ }
 {
     let x = axis_of(m, order, false, false, a.step, a.node, a.order);
     first(even, m, x.shift, x, records, p)
 }
 
 // The same, with m and the order constants of the call.
-fn one_axis_by_kind(even: bool, m: usize, order: u32, a: Strides, records: &[i32], p: usize) -> i64
+fn one_axis_by_kind(
+    even: bool,
+    m: usize,
+    order: u32,
+    a: Strides,
+    records: &[i32],
+    p: usize,
+) -> Rounded
     requires { ⌜ Workable (roundingOf even) m order a [] (length (now records)) (at (now records)) p ⌝ }
-    ensures { λ r. ⌜ WorkedOff (roundingOf even) m order a [] (at (now (records .entry))) p r ⌝ }
+    ensures { λ r. ⌜ WorkedOff m order a [] (Reports (roundingOf even) m (at (now (records .entry))) p r) ⌝ }
 {
     if m == 2 {
         if order == 0 {
@@ -328,9 +345,9 @@ fn more_axes(
     c: Strides,
     records: &[i32],
     p: usize,
-) -> i64
+) -> Rounded
     requires { ⌜ Workable (roundingOf even) m order c (also three b (a ∷ [])) (length (now records)) (at (now records)) p ⌝ }
-    ensures { λ r. ⌜ WorkedOff (roundingOf even) m order c (also three b (a ∷ [])) (at (now (records .entry))) p r ⌝ }
+    ensures { λ r. ⌜ WorkedOff m order c (also three b (a ∷ [])) (Reports (roundingOf even) m (at (now (records .entry))) p r) ⌝ }
 {
     let x = axis_of(m, 0, false, true, a.step, a.node, a.order);
     let z = last_stage(m, order, c);
@@ -354,11 +371,11 @@ fn in_sequence(last: u32, x: Strides, y: Strides, z: Strides) -> Sequence
     requires { ⌜ last < 3 ⌝ }
     ensures { λ r. ⌜ (r .first ≡ ofAxis x y z (beside 0 last)) × (r .middle ≡ ofAxis x y z (beside 2 last)) × (r .last ≡ ofAxis x y z last) ⌝ }
 {
-    if last == 2 {
+    if last == 1 {
         return Sequence {
             first: x,
-            middle: y,
-            last: z,
+            middle: z,
+            last: y,
         };
     }
     if last == 0 {
@@ -370,8 +387,8 @@ fn in_sequence(last: u32, x: Strides, y: Strides, z: Strides) -> Sequence
     }
     Sequence {
         first: x,
-        middle: z,
-        last: y,
+        middle: y,
+        last: z,
     }
 }
 
@@ -411,14 +428,19 @@ pub fn on_line(
     order: u32,
     axis: u32,
     l: Layout,
-) -> i32
+) -> Value
     requires { ⌜ Ready s (now records) (placeAt cell) (placeAt step) (wantOf order axis) l ⌝ }
     requires { ⌜ s .axes ≡ 1 ⌝ }
-    ensures { λ r. ⌜ r ≡ answerBy (roundingOf even) (askAt s (wantOf order axis) (placeAt cell) (placeAt step)) (recordsField s (now (records .entry))) ⌝ }
+    ensures { λ r. ⌜ r .number ≡ answerBy (roundingOf even) (askAt s (wantOf order axis) (placeAt cell) (placeAt step)) (recordsField s (now (records .entry))) ⌝ }
+    ensures { λ r. ⌜ r .exact ≡ exactBy (roundingOf even) (askAt s (wantOf order axis) (placeAt cell) (placeAt step)) (recordsField s (now (records .entry))) ⌝ }
 {
     let m = l.orders;
     let x = strides_of(m, step, l, 0);
-    one_axis_by_kind(even, m, order, x, records, l.base) as i32
+    let r = one_axis_by_kind(even, m, order, x, records, l.base);
+    Value {
+        number: r.number as i32,
+        exact: r.rest == 0,
+    }
 }
 
 // The dose or derivative at a step of a cell of two or three axes: the stages x, y, z, a derivative's axis last.
@@ -431,10 +453,11 @@ pub fn on_lattice(
     order: u32,
     axis: u32,
     l: Layout,
-) -> i32
+) -> Value
     requires { ⌜ Ready s (now records) (placeAt cell) (placeAt step) (wantOf order axis) l ⌝ }
     requires { ⌜ 2 ≤ s .axes ⌝ }
-    ensures { λ r. ⌜ r ≡ answerBy (roundingOf even) (askAt s (wantOf order axis) (placeAt cell) (placeAt step)) (recordsField s (now (records .entry))) ⌝ }
+    ensures { λ r. ⌜ r .number ≡ answerBy (roundingOf even) (askAt s (wantOf order axis) (placeAt cell) (placeAt step)) (recordsField s (now (records .entry))) ⌝ }
+    ensures { λ r. ⌜ r .exact ≡ exactBy (roundingOf even) (askAt s (wantOf order axis) (placeAt cell) (placeAt step)) (recordsField s (now (records .entry))) ⌝ }
 {
     let m = l.orders;
     let n = s.axes;
@@ -448,5 +471,9 @@ pub fn on_lattice(
     let c = sequence.last;
     let base = l.base;
     // A part that starts at the cell takes one register.
-    more_axes(even, m, n == 3, order, a, b, c, &records[base..], 0) as i32
+    let r = more_axes(even, m, n == 3, order, a, b, c, &records[base..], 0);
+    Value {
+        number: r.number as i32,
+        exact: r.rest == 0,
+    }
 }

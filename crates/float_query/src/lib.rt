@@ -38,7 +38,7 @@ fn in_float(a: Reading, order: u32) -> FloatReading
 {
     match a {
         Reading::Refused(r) => FloatReading::Refused(r),
-        Reading::Value(v) => {
+        Reading::Exact(v) | Reading::Near(v) => {
             let x = floats::whole(v);
             if order == 0 {
                 FloatReading::Dose(x)
@@ -81,7 +81,7 @@ fn with_ten(a: Reading, x: FloatStep, y: FloatStep, z: FloatStep) -> Reading
     ensures { λ r. ⌜ outcomeOfReading r ≡ renumbered (tenNumber (finiteOn x y z)) (outcomeOfReading a) ⌝ }
 {
     match a {
-        Reading::Value(_) => a,
+        Reading::Exact(_) | Reading::Near(_) => a,
         Reading::Refused(r) => {
             if of_below(r.number) && !finite_on(x, y, z, r.place) {
                 return Reading::Refused(Refusal {

@@ -17,7 +17,6 @@ use Rattle.arith.proofs.Abs.{abs-add, sfits-abs}
 use Rattle.arith.proofs.Choices.{pick-true, pick-false, on-pick, by-order}
 use Rattle.arith.proofs.Sums.{sum-ext, total-ext, dot-sum, sum-three, total-three, total-ends}
 use Rattle.arith.specs.Choice.{pick}
-use Rattle.arith.specs.Int.{Rounding}
 use Rattle.arith.specs.Sum.{sum, total}
 use Rattle.lattice.specs.Buffer.{at}
 use Rattle.hermite.specs.declared.Basis.{Basis}
@@ -187,7 +186,7 @@ module _ (b : Basis) (low high : ℕ → ℤ) (small : load b low high ≤ 2 ^ 6
     pub added-fits : SFits w64 (held p +ℤ held q)
     added-fits = sfits-abs (held p +ℤ held q) (lt-of-le-of-lt added-size (lit< tt))
 
-    -- what the rounding asks for, and what it gives
+    -- what rounding asks for, and what is dropped by it
     pub rounding-asks : (k : ℕ) → k ≤ 44 → (k ≤ 61) × (natAbs (held (held p +ℤ held q)) + 2 ^ k < 2 ^ 63)
     rounding-asks k h =
         let e = ap natAbs (toZ-ofZ added-fits) in
@@ -195,5 +194,14 @@ module _ (b : Basis) (low high : ℕ → ℤ) (small : load b low high ≤ 2 ^ 6
         let g : 2 ^ k ≤ 2 ^ 44 = pow-mono h in
         (omega arith, omega arith)
 
-    pub rounds : (round : Rounding) (y : ℕ) → round (held (held p +ℤ held q)) y ≡ round (weighted b low high) y
-    rounds round y = ap (λ z. round z y) (toZ-ofZ added-fits ∙ added)
+    pub dropping-asks : (k : ℕ) → k ≤ 44 → (k ≤ 60) × (natAbs (held (held p +ℤ held q)) + 2 ^ (k + 1) ≤ 2 ^ 63)
+    dropping-asks k h =
+        let e = ap natAbs (toZ-ofZ added-fits) in
+        let l = added-size in
+        let i : k + 1 ≤ 45 = omega arith in
+        let g : 2 ^ (k + 1) ≤ 2 ^ 45 = pow-mono i in
+        (omega arith, omega arith)
+
+    -- the sum is that of the two ends by the basis
+    pub sum-is : held (held p +ℤ held q) ≡ weighted b low high
+    sum-is = toZ-ofZ added-fits ∙ added

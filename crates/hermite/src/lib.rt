@@ -1,8 +1,10 @@
 // One axis: the multiplier table, the basis of a step, and a stage.
 ghost use mathlib.Core.Path.{_≡_};
 ghost use Prim.Native.Nat.{ℕ, _+_, _*_, _-_, _<_, _≤_, _^_};
+ghost use mathlib.Core.Bool.{_&&_};
+ghost use lib.Dec.{eqb};
 ghost use lib.IntN.{pos, natAbs, _*ℤ_};
-ghost use Rattle.arith.specs.Int.{roundingOf, _^ℤ_};
+ghost use Rattle.arith.specs.Int.{roundingOf, divides, _^ℤ_};
 ghost use Rattle.arith.specs.Sum.{sum, total};
 ghost use Rattle.lattice.specs.Buffer.{at};
 ghost use Rattle.hermite.specs.Hermite.{steps, multiplier, mirrored, solved, endRule, weight};
@@ -192,23 +194,37 @@ pub fn convert_end(back: bool, m: usize, x: [i64; 3]) -> [i64; 3]
     end_coefficients(m, x)
 }
 
-// The numbers of the two ends of a cell along an axis.
+// The numbers of the two ends of a cell along an axis, and what was dropped of them.
 pub struct Ends {
     pub low: [i64; 3],
     pub high: [i64; 3],
+    pub rest: u64,
+}
+
+// The number that a stage gives, and what was dropped of it and of the numbers that it is made of: 0 if nothing was.
+pub struct Rounded {
+    pub number: i64,
+    pub rest: u64,
 }
 
 // One stage: the numbers of the two ends, by their basis, rounded by 2^(k+1), halves to even or up.
-pub fn stage(even: bool, m: usize, b: Basis, k: u32, ends: Ends) -> i64
+pub fn stage(even: bool, m: usize, b: Basis, k: u32, ends: Ends) -> Rounded
     requires { ⌜ (k ≤ 44) × (load b (at (ends .low)) (at (ends .high)) ≤ 2 ^ 63 - 2 ^ 45) ⌝ }
     requires { ⌜ (m ≡ 2 → (at (ends .low) 2 ≡ pos 0) × (at (ends .high) 2 ≡ pos 0)) ⌝ }
-    ensures { λ r. ⌜ r ≡ roundingOf even (weighted b (at (ends .low)) (at (ends .high))) (2 ^ (k + 1)) ⌝ }
+    ensures { λ r. ⌜ r .number ≡ roundingOf even (weighted b (at (ends .low)) (at (ends .high))) (2 ^ (k + 1)) ⌝ }
+    ensures { λ r. ⌜ eqb (r .rest) 0 ≡ (divides (2 ^ (k + 1)) (weighted b (at (ends .low)) (at (ends .high))) && eqb (ends .rest) 0) ⌝ }
 {
     let from_low = b.low;
     let from_high = b.high;
     let low = ends.low;
     let high = ends.high;
-    arith::rounded(even, dot(m, from_low, low) + dot(m, from_high, high), k)
+    let sum = dot(m, from_low, low) + dot(m, from_high, high);
+    let rest = arith::dropped(sum, k) | ends.rest;
+    let number = arith::rounded(even, sum, k);
+    Rounded {
+        number: number,
+        rest: rest,
+    }
 }
 
 // The k for which a stage's divisor, 2 times a power of 256, is 2^(k+1).

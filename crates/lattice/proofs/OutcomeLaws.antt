@@ -14,6 +14,10 @@ module _ {A : Type 0} where
   first-done (done tt) b v h = (refl, h)
   first-done (refused n p) b v h = clash (cc)
 
+  pub first-passes : (a : Check) (b : Outcome A) → passed (first a b) ≡ true → (a ≡ done tt) × (passed b ≡ true)
+  first-passes (done tt) b h = (refl, h)
+  first-passes (refused n p) b h = clash (cc)
+
   pub first-passed : (a : Check) (b : Outcome A) → a ≡ done tt → first a b ≡ b
   first-passed a b e = ap (λ (x : Check). first x b) e
 

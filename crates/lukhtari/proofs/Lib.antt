@@ -1,1 +1,2 @@
 pub mod RealLaws
+pub mod MarkedLaws

@@ -1,6 +1,6 @@
 -- What the host sees of an outcome: number 0 and place 0 where the call is not refused, and values 0 or false where it is.
 use Prim.Native.Nat.{ℕ}
-use mathlib.Core.Bool.{false}
+use mathlib.Core.Bool.{Bool, false}
 use mathlib.Core.List.{[], _∷_}
 use mathlib.Core.Option.{Option, some}
 use lib.IntN.{ℤ, pos}
@@ -10,6 +10,7 @@ use Rattle.float_query.specs.Answers.{FloatValue, asDose, asSlope}
 use Rattle.table_file.specs.File.{Header}
 use Rattle.lukhtari.specs.declared.Done.{Done}
 use Rattle.lukhtari.specs.declared.Whole.{Whole}
+use Rattle.lukhtari.specs.declared.Marked.{Marked}
 use Rattle.lukhtari.specs.declared.Real.{Real}
 use Rattle.lukhtari.specs.declared.Table.{Table}
 use Rattle.lukhtari.specs.declared.Ramped.{Ramped}
@@ -22,6 +23,11 @@ doneOf (refused n p) = record { number = n; place = p }
 abbrev pub wholeFrom : Outcome ℤ → Whole
 wholeFrom (done v) = record { number = 0; place = 0; value = v }
 wholeFrom (refused n p) = record { number = n; place = p; value = pos 0 }
+
+-- a dose with its mark
+abbrev pub markedFrom : Outcome ℤ → Bool → Marked
+markedFrom (done v) mark = record { number = 0; place = 0; value = v; exact = mark }
+markedFrom (refused n p) mark = record { number = n; place = p; value = pos 0; exact = false }
 
 -- a float result: the whole number that the float equals exactly, which minus zero does not
 pub record RealValue : Type 0 where

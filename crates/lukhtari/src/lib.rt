@@ -36,6 +36,14 @@ pub struct Whole {
 }
 
 #[repr(C)]
+pub struct Marked {
+    pub number: u32,
+    pub place: usize,
+    pub value: i32,
+    pub exact: bool,
+}
+
+#[repr(C)]
 pub struct Real {
     pub number: u32,
     pub place: usize,

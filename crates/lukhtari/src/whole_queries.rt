@@ -2,10 +2,11 @@
 ghost use mathlib.Core.Path.{_≡_};
 ghost use Rattle.cell.specs.Cell.{placeAt};
 ghost use Rattle.evaluate.specs.Evaluate.{dose, slopeAlong, curvatureAlong};
-ghost use Rattle.query.specs.Queries.{byCell, positionAt, byPosition};
-ghost use Rattle.query.specs.Answers.{outcomeOfReading};
-ghost use Rattle.lukhtari.specs.Host.{wholeFrom};
+ghost use Rattle.query.specs.Queries.{byCell, positionAt, byPosition, cellMark, positionMark};
+ghost use Rattle.query.specs.Answers.{outcomeOfReading, isExact};
+ghost use Rattle.lukhtari.specs.Host.{wholeFrom, markedFrom};
 use crate::Index;
+use crate::Marked;
 use crate::Position;
 use crate::Whole;
 use evaluate::Derivative;
@@ -18,7 +19,7 @@ fn whole_of(a: Reading) -> Whole
     ensures { λ r. ⌜ r ≡ wholeFrom (outcomeOfReading a) ⌝ }
 {
     match a {
-        Reading::Value(v) => Whole {
+        Reading::Exact(v) | Reading::Near(v) => Whole {
             number: 0,
             place: 0,
             value: v,
@@ -31,17 +32,42 @@ fn whole_of(a: Reading) -> Whole
     }
 }
 
+fn marked_of(a: Reading) -> Marked
+    ensures { λ r. ⌜ r ≡ markedFrom (outcomeOfReading a) (isExact a) ⌝ }
+{
+    match a {
+        Reading::Exact(v) => Marked {
+            number: 0,
+            place: 0,
+            value: v,
+            exact: true,
+        },
+        Reading::Near(v) => Marked {
+            number: 0,
+            place: 0,
+            value: v,
+            exact: false,
+        },
+        Reading::Refused(r) => Marked {
+            number: r.number,
+            place: r.place,
+            value: 0,
+            exact: false,
+        },
+    }
+}
+
 // Dose at a table position.
 #[no_mangle]
-pub extern "C" fn lukhtari_dose(shape: FullShape, records: &[i32], position: Position) -> Whole
-    ensures { λ r. ⌜ r ≡ wholeFrom (byPosition shape (now (records .entry)) dose (positionAt (position .at))) ⌝ }
+pub extern "C" fn lukhtari_dose(shape: FullShape, records: &[i32], position: Position) -> Marked
+    ensures { λ r. ⌜ r ≡ markedFrom (byPosition shape (now (records .entry)) dose (positionAt (position .at))) (positionMark shape (now (records .entry)) dose (positionAt (position .at))) ⌝ }
 {
     let at = position.at;
     let q = Query {
         position: at,
         derivative: Derivative { order: 0, axis: 0 },
     };
-    whole_of(query::at_position(shape, records, q))
+    marked_of(query::at_position(shape, records, q))
 }
 
 // Slope along an axis at a table position.
@@ -93,8 +119,8 @@ pub extern "C" fn lukhtari_dose_in_cell(
     records: &[i32],
     cell: Index,
     u: Index,
-) -> Whole
-    ensures { λ r. ⌜ r ≡ wholeFrom (byCell shape (now (records .entry)) dose (placeAt (cell .at)) (placeAt (u .at))) ⌝ }
+) -> Marked
+    ensures { λ r. ⌜ r ≡ markedFrom (byCell shape (now (records .entry)) dose (placeAt (cell .at)) (placeAt (u .at))) (cellMark shape (now (records .entry)) dose (placeAt (cell .at)) (placeAt (u .at))) ⌝ }
 {
     let at = cell.at;
     let step = u.at;
@@ -103,7 +129,7 @@ pub extern "C" fn lukhtari_dose_in_cell(
         step: step,
         derivative: Derivative { order: 0, axis: 0 },
     };
-    whole_of(query::in_cell(shape, records, q))
+    marked_of(query::in_cell(shape, records, q))
 }
 
 // Slope along an axis at the steps u within a cell.

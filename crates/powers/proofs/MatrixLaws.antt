@@ -10,7 +10,8 @@ use lib.IntN.{ℤ, pos, natAbs, _*ℤ_}
 use lib.ListN.{getD}
 use Rattle.arith.specs.Sum.{sum, total}
 use Rattle.arith.proofs.Abs.{abs-mul}
-use Rattle.arith.proofs.Choices.{all, all-at}
+use Rattle.arith.specs.Choice.{all}
+use Rattle.arith.proofs.Choices.{all-at}
 use Rattle.arith.proofs.Ring.{E, var, con, _⊞_, ring}
 use Rattle.arith.proofs.Sums.{total-ext, total-mono, total-right, dot-sum}
 use Rattle.lattice.specs.Buffer.{at, tabulate}

@@ -17,19 +17,22 @@ use Rattle.arith.specs.Choice.{pick}
 use Rattle.arith.specs.Int.{unsignedOf}
 use Rattle.arith.proofs.Machine.{element}
 use Rattle.arith.proofs.Choices.{clash, pick-false, by-3, from-3}
+use Rattle.arith.proofs.Bits.{same-test}
 use Rattle.lattice.specs.declared.Shape.{Shape}
 use Rattle.lattice.specs.declared.FullShape.{FullShape}
-use Rattle.lattice.specs.Outcome.{Outcome, Check, done, refused, refuseUnless, first, firstOf}
+use Rattle.lattice.specs.Outcome.{Outcome, Check, done, refused, refuseUnless, first, firstOf, passed}
 use Rattle.lattice.specs.Buffer.{at}
 use Rattle.lattice.specs.Shape.{count, Shaped}
 use Rattle.lattice.specs.Axes.{Place}
 use Rattle.lattice.proofs.ShapeLaws.{shaped}
-use Rattle.lattice.proofs.OutcomeLaws.{first-done, first-passed, first-after}
+use Rattle.lattice.proofs.OutcomeLaws.{first-done, first-passes, first-passed, first-after}
 use Rattle.hermite.specs.Hermite.{steps}
 use Rattle.cell.specs.Cell.{placeAt, cellOutcome}
 use Rattle.cell.proofs.CellLaws.{place-beyond, three, cell-passes}
 use Rattle.evaluate.specs.Evaluate.{Want}
-use Rattle.query.specs.Queries.{askedOutcome, reading, positionTest, stepsOutcome, byCell, Position, positionAt, positionOutcome, cellOf, positionCell, positionStep, byPosition}
+use Rattle.query.specs.declared.Reading.{Reading}
+use Rattle.query.specs.Answers.{outcomeOfReading, Marks}
+use Rattle.query.specs.Queries.{askedOutcome, reading, positionTest, stepsOutcome, byCell, Position, positionAt, positionOutcome, cellOf, positionCell, positionStep, byPosition, cellMark, positionMark}
 use Rattle.query.specs.Parts.{renumbered, below, positionNumber}
 use Rattle.query.proofs.QueryLaws.{asked-parts, by-cell-is, used-test, unused-test, steps-pass, position-range, in-cell, by-cell-small}
 use Rattle.query.proofs.Renumbered.{renumbered-each, renumbered-test, renumbered-query, position-keeps, position-or}
@@ -69,11 +72,6 @@ stands (negsuc n) h = record { low = λ e. clash (cc); high = λ e. omega arith 
 -- as the code has it
 pub stands-for : (p : ℤ) {b : ℕ} → mag p < 2 ^ 31 → b ≡ unsignedOf (toZ w32 (ofZ w32 p)) → StandsFor p b
 stands-for p h e = subst (StandsFor p) (sym (e ∙ ap unsignedOf (element p h))) (stands p h)
-
-same-test : (a b : Bool) → (a ≡ true → b ≡ true) → (b ≡ true → a ≡ true) → a ≡ b
-same-test true b f g = sym (f refl)
-same-test false true f g = g refl
-same-test false false f g = refl
 
 -- the tests of the in-cell step are those of the position, on a used axis
 module _ (c : ℕ) (b : ℕ) where
@@ -238,6 +236,18 @@ located t rs want p b cell step l =
     number : ℕ → ℕ → ℕ
     number = positionNumber cell step
 
+-- and so is its mark, where it is not refused
+pub located-mark : (t : FullShape) (rs : List ℤ) (want : Want) (p : Position) (b : ℕ → ℕ) (cell step : Place)
+    → Located (t .shape) p b cell step → passed (byPosition t rs want p) ≡ true → cellMark t rs want cell step ≡ positionMark t rs want p
+unfolding byPosition positionMark
+located-mark t rs want p b cell step l given =
+    let s = t .shape in
+    let read = reading t rs want (positionCell s p) (positionStep s p) in
+    let a = first-passes (askedOutcome s rs want) (first (firstOf 3 (positionOutcome s p)) read) given in
+    let h = first-passes (firstOf 3 (positionOutcome s p)) read (a .1) .0 in
+    let f = shaped s (asked-parts s rs want (a .0) .0) in
+    ap₂ (cellMark t rs want) (located-cell s p b cell step l f h) (located-step s p b cell step l f h)
+
 -- so it says the same by its cell and in-cell step, or says 22 where they say 11
 pub located-or : (t : FullShape) (rs : List ℤ) (want : Want) (p : Position) (b : ℕ → ℕ) (cell step : Place)
     → Located (t .shape) p b cell step
@@ -297,11 +307,17 @@ located-axes s xs x y z i j k p q r e f g =
 pub on-axes : (t : FullShape) (rs : List ℤ) (want : Want) (xs : List ℤ) (x y z i j k : ℕ) → StandsFor (at xs 0) x → StandsFor (at xs 1) y
     → StandsFor (at xs 2) z
     → i ≡ cellOf steps (count (t .shape) 0) x → j ≡ cellOf steps (count (t .shape) 1) y → k ≡ cellOf steps (count (t .shape) 2) z
+    → (r : Reading)
     → let cell = placeAt (i ∷ j ∷ k ∷ []) in let step = placeAt ((x - 256 * i) ∷ (y - 256 * j) ∷ (z - 256 * k) ∷ []) in
-    renumbered (positionNumber cell step) (byCell t rs want cell step) ≡ byPosition t rs want (positionAt xs)
-on-axes t rs want xs x y z i j k p q r e f g =
-    located t rs want (positionAt xs) (placeAt (x ∷ y ∷ z ∷ [])) (placeAt (i ∷ j ∷ k ∷ []))
-    (placeAt ((x - 256 * i) ∷ (y - 256 * j) ∷ (z - 256 * k) ∷ [])) (located-axes (t .shape) xs x y z i j k p q r e f g)
+    (outcomeOfReading r ≡ renumbered (positionNumber cell step) (byCell t rs want cell step)) × Marks r (cellMark t rs want cell step)
+    → (outcomeOfReading r ≡ byPosition t rs want (positionAt xs)) × Marks r (positionMark t rs want (positionAt xs))
+on-axes t rs want xs x y z i j k sx sy sz e f g r h =
+    let numbers = placeAt (x ∷ y ∷ z ∷ []) in
+    let cell = placeAt (i ∷ j ∷ k ∷ []) in
+    let step = placeAt ((x - 256 * i) ∷ (y - 256 * j) ∷ (z - 256 * k) ∷ []) in
+    let l = located-axes (t .shape) xs x y z i j k sx sy sz e f g in
+    let is = h .0 ∙ located t rs want (positionAt xs) numbers cell step l in
+    (is, λ given. h .1 given ∙ located-mark t rs want (positionAt xs) numbers cell step l (sym (ap passed is) ∙ given))
 
 -- the cell of a position as three numbers
 in-three : (s : Shape) (p : Position) → ((a : ℕ) → 3 ≤ a → natAbs (p a) ≡ 0)

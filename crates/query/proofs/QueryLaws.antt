@@ -9,23 +9,20 @@ use lib.Dec.{leb, ltb, eqb}
 use lib.ListN.{length, take}
 use lib.Seq.{take-length}
 use lib.IntN.{ℤ, pos, negsuc, natAbs}
-use lib.Signed.{nonNeg, mag}
-use mir.Syntax.{w32}
-use mir.Val.{toZ, ofZ}
+use lib.Signed.{nonNeg}
 use borrow.Author.Tests.{ltb-true, ltb-false, leb-true, eqb-true, le-ltb, le-leb, eq-eqb}
 use Rattle.arith.specs.Choice.{pick}
-use Rattle.arith.proofs.Machine.{element}
 use Rattle.arith.proofs.Choices.{split}
 use Rattle.arith.specs.Int.{roundingOf}
 use Rattle.arith.proofs.Editions.{edition-sound}
 use Rattle.lattice.specs.declared.Shape.{Shape}
 use Rattle.lattice.specs.declared.FullShape.{FullShape}
-use Rattle.lattice.specs.Outcome.{Outcome, Check, done, refused, refuseUnless, first, firstOf, passed}
+use Rattle.lattice.specs.Outcome.{Check, done, refused, refuseUnless, first, firstOf, passed}
 use Rattle.lattice.specs.Shape.{fullShape, roundingIn, count, orders, entries, size, shapeOutcome, Shaped}
 use Rattle.lattice.specs.Axes.{Place, OnUsed}
 use Rattle.lattice.specs.Records.{recordsField}
 use Rattle.lattice.proofs.ShapeLaws.{orders-range, shaped}
-use Rattle.lattice.proofs.OutcomeLaws.{first-done, first-passed, first-assoc, refused-first, passed-done, done-same, refuse-done, passes, firstOf-each, firstOf-passes}
+use Rattle.lattice.proofs.OutcomeLaws.{first-done, first-passes, first-passed, first-assoc, refused-first, passed-done, passed-not, done-same, refuse-done, passes, firstOf-each, firstOf-passes}
 use Rattle.hermite.specs.Hermite.{steps}
 use Rattle.hermite.specs.Stage.{Smooth}
 use Rattle.cell.specs.declared.Layout.{Layout}
@@ -33,8 +30,11 @@ use Rattle.cell.specs.Cell.{placeAt, cellOutcome, cornersOutcome, Accepted, Lai
 use Rattle.cell.proofs.CellLaws.{place-beyond, accepted}
 use Rattle.evaluate.specs.Stages.{Ready}
 use Rattle.evaluate.proofs.Answering.{answer-fits}
-use Rattle.evaluate.specs.Evaluate.{Want, dose, derivativeAlong, orderWanted, lastAxis, askAt, answerBy}
-use Rattle.query.specs.Queries.{wantOutcome, askedOutcome, testedOutcome, reading, positionTest, stepsOutcome, byCell, Position, positionOutcome, cellOf}
+use Rattle.evaluate.specs.Evaluate.{Want, dose, derivativeAlong, orderWanted, lastAxis, askAt, answerBy, exactBy}
+use Rattle.evaluate.specs.declared.Value.{Value}
+use Rattle.query.specs.declared.Reading.{Reading}
+use Rattle.query.specs.Answers.{outcomeOfReading, isExact, Marks}
+use Rattle.query.specs.Queries.{wantOutcome, askedOutcome, testedOutcome, reading, positionTest, stepsOutcome, byCell, Position, positionOutcome, cellOf, cellMark}
 
 -- a derivative that is not refused 12 or 21
 pub want-parts : (s : Shape) (order a : ℕ) → wantOutcome s (derivativeAlong order a) ≡ done tt → (a < s .axes) × Smooth order (orders s)
@@ -301,29 +301,40 @@ pub record Reader (s : Shape) (even : Bool) (rs : List ℤ) (want : Want) (cell 
   pub stages-ask : (l : Layout) → Laid s (placeAt cell) l → (w : Bool) → w ≡ passed (cornersOutcome s rs (placeAt cell)) → w ≡ true
       → Ready s rs (placeAt cell) step want l
   pub answered : (w : Bool) → w ≡ passed (cornersOutcome s rs (placeAt cell)) → w ≡ true
-      → (r : ℤ) → mag r < 2 ^ 31 → r ≡ answerBy (roundingOf even) (askAt s want (placeAt cell) step) (recordsField s rs)
-      → done (toZ w32 (ofZ w32 r)) ≡ reading (fullShape s even) rs want (placeAt cell) step
+      → (r : Reading) (v : Value) → (outcomeOfReading r ≡ done (v .number)) × (isExact r ≡ v .exact)
+      → (v .number ≡ answerBy (roundingOf even) (askAt s want (placeAt cell) step) (recordsField s rs))
+      × (v .exact ≡ exactBy (roundingOf even) (askAt s want (placeAt cell) step) (recordsField s rs))
+      → (outcomeOfReading r ≡ reading (fullShape s even) rs want (placeAt cell) step)
+      × Marks r (cellMark (fullShape s even) rs want (placeAt cell) step)
   pub beyond-asks : (l : Layout) → Laid s (placeAt cell) l → (w : Bool) → w ≡ passed (cornersOutcome s rs (placeAt cell)) → w ≡ false
       → (Shaped s × (length rs ≡ size s))
       × ((Accepted s (placeAt cell) × Laid s (placeAt cell) l) × (passed (cornersOutcome s rs (placeAt cell)) ≡ false))
-  pub stopped : (o : Outcome ℤ) → ((v : ℤ) → o ≡ first (cornersOutcome s rs (placeAt cell)) (done v))
-      → o ≡ reading (fullShape s even) rs want (placeAt cell) step
+  pub stopped : (w : Bool) → w ≡ passed (cornersOutcome s rs (placeAt cell)) → w ≡ false
+      → (r : Reading) → ((v : ℤ) → outcomeOfReading r ≡ first (cornersOutcome s rs (placeAt cell)) (done v))
+      → (outcomeOfReading r ≡ reading (fullShape s even) rs want (placeAt cell) step)
+      × Marks r (cellMark (fullShape s even) rs want (placeAt cell) step)
 
 pub reader : (s : Shape) (even : Bool) (rs : List ℤ) (want : Want) (cell : List ℕ) (step : Place)
     → testedOutcome s rs want (placeAt cell) step ≡ done tt → Reader s even rs want cell step
-unfolding reading
+unfolding reading cellMark
 reader s even rs want cell step t =
     let f = near s rs want cell step t in
     record {
       layout-asks = (f .shape, f .here);
       corners-asks = λ l laid. ((f .shape, f .long), (f .here, laid));
       stages-ask = λ l laid w e h. ready s rs want cell step t l laid (sym e ∙ h);
-      answered = λ w e h r fit is.
-          ap done (element r fit ∙ is)
-          ∙ sym (reading-passes (fullShape s even) rs want (placeAt cell) step
-          (passed-done (cornersOutcome s rs (placeAt cell)) (sym e ∙ h)));
+      answered = λ w e h r v told is. (
+        told .0 ∙ ap done (is .0)
+            ∙ sym (reading-passes (fullShape s even) rs want (placeAt cell) step
+            (passed-done (cornersOutcome s rs (placeAt cell)) (sym e ∙ h))),
+        λ given. told .1 ∙ is .1,
+      );
       beyond-asks = λ l laid w e h. ((f .shape, f .long), ((f .here, laid), sym e ∙ h));
-      stopped = λ o h. h (answerBy (roundingOf even) (askAt s want (placeAt cell) step) (recordsField s rs));
+      stopped = λ w e h r o. (
+        o (answerBy (roundingOf even) (askAt s want (placeAt cell) step) (recordsField s rs)),
+        λ given. absurd (passed-not (cornersOutcome s rs (placeAt cell)) (sym e ∙ h)
+            (first-passes (cornersOutcome s rs (placeAt cell)) (done (pos 0)) (sym (ap passed (o (pos 0))) ∙ given) .0)),
+      );
     }
 
 -- ---- positions

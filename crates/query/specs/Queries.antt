@@ -1,6 +1,6 @@
 -- The queries by cell and in-cell step, and by table position: what each is refused for, in the order of document 01, and what it gives.
 use Prim.Native.Nat.{ℕ, _*_, _-_, _/_, min}
-use mathlib.Core.Bool.{_||_}
+use mathlib.Core.Bool.{Bool, _||_}
 use mathlib.Core.List.{List}
 use lib.Dec.{leb, ltb, eqb}
 use lib.IntN.{ℤ, pos, natAbs}
@@ -16,7 +16,7 @@ use Rattle.lattice.specs.Axes.{Place}
 use Rattle.lattice.specs.Records.{recordsField}
 use Rattle.hermite.specs.Hermite.{steps}
 use Rattle.cell.specs.Cell.{cellOutcome, cornersOutcome}
-use Rattle.evaluate.specs.Evaluate.{Want, dose, derivativeAlong, askAt, answerBy}
+use Rattle.evaluate.specs.Evaluate.{Want, dose, derivativeAlong, askAt, answerBy, exactBy}
 
 -- 12: the derivative's axis is not used; then 21: its order is m or more, which order 2 is in degree 3
 unfoldable pub wantOutcome : Shape → Want → Check
@@ -86,3 +86,11 @@ unfoldable pub byPosition : FullShape → List ℤ → Want → Position → Out
 byPosition t rs want p =
     first (askedOutcome (t .shape) rs want)
     (first (firstOf 3 (positionOutcome (t .shape) p)) (reading t rs want (positionCell (t .shape) p) (positionStep (t .shape) p)))
+
+-- ---- the mark of an answer that is not refused
+
+unfoldable pub cellMark : FullShape → List ℤ → Want → Place → Place → Bool
+cellMark t rs want cell step = exactBy (roundingIn t) (askAt (t .shape) want cell step) (recordsField (t .shape) rs)
+
+unfoldable pub positionMark : FullShape → List ℤ → Want → Position → Bool
+positionMark t rs want p = cellMark t rs want (positionCell (t .shape) p) (positionStep (t .shape) p)

@@ -1,6 +1,6 @@
 // Doses, slopes and curvatures by cell and in-cell step, and by table position.
 ghost use mathlib.Core.Path.{_≡_};
-ghost use mathlib.Core.Bool.{false};
+ghost use mathlib.Core.Bool.{Bool, false};
 ghost use mathlib.Core.List.{List, [], _∷_};
 ghost use Prim.Native.Nat.{ℕ, _+_, _*_, _^_, _≤_};
 ghost use lib.Dec.{leb, ltb, eqb};
@@ -14,11 +14,12 @@ ghost use Rattle.hermite.specs.Hermite.{steps};
 ghost use Rattle.cell.specs.Cell.{placeAt, cornersOutcome, Accepted, Laid};
 ghost use Rattle.evaluate.specs.Evaluate.{derivativeAlong};
 ghost use Rattle.evaluate.specs.Wants.{wanted, wantOf};
-ghost use Rattle.query.specs.Answers.{outcomeOfReading};
+ghost use Rattle.query.specs.Answers.{outcomeOfReading, isExact, Marks};
 ghost use Rattle.query.specs.Parts.{renumbered, below, positionNumber, cellNumber};
-ghost use Rattle.query.specs.Queries.{wantOutcome, askedOutcome, testedOutcome, reading, stepsOutcome, byCell, positionAt, cellOf, byPosition};
+ghost use Rattle.query.specs.Queries.{wantOutcome, askedOutcome, testedOutcome, reading, stepsOutcome, byCell, positionAt, cellOf, byPosition, cellMark, positionMark};
 use cell::Layout;
 use evaluate::Derivative;
+use evaluate::Value;
 use lattice::Check;
 use lattice::FullShape;
 use lattice::Refusal;
@@ -36,7 +37,8 @@ pub struct CellQuery {
 }
 
 pub enum Reading {
-    Value(i32),
+    Exact(i32),
+    Near(i32),
     Refused(Refusal),
 }
 
@@ -192,8 +194,18 @@ fn beyond(s: Shape, records: &[i32], cell: [u32; 3], l: Layout) -> Reading
     let tested = cell::check_corners(s, records, cell, l);
     match tested {
         Check::Refused(r) => Reading::Refused(r),
-        Check::Done => Reading::Value(0),
+        Check::Done => Reading::Near(0),
     }
+}
+
+// An answer by its mark.
+fn reading_of(v: Value) -> Reading
+    ensures { λ r. ⌜ (outcomeOfReading r ≡ done (v .number)) × (isExact r ≡ v .exact) ⌝ }
+{
+    if v.exact {
+        return Reading::Exact(v.number);
+    }
+    Reading::Near(v.number)
 }
 
 // Refusal 5, or the dose or derivative, of one axis; here and below `even` is set in edition two.
@@ -209,10 +221,11 @@ fn read_line(
     requires { ⌜ testedOutcome s (now records) (wantOf order axis) (placeAt cell) (placeAt step) ≡ done tt ⌝ }
     requires { ⌜ s .axes ≡ 1 ⌝ }
     ensures { λ r. ⌜ outcomeOfReading r ≡ reading (fullShape s even) (now (records .entry)) (wantOf order axis) (placeAt cell) (placeAt step) ⌝ }
+    ensures { λ r. ⌜ Marks r (cellMark (fullShape s even) (now (records .entry)) (wantOf order axis) (placeAt cell) (placeAt step)) ⌝ }
 {
     let l = cell::layout_of(s, cell);
     if cell::line_within(s, records, cell, l) {
-        return Reading::Value(evaluate::on_line(s, even, records, cell, step, order, axis, l));
+        return reading_of(evaluate::on_line(s, even, records, cell, step, order, axis, l));
     }
     beyond(s, records, cell, l)
 }
@@ -230,11 +243,12 @@ fn read_lattice(
     requires { ⌜ testedOutcome s (now records) (wantOf order axis) (placeAt cell) (placeAt step) ≡ done tt ⌝ }
     requires { ⌜ 2 ≤ s .axes ⌝ }
     ensures { λ r. ⌜ outcomeOfReading r ≡ reading (fullShape s even) (now (records .entry)) (wantOf order axis) (placeAt cell) (placeAt step) ⌝ }
+    ensures { λ r. ⌜ Marks r (cellMark (fullShape s even) (now (records .entry)) (wantOf order axis) (placeAt cell) (placeAt step)) ⌝ }
 {
     let n = s.axes;
     let l = cell::layout_of(s, cell);
     if cell::lattice_within(n, s, records, cell, l) {
-        return Reading::Value(evaluate::on_lattice(s, even, records, cell, step, order, axis, l));
+        return reading_of(evaluate::on_lattice(s, even, records, cell, step, order, axis, l));
     }
     beyond(s, records, cell, l)
 }
@@ -254,6 +268,7 @@ fn read(
     even: bool,
 ) -> Reading
     ensures { λ r. ⌜ outcomeOfReading r ≡ renumbered (positionNumber (placeAt (i ∷ j ∷ k ∷ [])) (placeAt (u ∷ v ∷ w ∷ []))) (byCell (fullShape s even) (now (records .entry)) (wantOf order axis) (placeAt (i ∷ j ∷ k ∷ [])) (placeAt (u ∷ v ∷ w ∷ []))) ⌝ }
+    ensures { λ r. ⌜ Marks r (cellMark (fullShape s even) (now (records .entry)) (wantOf order axis) (placeAt (i ∷ j ∷ k ∷ [])) (placeAt (u ∷ v ∷ w ∷ []))) ⌝ }
 {
     let long = records.len();
     let tested = check_by_axes(s, long, i, j, k, u, v, w, order, axis);
@@ -282,9 +297,11 @@ fn cell_number(number: u32) -> u32
 // A reading at the cell and step of a position, told by cell.
 fn by_cell(a: Reading) -> Reading
     ensures { λ r. ⌜ outcomeOfReading r ≡ renumbered cellNumber (outcomeOfReading a) ⌝ }
+    ensures { λ r. ⌜ ((mark : Bool) → Marks a mark → Marks r mark) ⌝ }
 {
     match a {
-        Reading::Value(_) => a,
+        Reading::Exact(_) => a,
+        Reading::Near(_) => a,
         Reading::Refused(r) => Reading::Refused(Refusal {
             number: cell_number(r.number),
             place: r.place,
@@ -295,6 +312,7 @@ fn by_cell(a: Reading) -> Reading
 // The dose or derivative at a step of a cell.
 pub fn in_cell(t: FullShape, records: &[i32], q: CellQuery) -> Reading
     ensures { λ r. ⌜ outcomeOfReading r ≡ byCell t (now (records .entry)) (wanted (q .derivative)) (placeAt (q .cell)) (placeAt (q .step)) ⌝ }
+    ensures { λ r. ⌜ Marks r (cellMark t (now (records .entry)) (wanted (q .derivative)) (placeAt (q .cell)) (placeAt (q .step))) ⌝ }
 {
     let order = q.derivative.order;
     let axis = q.derivative.axis;
@@ -328,6 +346,7 @@ pub fn cell_of(count: u32, p: u32) -> u32
 // The dose or derivative at a position; one below 0 stands in two's complement beyond every table.
 pub fn at_position(t: FullShape, records: &[i32], q: Query) -> Reading
     ensures { λ r. ⌜ outcomeOfReading r ≡ byPosition t (now (records .entry)) (wanted (q .derivative)) (positionAt (q .position)) ⌝ }
+    ensures { λ r. ⌜ Marks r (positionMark t (now (records .entry)) (wanted (q .derivative)) (positionAt (q .position))) ⌝ }
 {
     let s = t.shape;
     let order = q.derivative.order;

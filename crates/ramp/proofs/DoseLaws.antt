@@ -28,17 +28,16 @@ use Rattle.cell.specs.Corners.{oneCell}
 use Rattle.cell.proofs.OneCell.{one-shaped, one-accepted}
 use Rattle.evaluate.specs.declared.Strides.{Strides}
 use Rattle.evaluate.specs.Evaluate.{dose, orderWanted, lastAxis, askAt, answerBy}
-use Rattle.evaluate.specs.Stages.{stridesOf, Workable, WorkedOff, Ready}
+use Rattle.evaluate.specs.Stages.{stridesOf, Workable, WorkedOff, Gives, Ready}
 use Rattle.evaluate.proofs.AnswerLaws.{order-last}
 use Rattle.evaluate.proofs.Answering.{IsAxis, AreAxes, workable-in, answer-in, fits, cast}
 use Rattle.ramp.specs.Parts.{one, Readable}
 
--- stages along b, the last, and along vs can be worked off, and their result is the dose
+-- stages along b, the last, and along vs can be worked off, and their number is the dose
 pub record Doses (round : Rounding) (s : Shape) (held : List ℤ) (xs : List ℕ) (m : ℕ) (b : Strides) (vs : List Strides) : Type 0 where
   pub asks : Workable round m 0 b vs (length held) (at held) 0
-  pub fit : (r : ℤ) → mag r < 2 ^ 63 → WorkedOff round m 0 b vs (at held) 0 r → SFits w32 (toZ w64 (ofZ w64 r))
-  pub give : (r : ℤ) → mag r < 2 ^ 63 → WorkedOff round m 0 b vs (at held) 0 r
-      → toZ w32 (ofZ w32 (toZ w64 (ofZ w64 r))) ≡ answerBy round (askAt (one s) dose origin (placeAt xs)) (recordsField (one s) held)
+  pub gives : (r : ℤ) → WorkedOff m 0 b vs (Gives round m (at held) 0 r)
+      → r ≡ answerBy round (askAt (one s) dose origin (placeAt xs)) (recordsField (one s) held)
 
 -- m orders, n axes, and E entries a record
 module _ (s : Shape) (held : List ℤ) (xs : List ℕ) (f : Readable s held (placeAt xs)) (m n E : ℕ) (m-is : orders s ≡ m) (n-is : s .axes ≡ n)
@@ -118,18 +117,28 @@ module _ (s : Shape) (held : List ℤ) (xs : List ℕ) (f : Readable s held (pla
     last : lastAxis (one s .axes) dose ≡ a
     last = ap (λ (i : ℕ). lastAxis i dose) axes-are ∙ last-is
 
-    gives : (r : ℤ) → WorkedOff round m 0 b vs (at held) 0 r
-        → r ≡ answerBy round (askAt (one s) dose origin (placeAt xs)) (recordsField (one s) held)
-    unfolding layout
-    gives = answer-in sound (one s) held origin (placeAt xs) dose layout ready n a axes-are last 0 (order-last 0 0) b vs is are
-
     pub doses : Doses round s held xs m b vs
     unfolding layout
     doses = record {
       asks = workable-in sound (one s) held origin (placeAt xs) dose layout ready n a axes-are last 0 (order-last 0 0) b vs is are;
-      fit = λ r ok w. fits sound (one s) held origin xs 0 0 layout ready r ok (gives r w);
-      give = λ r ok w. cast sound (one s) held origin xs 0 0 layout ready r ok (gives r w);
+      gives = answer-in sound (one s) held origin (placeAt xs) dose layout ready n a axes-are last 0 (order-last 0 0) b vs is are;
     }
+
+-- the dose fits 32 bits
+module _ {round : Rounding} (sound : Sound round) (s : Shape) (held : List ℤ) (xs : List ℕ) (f : Readable s held (placeAt xs)) (r : ℤ)
+    (ok : mag r < 2 ^ 63) (e : r ≡ answerBy round (askAt (one s) dose origin (placeAt xs)) (recordsField (one s) held)) where
+  abbrev alone : Layout
+  alone = layout s held xs f (orders s) (s .axes) (orders s ^ s .axes) refl refl refl
+
+  ready-alone : Ready (one s) held origin (placeAt xs) dose alone
+  ready-alone = ready s held xs f (orders s) (s .axes) (orders s ^ s .axes) refl refl refl
+
+  pub dose-fits : SFits w32 (toZ w64 (ofZ w64 r))
+  dose-fits = fits sound (one s) held origin xs 0 0 alone ready-alone r ok e
+
+  pub dose-cast : toZ w32 (ofZ w32 (toZ w64 (ofZ w64 r)))
+      ≡ answerBy round (askAt (one s) dose origin (placeAt xs)) (recordsField (one s) held)
+  dose-cast = cast sound (one s) held origin xs 0 0 alone ready-alone r ok e
 
 -- one, two and three axes
 module _ {round : Rounding} (sound : Sound round) (s : Shape) (held : List ℤ) (xs : List ℕ) (f : Readable s held (placeAt xs)) (m E : ℕ)

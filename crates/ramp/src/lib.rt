@@ -15,7 +15,7 @@ ghost use Rattle.lattice.specs.Axes.{origin};
 ghost use Rattle.lattice.specs.Records.{recordsField};
 ghost use Rattle.cell.specs.Cell.{placeAt, cornersOutcome, Accepted, limitIn, Limits, recordOutcome, startOf, CornerRows};
 ghost use Rattle.evaluate.specs.Evaluate.{dose, askAt, answerBy};
-ghost use Rattle.evaluate.specs.Stages.{AreEnds, AtBoth, after, stridesOf, AllPrepared, Safe, Workable, WorkedOff};
+ghost use Rattle.evaluate.specs.Stages.{AreEnds, AtBoth, after, stridesOf, AllPrepared, Safe, Workable, WorkedOff, Gives};
 ghost use Rattle.ramp.specs.Ramp.{queries, queryAt, ownCall, answerOf, differ, listOutcome, queriesOutcome, rampOutcome, rampWrites};
 ghost use Rattle.ramp.specs.Answers.{outcomeOfRamp};
 ghost use Rattle.ramp.specs.Parts.{one, layoutAlone, Listed, spotOutcome, Stands, Copied, Held, Readable, AlongX, AlongY};
@@ -23,6 +23,7 @@ use cell::Layout;
 use evaluate::Axis;
 use evaluate::Strides;
 use hermite::Ends;
+use hermite::Rounded;
 use lattice::Check;
 use lattice::FullShape;
 use lattice::Refusal;
@@ -224,9 +225,9 @@ fn hold(new: bool, s: Shape, records: &[i32], cell: [u32; 3], held: &mut [i32]) 
 }
 
 // The stage of the only axis; here and below `even` is set in edition two.
-fn on_line(even: bool, m: usize, u: u32, held: &[i32]) -> i64
+fn on_line(even: bool, m: usize, u: u32, held: &[i32]) -> Rounded
     requires { ⌜ Workable (roundingOf even) m 0 (stridesOf u m 1) [] (length (now held)) (at (now held)) 0 ⌝ }
-    ensures { λ r. ⌜ WorkedOff (roundingOf even) m 0 (stridesOf u m 1) [] (at (now (held .entry))) 0 r ⌝ }
+    ensures { λ r. ⌜ WorkedOff m 0 (stridesOf u m 1) [] (Gives (roundingOf even) m (at (now (held .entry))) 0 (r .number)) ⌝ }
 {
     let x = Strides {
         step: u,
@@ -237,9 +238,9 @@ fn on_line(even: bool, m: usize, u: u32, held: &[i32]) -> i64
 }
 
 // The stages of two axes; m and the edition are constants of the calls.
-fn on_plane(even: bool, m: usize, u: u32, v: u32, held: &[i32]) -> i64
+fn on_plane(even: bool, m: usize, u: u32, v: u32, held: &[i32]) -> Rounded
     requires { ⌜ Workable (roundingOf even) m 0 (stridesOf v (2 * (m * m)) m) (stridesOf u (m * m) 1 ∷ []) (length (now held)) (at (now held)) 0 ⌝ }
-    ensures { λ r. ⌜ WorkedOff (roundingOf even) m 0 (stridesOf v (2 * (m * m)) m) (stridesOf u (m * m) 1 ∷ []) (at (now (held .entry))) 0 r ⌝ }
+    ensures { λ r. ⌜ WorkedOff m 0 (stridesOf v (2 * (m * m)) m) (stridesOf u (m * m) 1 ∷ []) (Gives (roundingOf even) m (at (now (held .entry))) 0 (r .number)) ⌝ }
 {
     if m == 2 {
         let y = evaluate::axis_of(2, 0, true, false, v, 8, 2);
@@ -272,10 +273,10 @@ fn strided(a: Axis, node: usize, order: usize) -> Axis
 }
 
 // The first two stages of three axes, m, the strides and the edition constants of the call.
-fn first_stages(even: bool, m: usize, y: Axis, x: Axis, held: &[i32], p: usize) -> i64
+fn first_stages(even: bool, m: usize, y: Axis, x: Axis, held: &[i32], p: usize) -> Rounded
     requires { ⌜ AllPrepared m (y ∷ x ∷ []) × AlongY m y × AlongX m x ⌝ }
     requires { ⌜ Safe (roundingOf even) m (length (now held)) (y ∷ x ∷ []) (at (now held)) p ⌝ }
-    ensures { λ r. ⌜ r ≡ after (roundingOf even) m (y ∷ x ∷ []) (at (now (held .entry))) p ⌝ }
+    ensures { λ r. ⌜ r .number ≡ after (roundingOf even) m (y ∷ x ∷ []) (at (now (held .entry))) p ⌝ }
 {
     if m == 2 {
         let b = strided(y, 16, 2);
@@ -293,7 +294,7 @@ fn first_stages(even: bool, m: usize, y: Axis, x: Axis, held: &[i32], p: usize) 
     evaluate::second(false, 3, hermite::shift(0, 3, true, true), b, a, held, p)
 }
 
-// The numbers of the two ends along z after the first two stages.
+// The numbers of the two ends along z after the first two stages; a ramp carries no mark, so no rest is kept.
 fn ends(even: bool, m: usize, y: Axis, x: Axis, held: &[i32], order: usize, node: usize) -> Ends
     requires { ⌜ AllPrepared m (y ∷ x ∷ []) × AlongY m y × AlongX m x ⌝ }
     requires { ⌜ AtBoth m (Safe (roundingOf even) m (length (now held)) (y ∷ x ∷ []) (at (now held))) 0 order node ⌝ }
@@ -303,26 +304,39 @@ fn ends(even: bool, m: usize, y: Axis, x: Axis, held: &[i32], order: usize, node
     let mut t: usize = 0;
     while t < 2 * m {
         let p = evaluate::place_at(m, order, node, t);
-        n[t] = first_stages(even, m, y, x, held, p);
+        let r = first_stages(even, m, y, x, held, p);
+        let number = r.number;
+        n[t] = number;
         t += 1;
     }
     if m == 2 {
         return Ends {
             low: [n[0], n[1], 0],
             high: [n[2], n[3], 0],
+            rest: 0,
         };
     }
     Ends {
         low: [n[0], n[1], n[2]],
         high: [n[3], n[4], n[5]],
+        rest: 0,
     }
 }
 
 // The stages of three axes; q is m·m and e is m·m·m.
-fn in_space(even: bool, m: usize, q: usize, e: usize, u: u32, v: u32, w: u32, held: &[i32]) -> i64
+fn in_space(
+    even: bool,
+    m: usize,
+    q: usize,
+    e: usize,
+    u: u32,
+    v: u32,
+    w: u32,
+    held: &[i32],
+) -> Rounded
     requires { ⌜ (e ≤ 27) × (e ≡ m * m * m) ⌝ }
     requires { ⌜ Workable (roundingOf even) m 0 (stridesOf w (4 * e) q) (stridesOf v (2 * e) m ∷ stridesOf u e 1 ∷ []) (length (now held)) (at (now held)) 0 ⌝ }
-    ensures { λ r. ⌜ WorkedOff (roundingOf even) m 0 (stridesOf w (4 * e) q) (stridesOf v (2 * e) m ∷ stridesOf u e 1 ∷ []) (at (now (held .entry))) 0 r ⌝ }
+    ensures { λ r. ⌜ WorkedOff m 0 (stridesOf w (4 * e) q) (stridesOf v (2 * e) m ∷ stridesOf u e 1 ∷ []) (Gives (roundingOf even) m (at (now (held .entry))) 0 (r .number)) ⌝ }
 {
     let z = evaluate::axis_of(m, 0, true, false, w, 4 * e, q);
     let x = evaluate::axis_of(m, 0, false, true, u, e, 1);
@@ -332,10 +346,10 @@ fn in_space(even: bool, m: usize, q: usize, e: usize, u: u32, v: u32, w: u32, he
     hermite::stage(even, m, basis, z.shift, both)
 }
 
-// The dose at a step of a cell, from its corner records alone; degree and axes are constants of the calls.
-fn dose_in(s: Shape, even: bool, held: &[i32], step: [u32; 3]) -> i32
+// The stages of a dose at a step of a cell, from its corner records alone; degree and axes are constants of the calls.
+fn stages_in(s: Shape, even: bool, held: &[i32], step: [u32; 3]) -> Rounded
     requires { ⌜ Readable s (now held) (placeAt step) ⌝ }
-    ensures { λ r. ⌜ r ≡ answerBy (roundingOf even) (askAt (one s) dose origin (placeAt step)) (recordsField (one s) (now (held .entry))) ⌝ }
+    ensures { λ r. ⌜ r .number ≡ answerBy (roundingOf even) (askAt (one s) dose origin (placeAt step)) (recordsField (one s) (now (held .entry))) ⌝ }
 {
     let n = s.axes;
     let u = step[0];
@@ -343,18 +357,27 @@ fn dose_in(s: Shape, even: bool, held: &[i32], step: [u32; 3]) -> i32
     let w = step[2];
     if n == 2 {
         let m = lattice::orders(s.degree);
-        return on_plane(even, m, u, v, held) as i32;
+        return on_plane(even, m, u, v, held);
     }
     if s.degree == 3 {
         if n == 1 {
-            return on_line(even, 2, u, held) as i32;
+            return on_line(even, 2, u, held);
         }
-        return in_space(even, 2, 4, 8, u, v, w, held) as i32;
+        return in_space(even, 2, 4, 8, u, v, w, held);
     }
     if n == 1 {
-        return on_line(even, 3, u, held) as i32;
+        return on_line(even, 3, u, held);
     }
-    in_space(even, 3, 9, 27, u, v, w, held) as i32
+    in_space(even, 3, 9, 27, u, v, w, held)
+}
+
+// The dose at a step of a cell, from its corner records alone.
+fn dose_in(s: Shape, even: bool, held: &[i32], step: [u32; 3]) -> i32
+    requires { ⌜ Readable s (now held) (placeAt step) ⌝ }
+    ensures { λ r. ⌜ r ≡ answerBy (roundingOf even) (askAt (one s) dose origin (placeAt step)) (recordsField (one s) (now (held .entry))) ⌝ }
+{
+    let r = stages_in(s, even, held, step);
+    r.number as i32
 }
 
 // The entries of all corner records of a cell.

@@ -67,7 +67,7 @@ fn dose_at(
         },
     );
     match reading {
-        Reading::Value(v) => v,
+        Reading::Exact(v) | Reading::Near(v) => v,
         Reading::Refused(_) => 0,
     }
 }

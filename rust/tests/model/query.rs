@@ -4,7 +4,7 @@ use super::coefficients::{check_cell, check_corners};
 use super::float::float_step;
 use super::int::Int;
 use super::shape::*;
-use super::stages::{staged, Point, Want, STEPS};
+use super::stages::{marked, staged, Point, Want, STEPS};
 
 // How a query names its point.
 #[derive(Clone, Copy, Debug)]
@@ -18,6 +18,13 @@ pub enum Where {
 pub fn query(shape: &Shape, records: &[i32], at: Where, want: Want) -> Answer<i32> {
     let point = checked_point(shape, records, at, want)?;
     Ok(staged(shape, records, &point) as i32)
+}
+
+// A dose and its mark.
+pub fn marked_dose(shape: &Shape, records: &[i32], at: Where) -> Answer<(i32, bool)> {
+    let point = checked_point(shape, records, at, Want::Dose)?;
+    let (value, exact) = marked(shape, records, &point);
+    Ok((value as i32, exact))
 }
 
 // A dose or slope as a float.

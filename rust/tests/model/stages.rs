@@ -5,7 +5,6 @@ use super::coefficients::{axis_coefficients, cell_coefficients};
 use super::int::Int;
 use super::rational::Rational;
 use super::shape::{indices, Shape};
-use std::cell::Cell;
 
 // Steps of a cell along an axis.
 pub const STEPS: i64 = 256;
@@ -150,18 +149,72 @@ pub fn stages_in_order(
     point: &Point,
     order: &[usize],
 ) -> Vec<Block> {
+    let stages = worked_off(shape, records, point, order);
+    stages.into_iter().map(|stage| stage.rounded).collect()
+}
+
+// One stage: its axis with the number of its ends' numbers, its numbers before rounding, the parts
+// of a unit that they are rounded to, and its numbers.
+pub struct Stage {
+    pub axis: usize,
+    pub side: usize,
+    pub sums: Block,
+    pub parts: i64,
+    pub rounded: Block,
+}
+
+// The stages of these axes.
+pub fn worked_off(shape: &Shape, records: &[i32], point: &Point, order: &[usize]) -> Vec<Stage> {
     let mut block = cell_block(shape, records, point.cell);
-    let mut after = Vec::new();
+    let mut stages = Vec::new();
     for (number, &axis) in order.iter().enumerate() {
         let parts = if number + 1 == order.len() { 1 } else { 8 };
         let (weights, divisor) = axis_weights(shape, point, axis);
-        block = block.map_lines(axis, |ends| {
-            let value = stage_value(shape.degree, ends, &weights, divisor);
-            vec![round_to(value, parts, shape.second_edition)]
+        let side = block.sides()[axis];
+        let sums = block.map_lines(axis, |ends| {
+            vec![stage_value(shape.degree, ends, &weights, divisor)]
         });
-        after.push(block.clone());
+        let round = |sum: Rational| round_to(sum, parts, shape.second_edition);
+        block = sums.map_lines(axis, |sum| vec![round(sum[0])]);
+        let rounded = block.clone();
+        stages.push(Stage {
+            axis,
+            side,
+            sums,
+            parts,
+            rounded,
+        });
     }
-    after
+    stages
+}
+
+impl Stage {
+    // A number before rounding, in parts.
+    pub fn in_parts(&self, at: [usize; 3]) -> Rational {
+        self.sums.at(at) * Rational::whole(self.parts)
+    }
+
+    // The places of the numbers that a number is made of.
+    pub fn made_of(&self, at: [usize; 3]) -> impl Iterator<Item = [usize; 3]> {
+        let axis = self.axis;
+        (0..self.side).map(move |index| {
+            let mut place = at;
+            place[axis] = index;
+            place
+        })
+    }
+}
+
+// Whether nothing is dropped of a number of the last of these stages: it is a whole number of parts
+// before rounding, and all numbers that it is made of are clean, whatever their weights. An entry
+// of a record is clean.
+pub fn clean(stages: &[Stage], at: [usize; 3]) -> bool {
+    match stages.split_last() {
+        None => true,
+        Some((stage, before)) => {
+            stage.in_parts(at).is_whole() && stage.made_of(at).all(|place| clean(before, place))
+        }
+    }
 }
 
 // Coefficients of the two ends times weights, summed and divided.
@@ -187,23 +240,24 @@ pub fn round_to(value: Rational, parts: i64, second_edition: bool) -> Rational {
 // Whether a number of some stage lies in the middle between the two that it could be rounded to.
 pub fn meets_half(shape: &Shape, records: &[i32], point: &Point) -> bool {
     let order = stage_order(shape.used(), point.want);
-    let mut block = cell_block(shape, records, point.cell);
-    let met = Cell::new(false);
-    for (number, &axis) in order.iter().enumerate() {
-        let parts = if number + 1 == order.len() { 1 } else { 8 };
-        let (weights, divisor) = axis_weights(shape, point, axis);
-        block = block.map_lines(axis, |ends| {
-            let value = stage_value(shape.degree, ends, &weights, divisor);
-            let twice = value * Rational::whole(2 * parts);
-            met.set(met.get() || twice.is_whole() && !twice.floor().is_even());
-            vec![round_to(value, parts, shape.second_edition)]
-        });
-    }
-    met.get()
+    let is_half = |stage: &Stage, sum: Rational| {
+        let twice = sum * Rational::whole(2 * stage.parts);
+        twice.is_whole() && !twice.floor().is_even()
+    };
+    let meets = |stage: &Stage| stage.sums.numbers().iter().any(|&sum| is_half(stage, sum));
+    worked_off(shape, records, point, &order).iter().any(meets)
 }
 
 // The dose, slope or curvature that the stages give.
 pub fn staged(shape: &Shape, records: &[i32], point: &Point) -> i64 {
     let last = stages(shape, records, point).pop().expect("a used axis");
     last.at([0, 0, 0]).to_i64().expect("whole")
+}
+
+// The dose that the stages give, and its mark: it is clean.
+pub fn marked(shape: &Shape, records: &[i32], point: &Point) -> (i64, bool) {
+    let order = stage_order(shape.used(), Want::Dose);
+    let stages = worked_off(shape, records, point, &order);
+    let last = stages.last().expect("a used axis").rounded.at([0; 3]);
+    (last.to_i64().expect("whole"), clean(&stages, [0; 3]))
 }

@@ -2,7 +2,8 @@
 use mathlib.Core.Bool.{Bool, _&&_}
 use mathlib.Core.List.{List, [], _∷_}
 use lib.Dec.{T, eqb, eqb→eq}
-use Rattle.arith.proofs.Choices.{all, all-at, and-T}
+use Rattle.arith.specs.Choice.{all}
+use Rattle.arith.proofs.Choices.{all-at, and-T}
 use Rattle.cell.specs.Cell.{limitOf}
 use mathlib.Core.Path.{_≡_, refl, sym, ap, subst, _∙_}
 use Prim.Native.Nat.{ℕ, _<_, _^_}

@@ -18,7 +18,7 @@ returns c =
     let b = c .before .before in
     let a = b .args in
     let g = b .good .1 .1 .0 .1 .1 in
-    c .at-position .ensures
+    c .at-position .ensures .0
     ∙ ap (λ (p : List ℤ). byPosition (a .t) (now (a .records)) (wanted (a .derivative)) (positionAt p))
     (three _ _ _ (a .p .x) (a .p .y) (a .p .z) (element (a .p .x) (g .0 .1)) (element (a .p .y) (g .1 .0 .1))
     (element (a .p .z) (g .1 .1 .0 .1)))

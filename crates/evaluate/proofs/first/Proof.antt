@@ -1,5 +1,6 @@
 -- `evaluate::first` meets its contract: both ends are read from the records, from index p on, and the stage is that of the axis.
-use mathlib.Core.Path.{subst, _∙_}
+use mathlib.Core.Path.{sym, subst, _∙_}
+use mathlib.Core.Bool.{true}
 use mathlib.Core.List.{List, [], _∷_}
 use Prim.Native.Nat.{ℕ, _+_, _*_, _<_}
 use native.Mathlib.Omega.{arith}
@@ -8,10 +9,10 @@ use lib.IntN.{ℤ}
 use denote.Ref.{now}
 use borrow.Author.Needs.{needs}
 use Rattle.arith.specs.Int.{roundingOf}
-use Rattle.arith.proofs.Machine.{read}
+use Rattle.arith.proofs.Choices.{all-true}
 use Rattle.lattice.specs.Buffer.{at}
-use Rattle.evaluate.specs.Stages.{IsEnd, AreEnds, after}
-use Rattle.evaluate.proofs.EndLaws.{part-index, part-end, stage-asks, stage-gives, safe-index}
+use Rattle.evaluate.specs.Stages.{IsEnd, AreEnds, after, cleanAfter}
+use Rattle.evaluate.proofs.EndLaws.{part-index, part-end, stage-asks, stage-gives, stage-cleans, safe-index}
 use Rattle.evaluate.proofs.first.Statement.{statement}
 use Rattle.evaluate.proofs.first.Tie as tie
 
@@ -29,7 +30,7 @@ module _ (c : tie.After-end-in2) where
   start = c .before .before .before
 
   ends : AreEnds (start .args .m) (at (rs start)) (start .args .p) (start .args .x .order) (start .args .x .node)
-      (record { low = c .before .end-in .result; high = c .end-in2 .result })
+      (record { low = c .before .end-in .result; high = c .end-in2 .result; rest = 0 })
   ends =
       let a = start .args in
       record {
@@ -59,10 +60,15 @@ unfolding after
 stage-requires c κs = let s = start (c .before) in stage-asks (s .pre .0 .0) (ends (c .before)) (s .args .k) (s .pre .0 .1) (s .pre .1 .1)
 
 returns : tie.Need-returns
+unfolding after cleanAfter
 returns c =
     let s = start (c .before .before) in
-    read (c .stage .result) (c .stage .ok) ∙ c .stage .ensures
-    ∙ stage-gives (s .pre .0 .0) (ends (c .before .before)) (roundingOf (s .args .even)) (s .args .k)
+    let a = s .args in
+    let e = ends (c .before .before) in
+    record {
+      number-is = c .stage .ensures .0 ∙ stage-gives (s .pre .0 .0) e (roundingOf (a .even)) (a .k);
+      rest-is = c .stage .ensures .1 ∙ stage-cleans (s .pre .0 .0) e (a .k) (λ i. true) (sym (all-true (2 * a .m)));
+    }
 
 pub first-spec : {M : Type 1} → statement M
 first-spec =

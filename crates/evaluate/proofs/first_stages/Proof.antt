@@ -11,12 +11,12 @@ use denote.Ref.{now}
 use borrow.Author.Needs.{needs}
 use borrow.Author.Tests.{not-true, not-false}
 use Rattle.arith.specs.Int.{Rounding, roundingOf}
-use Rattle.arith.proofs.Machine.{read}
 use Rattle.lattice.specs.Buffer.{at}
+use Rattle.hermite.specs.declared.Rounded.{Rounded}
 use Rattle.hermite.specs.Stage.{shiftOf}
 use Rattle.hermite.proofs.StageLaws.{shifted}
-use Rattle.evaluate.specs.Stages.{worked, after, AllPrepared, Safe}
-use Rattle.evaluate.proofs.StageOrder.{second-as}
+use Rattle.evaluate.specs.Stages.{Reported, AllPrepared, Safe}
+use Rattle.evaluate.proofs.StageOrder.{second-as, reported-as}
 use Rattle.evaluate.proofs.first_stages.Statement.{statement}
 use Rattle.evaluate.proofs.first_stages.Tie as tie
 
@@ -40,14 +40,13 @@ module _ (s : tie.Start) (k : ℕ) (e : s .args .m ≡ k) (b : Bool) (eb : s .ar
       second-as round (roundingOf b) (a .y) (a .x) (length (now (a .records))) g (a .p) (a .m) k e (ap roundingOf eb) shift
       (s .pre .0, small) (s .pre .1)
 
-  gives : worked (roundingOf b) shift (s .args .y) (after (roundingOf b) k (s .args .x ∷ []) g) (s .args .p)
-      ≡ after round (s .args .m) (s .args .y ∷ s .args .x ∷ []) g (s .args .p)
-  unfolding after
-  gives =
+  gives : (r : Rounded) → Reported (roundingOf b) k shift (s .args .y) (s .args .x ∷ []) g (s .args .p) r
+      → Reported round (s .args .m) (shiftOf 0 (s .args .m) true true) (s .args .y) (s .args .x ∷ []) g (s .args .p) r
+  gives r h =
       let a = s .args in
-      ap (λ (i : ℕ). worked (roundingOf b) i (a .y) (after (roundingOf b) k (a .x ∷ []) g) (a .p)) is
-      ∙ ap (λ (r : Rounding). after r k (a .y ∷ a .x ∷ []) g (a .p)) (sym (ap roundingOf eb))
-      ∙ ap (λ (i : ℕ). after round i (a .y ∷ a .x ∷ []) g (a .p)) (sym e)
+      subst (λ (i : ℕ). Reported round (a .m) i (a .y) (a .x ∷ []) g (a .p) r)
+      (is ∙ ap (λ (i : ℕ). shiftOf 0 i true true) (sym e))
+      (reported-as round (roundingOf b) (a .y) (a .x) (length (now (a .records))) g (a .p) (a .m) k e (ap roundingOf eb) shift r h)
 
 three : (s : tie.Start) → (s .args .m ≡ 2 → ⊥) → s .args .m ≡ 3
 three s n = let h = s .pre .0 .0 in omega (arith, h .m-low, h .m-high, n)
@@ -62,33 +61,29 @@ first-stages-spec =
     asks s 2 (d .if2 .taken) false (not-true _ (d .before .if1 .taken)) (c .shift .result) (c .shift .ensures))
     (λ c. let d = c .before .before in
     let s = d .before .before in
-    read (c .second .result) (c .second .ok) ∙ c .second .ensures
-    ∙ gives s 2 (d .if2 .taken) false (not-true _ (d .before .if1 .taken))
-    (c .before .shift .result) (c .before .shift .ensures))
+    gives s 2 (d .if2 .taken) false (not-true _ (d .before .if1 .taken))
+    (c .before .shift .result) (c .before .shift .ensures) (c .second .result) (c .second .ensures))
     (λ c κs. search needs)
     (λ c κs. let d = c .before in
     let s = d .before .before in
     asks s 3 (three s (d .if2 .left)) false (not-true _ (d .before .if1 .taken)) (c .shift2 .result) (c .shift2 .ensures))
     (λ c. let d = c .before .before in
     let s = d .before .before in
-    read (c .second2 .result) (c .second2 .ok) ∙ c .second2 .ensures
-    ∙ gives s 3 (three s (d .if2 .left)) false (not-true _ (d .before .if1 .taken))
-    (c .before .shift2 .result) (c .before .shift2 .ensures))
+    gives s 3 (three s (d .if2 .left)) false (not-true _ (d .before .if1 .taken))
+    (c .before .shift2 .result) (c .before .shift2 .ensures) (c .second2 .result) (c .second2 .ensures))
     (λ c κs. search needs)
     (λ c κs. let d = c .before in
     let s = d .before .before in
     asks s 2 (d .if3 .taken) true (not-false _ (d .before .if1 .left)) (c .shift3 .result) (c .shift3 .ensures))
     (λ c. let d = c .before .before in
     let s = d .before .before in
-    read (c .second3 .result) (c .second3 .ok) ∙ c .second3 .ensures
-    ∙ gives s 2 (d .if3 .taken) true (not-false _ (d .before .if1 .left))
-    (c .before .shift3 .result) (c .before .shift3 .ensures))
+    gives s 2 (d .if3 .taken) true (not-false _ (d .before .if1 .left))
+    (c .before .shift3 .result) (c .before .shift3 .ensures) (c .second3 .result) (c .second3 .ensures))
     (λ c κs. search needs)
     (λ c κs. let d = c .before in
     let s = d .before .before in
     asks s 3 (three s (d .if3 .left)) true (not-false _ (d .before .if1 .left)) (c .shift4 .result) (c .shift4 .ensures))
     (λ c. let d = c .before .before in
     let s = d .before .before in
-    read (c .second4 .result) (c .second4 .ok) ∙ c .second4 .ensures
-    ∙ gives s 3 (three s (d .if3 .left)) true (not-false _ (d .before .if1 .left))
-    (c .before .shift4 .result) (c .before .shift4 .ensures)))
+    gives s 3 (three s (d .if3 .left)) true (not-false _ (d .before .if1 .left))
+    (c .before .shift4 .result) (c .before .shift4 .ensures) (c .second4 .result) (c .second4 .ensures)))

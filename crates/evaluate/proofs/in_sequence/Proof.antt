@@ -16,7 +16,7 @@ Ordered s a b c last =
 
 returns : tie.Need-returns
 unfolding ofAxis beside pick
-returns c = let s = c .before in let a = s .args in subst (Ordered s (a .x) (a .y) (a .z)) (sym (c .if1 .taken)) (refl, refl, refl)
+returns c = let s = c .before in let a = s .args in subst (Ordered s (a .x) (a .z) (a .y)) (sym (c .if1 .taken)) (refl, refl, refl)
 
 returns-2 : tie.Need-returns-2
 unfolding ofAxis beside pick
@@ -28,8 +28,8 @@ unfolding ofAxis beside pick
 returns-3 c =
     let s = c .before .before in
     let a = s .args in
-    let e : 1 ≡ a .last = omega (arith, s .pre, c .before .if1 .left, c .if2 .left) in
-    subst (Ordered s (a .x) (a .z) (a .y)) e (refl, refl, refl)
+    let e : 2 ≡ a .last = omega (arith, s .pre, c .before .if1 .left, c .if2 .left) in
+    subst (Ordered s (a .x) (a .y) (a .z)) e (refl, refl, refl)
 
 pub in-sequence-spec : {M : Type 1} → statement M
 in-sequence-spec = tie.close (tie.spec returns returns-2 returns-3)

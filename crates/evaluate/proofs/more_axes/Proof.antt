@@ -1,10 +1,9 @@
 -- `evaluate::more_axes` meets its contract: the stages of two axes, or of three, are worked off one above the other.
-use mathlib.Core.Path.{_≡_, _∙_}
+use mathlib.Core.Path.{_≡_}
 use mathlib.Core.Bool.{true}
 use Prim.Native.Nat.{_≤_}
 use native.Mathlib.Omega.{arith}
 use borrow.Author.Tests.{not-true, not-false}
-use Rattle.arith.proofs.Machine.{read}
 use Rattle.hermite.specs.Hermite.{steps}
 use Rattle.evaluate.proofs.StageOrder.{steps-of, two-ask, two-give, three-ask, three-give}
 use Rattle.evaluate.proofs.more_axes.Statement.{statement}
@@ -24,7 +23,7 @@ returns c =
     let d = c .before .before in
     let s = d .before .before in
     two-give (s .args .b) (d .before .axis-of .ensures) (d .last-stage .ensures) (s .args .three) (not-true _ (c .before .if1 .taken))
-    (read (c .both-stages .result) (c .both-stages .ok) ∙ c .both-stages .ensures)
+    (c .both-stages .ensures)
 
 third-requires : tie.Need-third-requires
 third-requires c κs =
@@ -40,7 +39,7 @@ returns-2 c =
     let s = d .before .before in
     three-give (s .args .b) (d .before .axis-of .ensures) (d .last-stage .ensures) (e .axis-of2 .ensures) (s .args .three)
     (not-false _ (e .before .if1 .left))
-    (read (c .third .result) (c .third .ok) ∙ c .third .ensures)
+    (c .third .ensures)
 
 pub more-axes-spec : {M : Type 1} → statement M
 more-axes-spec =

@@ -5,23 +5,26 @@ use Prim.Native.Nat.{ℕ, _^_, _≤_, _<_}
 use native.Mathlib.Omega.{arith}
 use lib.Dec.{eqb, lit<}
 use lib.ListN.{length}
+use mir.Syntax.{w32, w64}
+use mir.Val.{SFits, toZ, ofZ}
 use lib.IntN.{ℤ}
 use denote.Ref.{now}
 use borrow.Author.Needs.{needs}
 use Rattle.arith.specs.Int.{roundingOf}
 use Rattle.arith.proofs.Editions.{edition-sound}
 use Rattle.arith.proofs.Choices.{by-3}
-use Rattle.lattice.specs.Axes.{axes, without}
+use Rattle.lattice.specs.Axes.{Field, axes, without}
 use Rattle.lattice.specs.Buffer.{at}
 use Rattle.lattice.specs.Records.{recordsField}
+use Rattle.hermite.specs.declared.Rounded.{Rounded}
 use Rattle.cell.specs.Cell.{placeAt}
 use Rattle.cell.proofs.CellLaws.{base-in, laid-small}
 use Rattle.evaluate.specs.declared.Strides.{Strides}
-use Rattle.evaluate.specs.Evaluate.{lastAxis, askAt, answerBy}
-use Rattle.evaluate.specs.Stages.{also, ofAxis, beside, Workable, WorkedOff}
+use Rattle.evaluate.specs.Evaluate.{Ask, lastAxis, askAt, answerBy, exactBy}
+use Rattle.evaluate.specs.Stages.{also, ofAxis, beside, Workable, WorkedOff, Reports}
 use Rattle.evaluate.specs.Wants.{wantOf}
 use Rattle.evaluate.proofs.AnswerLaws.{order-last}
-use Rattle.evaluate.proofs.Answering.{IsAxis, AreAxes, are-axes, workable-in, answer-in, orders-low, found, fits, cast}
+use Rattle.evaluate.proofs.Answering.{IsAxis, AreAxes, are-axes, workable-in, reported-in, orders-low, found, fits, cast}
 use Rattle.evaluate.proofs.EndLaws.{part}
 use Rattle.evaluate.proofs.Parts.{workable-part, worked-off-part}
 use Rattle.evaluate.proofs.StageOrder.{axes-before, beside-low}
@@ -121,37 +124,47 @@ module _ (c : tie.After-in-sequence) where
       (at here) 0
   asks = workable-part (now (b .args .records)) (b .args .l .base) base-low whole
 
-  gives : (r : ℤ) → WorkedOff (roundingOf (b .args .even)) (b .args .l .orders) (b .args .order) (c .in-sequence .result .last) others
-      (at here) 0 r
-      → r ≡ answerBy (roundingOf (b .args .even))
-      (askAt (b .args .s) (wantOf (b .args .order) (b .args .axis)) (placeAt (b .args .cell)) (placeAt (b .args .step)))
-      (recordsField (b .args .s) (now (b .args .records)))
+  abbrev asked : Ask
+  asked = askAt (b .args .s) (wantOf (b .args .order) (b .args .axis)) (placeAt (b .args .cell)) (placeAt (b .args .step))
+
+  abbrev field : Field
+  field = recordsField (b .args .s) (now (b .args .records))
+
+  gives : (r : Rounded) → WorkedOff (b .args .l .orders) (b .args .order) (c .in-sequence .result .last) others
+      (Reports (roundingOf (b .args .even)) (b .args .l .orders) (at here) 0 r)
+      → (r .number ≡ answerBy (roundingOf (b .args .even)) asked field)
+      × (eqb (r .rest) 0 ≡ exactBy (roundingOf (b .args .even)) asked field)
   gives r h =
       let a = b .args in
-      answer-in (edition-sound (a .even)) (a .s) (now (a .records)) (placeAt (a .cell)) (placeAt (a .step)) (wantOf (a .order) (a .axis))
+      reported-in (edition-sound (a .even)) (a .s) (now (a .records)) (placeAt (a .cell)) (placeAt (a .step)) (wantOf (a .order) (a .axis))
       (a .l)
       (b .pre .0) n last refl refl (a .order) (order-last (a .order) (a .axis)) (c .in-sequence .result .last) others is-last are r
       (worked-off-part (now (a .records)) (a .l .base) r h)
 
-cast-result : tie.Need-cast-result
-cast-result c =
-    let d = c .before .before .before .before .before in
-    let s = b d in
-    let a = s .args in
-    let r = c .more-axes in
-    fits (edition-sound (a .even)) (a .s) (now (a .records)) (placeAt (a .cell)) (a .step) (a .order) (a .axis) (a .l) (s .pre .0)
-    (r .result) (r .ok)
-    (gives d (r .result) (r .ensures))
+module _ (c : tie.After-struct-told) where
+  abbrev worked-off : tie.After-in-sequence
+  worked-off = c .before .before .before .before .before .before .before
+
+  abbrev r : Rounded
+  r = c .before .before .more-axes .result
+
+  fits-in : SFits w32 (toZ w64 (ofZ w64 (r .number)))
+  fits-in =
+      let s = b worked-off in
+      let a = s .args in
+      fits (edition-sound (a .even)) (a .s) (now (a .records)) (placeAt (a .cell)) (a .step) (a .order) (a .axis) (a .l) (s .pre .0)
+      (r .number) (c .struct-told .given .0 .1) (gives worked-off r (c .before .before .more-axes .ensures) .0)
+
+  answers : toZ w32 (ofZ w32 (toZ w64 (ofZ w64 (r .number))))
+      ≡ answerBy (roundingOf (b worked-off .args .even)) (asked worked-off) (field worked-off)
+  answers =
+      let s = b worked-off in
+      let a = s .args in
+      cast (edition-sound (a .even)) (a .s) (now (a .records)) (placeAt (a .cell)) (a .step) (a .order) (a .axis) (a .l) (s .pre .0)
+      (r .number) (c .struct-told .given .0 .1) (gives worked-off r (c .before .before .more-axes .ensures) .0)
 
 returns : tie.Need-returns
-returns c =
-    let d = c .before .before .before .before .before in
-    let s = b d in
-    let a = s .args in
-    let r = c .more-axes in
-    cast (edition-sound (a .even)) (a .s) (now (a .records)) (placeAt (a .cell)) (a .step) (a .order) (a .axis) (a .l) (s .pre .0)
-    (r .result) (r .ok)
-    (gives d (r .result) (r .ensures))
+returns c = let d = c .before in (answers d, gives (worked-off d) (r d) (d .before .before .more-axes .ensures) .1)
 
 pub on-lattice-spec : {M : Type 1} → statement M
 on-lattice-spec =
@@ -167,5 +180,5 @@ on-lattice-spec =
     (λ c. let h = base-low (c .before .before .before) in search needs)
     (λ c. let h = base-low (c .before .before .before) in search needs)
     (λ c κs. asks (c .before .before .before .before))
-    cast-result
+    (λ c. fits-in c)
     returns)

@@ -1,9 +1,6 @@
 -- `evaluate::one_axis` meets its contract: the stage of the only axis goes from units to units.
-use mathlib.Core.Path.{_∙_}
 use mathlib.Core.List.{[]}
 use borrow.Author.Needs.{needs}
-use Rattle.arith.proofs.Machine.{read}
-use Rattle.evaluate.specs.Stages.{after}
 use Rattle.evaluate.proofs.StageOrder.{made-prepared, made-small}
 use Rattle.evaluate.proofs.one_axis.Statement.{statement}
 use Rattle.evaluate.proofs.one_axis.Tie as tie
@@ -12,15 +9,13 @@ first-requires : tie.Need-first-requires
 first-requires c κs = let e = c .axis-of .ensures in ((made-prepared e, made-small e), c .before .pre .safe (c .axis-of .result) [] e tt)
 
 returns : tie.Need-returns
-unfolding after
 returns c =
     record {
       last = c .before .axis-of .result;
       others = [];
       made-last = c .before .axis-of .ensures;
       made = tt;
-      is =
-          read (c .first .result) (c .first .ok) ∙ c .first .ensures;
+      is = c .first .ensures;
     }
 
 pub one-axis-spec : {M : Type 1} → statement M

@@ -48,7 +48,7 @@ module _ (c : tie.After-with-ten) where
   position = byPosition (start .args .t) (now (start .args .records)) want (positionAt steps)
 
   told-is : outcomeOfReading (c .with-ten .result) ≡ renumbered (tenNumber fin) position
-  told-is = c .with-ten .ensures ∙ ap (renumbered (tenNumber fin)) (c .before .at-position .ensures)
+  told-is = c .with-ten .ensures ∙ ap (renumbered (tenNumber fin)) (c .before .at-position .ensures .0)
 
   stands : HeldSteps (floatsAt (start .args .p)) fin (positionAt steps)
   unfolding floatsAt

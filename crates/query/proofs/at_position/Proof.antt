@@ -1,5 +1,4 @@
 -- `query::at_position` meets its contract: the cells and steps are those of the position, read by two's complement.
-use mathlib.Core.Path.{_∙_}
 use denote.Ref.{now}
 use borrow.Author.Needs.{needs}
 use Rattle.lattice.specs.Buffer.{at}
@@ -35,13 +34,13 @@ returns c =
     let b = x d .before .before .before in
     let a = b .args in
     let p = a .t3 .position in
-    c .read .ensures
-    ∙ on-axes (a .t) (now (a .records)) (wanted (a .t3 .derivative)) p (x d .unsigned .result) (y d .unsigned2 .result)
+    on-axes (a .t) (now (a .records)) (wanted (a .t3 .derivative)) p (x d .unsigned .result) (y d .unsigned2 .result)
     (z d .unsigned3 .result) _ _ _
     (stands-for (at p 0) (x d .before .unsigned-arg .given) (x d .unsigned .ensures))
     (stands-for (at p 1) (y d .before .unsigned-arg2 .given) (y d .unsigned2 .ensures))
     (stands-for (at p 2) (z d .before .unsigned-arg3 .given) (z d .unsigned3 .ensures))
     (d .before .before .before .before .cell-of .ensures) (d .before .before .cell-of2 .ensures) (d .cell-of3 .ensures)
+    (c .read .result) (c .read .ensures)
 
 pub at-position-spec : {M : Type 1} → statement M
 at-position-spec =

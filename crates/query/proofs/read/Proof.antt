@@ -8,13 +8,16 @@ use lib.ListN.{length}
 use lib.Seq.{take-length}
 use denote.Ref.{now}
 use borrow.Author.Needs.{needs}
+use Rattle.arith.proofs.Choices.{clash}
 use Rattle.lattice.specs.Answers.{outcomeOf}
 use Rattle.lattice.specs.Outcome.{done, refused}
 use Rattle.lattice.specs.Shape.{fullShape}
 use Rattle.cell.specs.Cell.{placeAt}
 use Rattle.evaluate.specs.Wants.{wantOf}
+use Rattle.query.specs.declared.Reading.{Reading}
+use Rattle.query.specs.Answers.{outcomeOfReading, Marks}
 use Rattle.query.specs.Parts.{renumbered, positionNumber}
-use Rattle.query.specs.Queries.{testedOutcome, reading, byCell}
+use Rattle.query.specs.Queries.{testedOutcome, reading, byCell, cellMark}
 use Rattle.query.proofs.QueryLaws.{lent, lent-long, near, by-cell-reads, by-cell-stops}
 use Rattle.query.proofs.Renumbered.{kept-reading, position-keeps}
 use Rattle.query.proofs.read.Statement.{statement}
@@ -46,17 +49,39 @@ module _ (c : tie.After-enum-told) where
       ∙ kept-reading (number b) (position-keeps _ _) (fullShape (b .args .s) (b .args .even)) (now (b .args .records))
       (wantOf (b .args .order) (b .args .axis)) _ _))
 
+  -- and its mark
+  told-by : (r : Reading)
+      → (outcomeOfReading r ≡ reading (fullShape (b .args .s) (b .args .even)) (lent (now (b .args .records)))
+      (wantOf (b .args .order) (b .args .axis)) (placeAt (b .args .i ∷ b .args .j ∷ b .args .k ∷ []))
+      (placeAt (b .args .u ∷ b .args .v ∷ b .args .w ∷ [])))
+      × Marks r (cellMark (fullShape (b .args .s) (b .args .even)) (lent (now (b .args .records))) (wantOf (b .args .order) (b .args .axis))
+      (placeAt (b .args .i ∷ b .args .j ∷ b .args .k ∷ [])) (placeAt (b .args .u ∷ b .args .v ∷ b .args .w ∷ [])))
+      → (outcomeOfReading r ≡ renumbered (number b)
+      (byCell (fullShape (b .args .s) (b .args .even)) (now (b .args .records)) (wantOf (b .args .order) (b .args .axis))
+      (placeAt (b .args .i ∷ b .args .j ∷ b .args .k ∷ [])) (placeAt (b .args .u ∷ b .args .v ∷ b .args .w ∷ []))))
+      × Marks r (cellMark (fullShape (b .args .s) (b .args .even)) (now (b .args .records)) (wantOf (b .args .order) (b .args .axis))
+      (placeAt (b .args .i ∷ b .args .j ∷ b .args .k ∷ [])) (placeAt (b .args .u ∷ b .args .v ∷ b .args .w ∷ [])))
+  told-by r h = (
+    h .0 ∙ gives,
+    λ given. h .1 given
+        ∙ ap (λ (rs : List ℤ). cellMark (fullShape (b .args .s) (b .args .even)) rs (wantOf (b .args .order) (b .args .axis))
+        (placeAt (b .args .i ∷ b .args .j ∷ b .args .k ∷ [])) (placeAt (b .args .u ∷ b .args .v ∷ b .args .w ∷ [])))
+        (take-length (now (b .args .records))),
+  )
+
 refused-before : tie.Need-returns-2
 refused-before c =
     let k = c .before .before in
     let d = k .before .before in
     let b = d .before in
-    let a = b .args in
-    ap (λ (n : ℕ). refused n (k .tested .given .0 .0 .place)) (c .position-number .ensures)
-    ∙ sym (ap (renumbered (number b)) (by-cell-stops (fullShape (a .s) (a .even)) (now (a .records)) (wantOf (a .order) (a .axis))
-    (placeAt (a .i ∷ a .j ∷ a .k ∷ []))
-    (placeAt (a .u ∷ a .v ∷ a .w ∷ []))
-    (sym (d .check-by-axes .ensures (now (a .records)) refl) ∙ ap outcomeOf (k .tested .given .1))))
+    let a = b .args in (
+      ap (λ (n : ℕ). refused n (k .tested .given .0 .0 .place)) (c .position-number .ensures)
+          ∙ sym (ap (renumbered (number b)) (by-cell-stops (fullShape (a .s) (a .even)) (now (a .records)) (wantOf (a .order) (a .axis))
+          (placeAt (a .i ∷ a .j ∷ a .k ∷ []))
+          (placeAt (a .u ∷ a .v ∷ a .w ∷ []))
+          (sym (d .check-by-axes .ensures (now (a .records)) refl) ∙ ap outcomeOf (k .tested .given .1)))),
+      λ given. clash (cc),
+    )
 
 -- more than one axis
 two : (c : tie.Else1) → 2 ≤ b (c .before .before) .args .s .axes
@@ -78,9 +103,9 @@ read-spec =
     (λ c. sym (lent-long (now (b (c .before .before .before) .args .records))))
     (λ c κs. let d = c .before .before .before in
     (passes d (lent (now (b d .args .records))) (lent-long (now (b d .args .records))), c .before .if1 .taken))
-    (λ c. c .read-line .ensures ∙ gives (c .before .before .before .before))
+    (λ c. told-by (c .before .before .before .before) (c .read-line .result) (c .read-line .ensures))
     (λ c. sym (lent-long (now (b (c .before .before .before) .args .records))))
     (λ c κs. let d = c .before .before .before in
     (passes d (lent (now (b d .args .records))) (lent-long (now (b d .args .records))), two (c .before)))
     refused-before
-    (λ c. c .read-lattice .ensures ∙ gives (c .before .before .before .before)))
+    (λ c. told-by (c .before .before .before .before) (c .read-lattice .result) (c .read-lattice .ensures)))

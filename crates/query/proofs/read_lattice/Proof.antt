@@ -1,6 +1,7 @@
 -- `query::read_lattice` meets its contract: within the limits the stages are the answer, else the refusal is 5.
 use mathlib.Core.Path.{refl}
 use denote.Ref.{now}
+use borrow.Author.Needs.{needs}
 use Rattle.cell.specs.Cell.{placeAt}
 use Rattle.evaluate.specs.Wants.{wantOf}
 use Rattle.query.proofs.QueryLaws.{Reader, reader}
@@ -29,14 +30,18 @@ read-lattice-spec =
           (c .if1 .taken),
       b .pre .1,
     ))
+    (λ c κs. search needs)
     (λ c.
-    let w = c .before .before in
-    let r = c .on-lattice in
-    reads (w .before .before) .answered (w .lattice-within .result) (w .lattice-within .ensures) (c .before .if1 .taken) (r .result)
-    (r .ok) (r .ensures))
+    let v = c .before .on-lattice in
+    let w = c .before .before .before in
+    reads (w .before .before) .answered (w .lattice-within .result) (w .lattice-within .ensures) (c .before .before .if1 .taken)
+    (c .reading-of .result) (v .result) (c .reading-of .ensures) (v .ensures))
     (λ c κs.
     let w = c .before in
     let l = w .before in
     reads (l .before) .beyond-asks (l .layout-of .result) (l .layout-of .ensures) (w .lattice-within .result) (w .lattice-within .ensures)
     (c .if1 .left))
-    (λ c. reads (c .before .before .before .before) .stopped _ (c .beyond .ensures)))
+    (λ c.
+    let w = c .before .before in
+    reads (w .before .before) .stopped (w .lattice-within .result) (w .lattice-within .ensures) (c .before .if1 .left) (c .beyond .result)
+    (c .beyond .ensures)))

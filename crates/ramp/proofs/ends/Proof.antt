@@ -28,7 +28,7 @@ Inv-loop even m y x held orderStride nodeStride n₀ t₀ n t =
 abbrev μ-loop : tie.MeasureT-loop
 μ-loop even m y x held orderStride nodeStride n₀ t₀ n t = 2 * m - t
 
-abbrev of-three : tie.After-t49 Inv-loop μ-loop → tie.Else1 Inv-loop μ-loop
+abbrev of-three : tie.After-t50 Inv-loop μ-loop → tie.Else1 Inv-loop μ-loop
 of-three c = c .before .before .before .before .before .before
 
 module _ (s : tie.Start Inv-loop μ-loop) where
@@ -86,15 +86,16 @@ first-stages-requires c κs =
 
 loop-again : tie.Need-loop-again Inv-loop μ-loop
 loop-again c =
-    let d = c .before .before in
+    let f = c .before in
+    let d = f .before .before in
     let s = start d in
     let i = d .before .loop in (
       omega (arith, d .loop-test .taken),
       simp length-set (i .inv .1),
-      fill (i .n) (i .t) (λ j. number s (place s j)) (toZ w64 (ofZ w64 (c .first-stages .result)))
+      fill (i .n) (i .t) (λ j. number s (place s j)) (toZ w64 (ofZ w64 (f .first-stages .result .number)))
           (let e = i .inv .1 in let h = few d in omega arith) (i .inv .2)
-          (read (c .first-stages .result) (c .first-stages .ok) ∙ c .first-stages .ensures
-          ∙ ap (number s) (c .before .place-at .ensures)),
+          (read (f .first-stages .result .number) (c .struct-told .given .0 .1) ∙ f .first-stages .ensures
+          ∙ ap (number s) (f .before .place-at .ensures)),
     )
 
 -- after the last turn
@@ -128,11 +129,11 @@ returns c =
     let m2 = t1 .if1 .taken in
     record {
       low = end-of-two (a .m) (number (begun d)) 0 (a .order) _ _
-          (read _ (c .before .before .before .t19 .given) ∙ low d 0 0 (omega arith) (omega arith))
-          (read _ (c .before .before .t22 .given) ∙ low d 1 (0 + a .order) (omega arith) (omega arith)) m2;
+          (read _ (c .before .before .before .t20 .given) ∙ low d 0 0 (omega arith) (omega arith))
+          (read _ (c .before .before .t23 .given) ∙ low d 1 (0 + a .order) (omega arith) (omega arith)) m2;
       high = end-of-two (a .m) (number (begun d)) (0 + a .node) (a .order) _ _
-          (read _ (c .before .t26 .given) ∙ high d 0 2 (0 + a .node) (omega arith) (omega arith) (omega arith))
-          (read _ (c .t29 .given) ∙ high d 1 3 (0 + a .node + a .order) (omega arith) (omega arith) (omega arith)) m2;
+          (read _ (c .before .t27 .given) ∙ high d 0 2 (0 + a .node) (omega arith) (omega arith) (omega arith))
+          (read _ (c .t30 .given) ∙ high d 1 3 (0 + a .node + a .order) (omega arith) (omega arith) (omega arith)) m2;
     }
 
 returns-2 : tie.Need-returns-2 Inv-loop μ-loop
@@ -143,13 +144,13 @@ returns-2 c =
     let m3 : a .m ≡ 3 = omega (arith, m2 (begun d), m3 (begun d), t1 .if1 .left) in
     record {
       low = end-of-three (a .m) (number (begun d)) 0 (a .order) _ _
-          (read _ (c .before .before .before .before .before .t33 .given) ∙ low d 0 0 (omega arith) (omega arith))
-          (read _ (c .before .before .before .before .t36 .given) ∙ low d 1 (0 + a .order) (omega arith) (omega arith)) m3 _
-          (read _ (c .before .before .before .t39 .given) ∙ low d 2 (0 + 2 * a .order) (omega arith) (omega arith));
+          (read _ (c .before .before .before .before .before .t34 .given) ∙ low d 0 0 (omega arith) (omega arith))
+          (read _ (c .before .before .before .before .t37 .given) ∙ low d 1 (0 + a .order) (omega arith) (omega arith)) m3 _
+          (read _ (c .before .before .before .t40 .given) ∙ low d 2 (0 + 2 * a .order) (omega arith) (omega arith));
       high = end-of-three (a .m) (number (begun d)) (0 + a .node) (a .order) _ _
-          (read _ (c .before .before .t43 .given) ∙ high d 0 3 (0 + a .node) (omega arith) (omega arith) (omega arith))
-          (read _ (c .before .t46 .given) ∙ high d 1 4 (0 + a .node + a .order) (omega arith) (omega arith) (omega arith)) m3 _
-          (read _ (c .t49 .given) ∙ high d 2 5 (0 + a .node + 2 * a .order) (omega arith) (omega arith) (omega arith));
+          (read _ (c .before .before .t44 .given) ∙ high d 0 3 (0 + a .node) (omega arith) (omega arith) (omega arith))
+          (read _ (c .before .t47 .given) ∙ high d 1 4 (0 + a .node + a .order) (omega arith) (omega arith) (omega arith)) m3 _
+          (read _ (c .t50 .given) ∙ high d 2 5 (0 + a .node + 2 * a .order) (omega arith) (omega arith) (omega arith));
     }
 
 pub ends-spec : {M : Type 1} → statement M
@@ -162,10 +163,10 @@ ends-spec =
     (λ c. let h = m3 (c .before) in omega arith)
     (λ c κs. asks c)
     first-stages-requires
-    (λ c. let h = few (c .before .before) in omega arith)
-    (λ c. few (c .before .before))
-    (λ c. let h = few (c .before .before) in omega arith)
-    (λ c. omega (arith, c .before .before .loop-test .taken))
+    (λ c. let h = few (c .before .before .before) in omega arith)
+    (λ c. few (c .before .before .before))
+    (λ c. let h = few (c .before .before .before) in omega arith)
+    (λ c. omega (arith, c .before .before .before .loop-test .taken))
     loop-again
     (λ c. search needs)
     (λ c. search needs)

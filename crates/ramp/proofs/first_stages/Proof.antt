@@ -1,6 +1,5 @@
 -- `ramp::first_stages` meets its contract: the second stage with m, its shift, the strides and the edition as literals is the one with m
--- and
--- the edition.
+-- and the edition.
 use mathlib.Core.Path.{_≡_, sym, ap, ap₂, subst, _∙_}
 use mathlib.Core.Bool.{Bool, true, false}
 use mathlib.Core.List.{[], _∷_}
@@ -11,7 +10,6 @@ use lib.IntN.{ℤ}
 use denote.Ref.{now}
 use borrow.Author.Needs.{needs}
 use Rattle.arith.specs.Int.{Rounding, roundingOf}
-use Rattle.arith.proofs.Machine.{read}
 use Rattle.lattice.specs.Buffer.{at}
 use Rattle.hermite.specs.Stage.{shiftOf}
 use Rattle.hermite.proofs.StageLaws.{shifted}
@@ -83,7 +81,7 @@ first-stages-spec =
     asks (d .before) 2 (d .if1 .taken) true (t .if2 .taken) (c .shift .result) (c .shift .ensures) _ _ (a .before .strided .ensures)
     (a .strided2 .ensures))
     (λ c. let t = c .before .before in let a = t .before in let d = cubic a in
-    read (c .second .result) (c .second .ok) ∙ c .second .ensures
+    c .second .ensures .number-is
     ∙ gives (d .before) 2 (d .if1 .taken) true (t .if2 .taken) (c .before .shift .result) (c .before .shift .ensures) _ _
     (a .before .strided .ensures) (a .strided2 .ensures))
     (λ c κs. search needs)
@@ -91,7 +89,7 @@ first-stages-spec =
     asks (d .before) 2 (d .if1 .taken) false (t .if2 .left) (c .shift2 .result) (c .shift2 .ensures) _ _ (a .before .strided .ensures)
     (a .strided2 .ensures))
     (λ c. let t = c .before .before in let a = t .before in let d = cubic a in
-    read (c .second2 .result) (c .second2 .ok) ∙ c .second2 .ensures
+    c .second2 .ensures .number-is
     ∙ gives (d .before) 2 (d .if1 .taken) false (t .if2 .left) (c .before .shift2 .result) (c .before .shift2 .ensures) _ _
     (a .before .strided .ensures) (a .strided2 .ensures))
     (λ c κs. strides-y (c .before) 3 (three c))
@@ -101,7 +99,7 @@ first-stages-spec =
     asks (d .before) 3 (three d) true (t .if3 .taken) (c .shift3 .result) (c .shift3 .ensures) _ _ (a .before .strided3 .ensures)
     (a .strided4 .ensures))
     (λ c. let t = c .before .before in let a = t .before in let d = quintic a in
-    read (c .second3 .result) (c .second3 .ok) ∙ c .second3 .ensures
+    c .second3 .ensures .number-is
     ∙ gives (d .before) 3 (three d) true (t .if3 .taken) (c .before .shift3 .result) (c .before .shift3 .ensures) _ _
     (a .before .strided3 .ensures) (a .strided4 .ensures))
     (λ c κs. search needs)
@@ -109,6 +107,6 @@ first-stages-spec =
     asks (d .before) 3 (three d) false (t .if3 .left) (c .shift4 .result) (c .shift4 .ensures) _ _ (a .before .strided3 .ensures)
     (a .strided4 .ensures))
     (λ c. let t = c .before .before in let a = t .before in let d = quintic a in
-    read (c .second4 .result) (c .second4 .ok) ∙ c .second4 .ensures
+    c .second4 .ensures .number-is
     ∙ gives (d .before) 3 (three d) false (t .if3 .left) (c .before .shift4 .result) (c .before .shift4 .ensures) _ _
     (a .before .strided3 .ensures) (a .strided4 .ensures)))

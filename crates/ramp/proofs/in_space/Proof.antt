@@ -7,7 +7,6 @@ use lib.ListN.{length}
 use denote.Ref.{now}
 use borrow.Author.Needs.{needs}
 use Rattle.arith.specs.Int.{roundingOf}
-use Rattle.arith.proofs.Machine.{read}
 use Rattle.lattice.specs.Buffer.{at}
 use Rattle.evaluate.specs.Stages.{stridesOf, AllPrepared, Safe}
 use Rattle.evaluate.proofs.EndLaws.{stage-asks, stage-gives}
@@ -58,7 +57,7 @@ returns c =
     let a = asks h in
     three-give (stridesOf (s h .args .v) (2 * s h .args .e) (s h .args .m)) (h .before .axis-of2 .ensures) (z h .axis-of .ensures)
     (h .axis-of3 .ensures) true refl
-    (read (c .stage .result) (c .stage .ok) ∙ c .stage .ensures
+    (c .stage .ensures .0
     ∙ stage-gives (a .0 .0 .0) (d .ends .ensures) (roundingOf (s h .args .even)) (z h .axis-of .result .shift))
 
 pub in-space-spec : {M : Type 1} → statement M

@@ -1,8 +1,12 @@
 -- `dose_at` meets its contract: the query is answered.
 use mathlib.Core.Path.{_≡_, sym, ap, _∙_}
+use Prim.Native.Nat.{_^_, _<_}
+use lib.IntN.{ℤ}
+use lib.Signed.{mag}
 use mir.Syntax.{w32}
-use mir.Facts.{toZ-ofZ}
+use mir.Val.{toZ, ofZ}
 use denote.Ref.{now}
+use Rattle.arith.proofs.Machine.{element}
 use Rattle.lattice.specs.declared.Shape.{Shape}
 use Rattle.lattice.specs.Outcome.{done}
 use Rattle.lattice.specs.Shape.{fullShape}
@@ -32,23 +36,32 @@ module _ (c : tie.After-in-cell) where
       ≡ done (doseFrom (start .args .second) (shape start) (now (start .args .records)) (start .args .cell))
   is =
       let step = placeAt (c .before .before .middle-of .result) in
-      c .in-cell .ensures
+      c .in-cell .ensures .0
       ∙ ap (λ (s : Shape). byCell (fullShape s (start .args .second)) (now (start .args .records)) dose (placeAt (start .args .cell)) step)
       (c .before .shape-of .ensures)
       ∙ answered (start .args .second) (shape start) (now (start .args .records)) (start .args .cell) step (start .pre .0)
       (start .pre .1) (c .before .before .middle-of .ensures)
 
+  -- its number, read from a case that holds it
+  held : (v : ℤ) → mag v < 2 ^ 31 → outcomeOfReading (c .in-cell .result) ≡ done v
+      → toZ w32 (ofZ w32 v) ≡ doseFrom (start .args .second) (shape start) (now (start .args .records)) (start .args .cell)
+  held v fit e = element v fit ∙ done-same v _ (sym e ∙ is)
+
 enum-told : tie.Need-enum-told
 enum-told c = search needs
 
 returns : tie.Need-returns
-returns c =
-    let v = c .before .reading .given .0 .0 in
-    toZ-ofZ {w = w32} (record { sfits = c .known-told .given .0 .1 })
-    ∙ done-same v _ (sym (ap outcomeOfReading (c .before .reading .given .1)) ∙ is (c .before .before .before))
+returns c = cc (sym (ap outcomeOfReading (c .enum-told .given .1)) ∙ is (c .before .before))
 
 returns-2 : tie.Need-returns-2
-returns-2 c = cc (sym (ap outcomeOfReading (c .enum-told .given .1)) ∙ is (c .before .before))
+returns-2 c =
+    let r = c .before .reading .given in
+    held (c .before .before .before) (r .0 .0) (c .known-told .given .0 .1) (ap outcomeOfReading (r .1))
+
+returns-3 : tie.Need-returns-3
+returns-3 c =
+    let r = c .before .reading2 .given in
+    held (c .before .before .before) (r .0 .0) (c .known-told2 .given .0 .1) (ap outcomeOfReading (r .1))
 
 pub dose-at-spec : {M : Type 1} → statement M
 dose-at-spec =
@@ -58,6 +71,8 @@ dose-at-spec =
     (λ c κs. search needs)
     (λ c κs. search needs)
     (λ c. search needs)
+    (λ c. search needs)
     enum-told
     returns
-    returns-2)
+    returns-2
+    returns-3)

@@ -8,4 +8,4 @@ use Rattle.lukhtari.proofs.whole_queries.lukhtari_curvature_in_cell.Tie
 pub lukhtari-curvature-in-cell-spec : {M : Type 1} → statement M
 lukhtari-curvature-in-cell-spec =
     tie.close (tie.spec (λ c κs. search needs) (λ c κs. search needs)
-    (λ c. c .whole-of .ensures ∙ ap wholeFrom (c .before .in-cell .ensures)))
+    (λ c. c .whole-of .ensures ∙ ap wholeFrom (c .before .in-cell .ensures .0)))

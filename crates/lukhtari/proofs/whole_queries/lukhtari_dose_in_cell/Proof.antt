@@ -1,6 +1,6 @@
--- `lukhtari::whole_queries::lukhtari_dose_in_cell` meets its contract: the struct says what the query without a slope axis says.
-use mathlib.Core.Path.{ap, _∙_}
-use Rattle.lukhtari.specs.Host.{wholeFrom}
+-- `lukhtari::whole_queries::lukhtari_dose_in_cell` meets its contract: the struct says what the query for a dose says, and its mark.
+use mathlib.Core.Path.{_∙_}
+use Rattle.lukhtari.proofs.MarkedLaws.{marked-same}
 use borrow.Author.Needs.{needs}
 use Rattle.lukhtari.proofs.whole_queries.lukhtari_dose_in_cell.Statement.{statement}
 use Rattle.lukhtari.proofs.whole_queries.lukhtari_dose_in_cell.Tie as tie
@@ -8,4 +8,4 @@ use Rattle.lukhtari.proofs.whole_queries.lukhtari_dose_in_cell.Tie as t
 pub lukhtari-dose-in-cell-spec : {M : Type 1} → statement M
 lukhtari-dose-in-cell-spec =
     tie.close (tie.spec (λ c κs. search needs) (λ c κs. search needs)
-    (λ c. c .whole-of .ensures ∙ ap wholeFrom (c .before .in-cell .ensures)))
+    (λ c. let r = c .before .in-cell in c .marked-of .ensures ∙ marked-same (r .result) (r .ensures .0) (r .ensures .1)))

@@ -7,4 +7,4 @@ use Rattle.lukhtari.proofs.whole_queries.lukhtari_slope.Tie as tie
 
 pub lukhtari-slope-spec : {M : Type 1} → statement M
 lukhtari-slope-spec = tie.close
-    (tie.spec (λ c κs. search needs) (λ c κs. search needs) (λ c. c .whole-of .ensures ∙ ap wholeFrom (c .before .at-position .ensures)))
+    (tie.spec (λ c κs. search needs) (λ c κs. search needs) (λ c. c .whole-of .ensures ∙ ap wholeFrom (c .before .at-position .ensures .0)))
