@@ -12,7 +12,8 @@ static int refused(const char *call, uint32_t number, uint64_t place) {
 }
 
 int main(void) {
-    lukhtari_shape shape = {1, 3, {2, 1, 1}, false}; /* axes, degree, node counts, edition two */
+    /* axes, degree, node counts, steps a cell, edition two */
+    lukhtari_shape shape = {1, 3, {2, 1, 1}, {256, 1, 1}, false};
     int32_t samples[2] = {0, 100};
     int32_t records[LUKHTARI_ENTRIES(1, 3, 2)];
     size_t entries = sizeof records / sizeof records[0];

@@ -6,7 +6,8 @@
 #include <string.h>
 
 int main(void) {
-    lukhtari_shape shape = {2, 3, {3, 3, 1}, false}; /* axes, degree, node counts, edition two */
+    /* axes, degree, node counts, steps a cell, edition two */
+    lukhtari_shape shape = {2, 3, {3, 3, 1}, {256, 256, 1}, false};
     const char *text = "0      1      2.50\n"
                        "-5e-1  0.40   18e-1\n"
                        "-1.2   -0.10  0.9\n";

@@ -5,7 +5,8 @@
 #include <stdio.h>
 
 int main(void) {
-    lukhtari_shape shape = {2, 3, {3, 2, 1}, false}; /* axes, degree, node counts, edition two */
+    /* axes, degree, node counts, steps a cell, edition two */
+    lukhtari_shape shape = {2, 3, {3, 2, 1}, {256, 256, 1}, false};
     int32_t samples[LUKHTARI_NODES(3, 2, 1)] = {0, 100, 400, 0, 100, 200};
     int32_t records[LUKHTARI_ENTRIES(2, 3, LUKHTARI_NODES(3, 2, 1))];
     size_t entries = sizeof records / sizeof records[0];

@@ -7,7 +7,8 @@
 enum { DOSES = 7 };
 
 int main(void) {
-    lukhtari_shape shape = {1, 3, {3, 1, 1}, false}; /* axes, degree, node counts, edition two */
+    /* axes, degree, node counts, steps a cell, edition two */
+    lukhtari_shape shape = {1, 3, {3, 1, 1}, {256, 1, 1}, false};
     int32_t samples[3] = {0, 100, 200};
     int32_t records[LUKHTARI_ENTRIES(1, 3, 3)];
     size_t entries = sizeof records / sizeof records[0];

@@ -9,10 +9,11 @@
  * Nodes, cells and positions. Axes are x, y, z in this order, numbered 0, 1, 2; a shape uses the
  * first 1, 2 or 3. With cx and cy the node counts of x and y, node (i, j, k) has number
  * i + cx * (j + cy * k). Cell (i, j, k) lies between node (i, j, k) and the next one on each used
- * axis; the last cell of an axis has the index count - 2. A position counts 256 steps a cell: node
- * i stands at position 256 * i. Within a cell a step u runs from 0 to 256. A node between two cells
- * is read in the upper one, the last node in the last cell. Indices, positions and steps are 0 on
- * unused axes, node counts 1.
+ * axis; the last cell of an axis has the index count - 2. Each used axis has its own step
+ * number N, the number of steps of a cell along it: 16, 32, 64, 128 or 256, a part of the shape. A
+ * position counts steps: node i stands at position N * i. Within a cell a step u runs from 0 to N.
+ * A node between two cells is read in the upper one, the last node in the last cell. Indices,
+ * positions and steps u are 0 on unused axes, node counts and step numbers 1.
  *
  * Samples and records. A sample is a dose in units; samples stand in order of node numbers. Let m
  * be 2 for degree 3 and 3 for degree 5. A node's record has m^axes entries. The entry of orders
@@ -30,13 +31,13 @@
  *
  * Coefficients. Coefficient (a, b, c) of a cell, each index from 0 to degree and 0 on an unused
  * axis, has number a + s * (b + s * c) with s = degree + 1, and lies within +-2^30. It is held
- * doubled once for each used axis. With t = u / 256 on each axis the exact dose is the sum over all
+ * doubled once for each used axis. With t = u / N on each axis the exact dose is the sum over all
  * coefficients, divided by 2^axes, of the coefficient times t^a * (1 - t)^(degree - a) along x and
  * alike with b along y and c along z. A cell's corner records are those of the nodes at its 2^axes
  * corners, x fastest; together they have as many entries as the cell has coefficients.
  *
  * Power coefficients. In a cell of a two-axis cubic table the exact dose is also a sum of
- * coefficients times powers of x and y, which run from 0 to 1 in the cell: x = u / 256 along x, y
+ * coefficients times powers of x and y, which run from 0 to 1 in the cell: x = u / N along x, y
  * alike. lukhtari_powers exports them, each times 4, so that it is whole: the number at index
  * i + 4 * j is that of x^i * y^j, i and j from 0 to 3, and lies within +-10616832.
  *
@@ -50,6 +51,10 @@
  * of its second derivative. Where the samples are a sum of a constant and multiples of x, y, z, xy,
  * xz, yz and xyz, these being the node indices, the exact dose is that sum everywhere in the table,
  * and the exact curvature is 0.
+ *
+ * Step numbers. An answer at step u of an axis with step number N is the one at step u * 256 / N
+ * where the axis has 256, the mark included; on a coarser axis fewer points can be asked for. The
+ * distances hold for every choice. Records, coefficients, samples and files do not depend on it.
  *
  * Editions. A table is of edition one or of edition two, which is a part of its shape. In edition
  * one every stage rounds halves up, in edition two to the even number. Nothing else depends on it:
@@ -78,7 +83,8 @@
  *    byte 8 + 4 * n      the samples in order of node numbers
  *
  * With them a file of edition one ends. One of edition two has a third section behind them: the
- * count 1 and the number 2, 8 bytes. Nothing follows.
+ * count 1 and the number 2, 8 bytes. Nothing follows. A file holds no step numbers: a table that is
+ * read has 256 on each used axis.
  *
  * The text of a table. One token for each sample, in order of node numbers. Space, tab, line feed
  * and carriage return separate tokens, one or more of them; they may also lead and end the text. A
@@ -100,16 +106,16 @@
  *
  * Results. Every result has a number and a place. Number 0 means not refused, and then place is 0.
  * Any other number is a refusal, one of enum lukhtari_refusal: no buffer is written, value, axes,
- * counts, length and fetches are 0, and exact and second_edition are false. Place is the first
- * offending index as said there, else 0. A buffer longer than needed keeps its tail.
+ * counts, steps, length and fetches are 0, and exact and second_edition are false. Place is the
+ * first offending index as said there, else 0. A buffer longer than needed keeps its tail.
  *
  * Refusals come before reading. Every call but lukhtari_read, lukhtari_import and lukhtari_ramp
  * gives each refusal but 5, 13 and 19 by the numbers and lengths handed over, before it reads an
- * element of a slice. lukhtari_ramp gives 1, 2, 3, 20, 4 and 9 so, and then reads no record beyond
- * those of the cells of its positions, up to the first position that is refused. lukhtari_read
- * reads the numbers before and behind the samples one by one, none beyond the bytes lent, and gives
- * each refusal but 5 before it reads a sample. lukhtari_import gives 1, 2 and 3 before it reads a
- * byte of the text. Neither reads the slice that it fills.
+ * element of a slice. lukhtari_ramp gives 1, 2, 3, 26, 20, 4 and 9 so, and then reads no record
+ * beyond those of the cells of its positions, up to the first position that is refused.
+ * lukhtari_read reads the numbers before and behind the samples one by one, none beyond the bytes
+ * lent, and gives each refusal but 5 before it reads a sample. lukhtari_import gives 1, 2, 3 and 26
+ * before it reads a byte of the text. Neither reads the slice that it fills.
  *
  * Surroundings. The archive is for x86-64 Linux. It needs memcpy and memset and nothing else, uses
  * no heap and has no data that changes: calls may run at the same time, in threads and in signal
@@ -129,10 +135,11 @@ extern "C" {
 #endif
 
 /* The number of this interface; another number means other structs, calls or names. */
-#define LUKHTARI_INTERFACE 8
+#define LUKHTARI_INTERFACE 9
 
-/* Steps of a cell along an axis. */
-#define LUKHTARI_STEPS 256
+/* Least and largest step number of a used axis; 32, 64 and 128 are the others. */
+#define LUKHTARI_STEPS_MIN 16
+#define LUKHTARI_STEPS_MAX 256
 
 /* Least and largest node count of a used axis, and the most nodes of a table. */
 #define LUKHTARI_COUNT_MIN 2
@@ -186,7 +193,7 @@ extern "C" {
 #define LUKHTARI_STACK_QUERY 2048
 #define LUKHTARI_STACK_FILE 1024
 #define LUKHTARI_STACK_IMPORT 1024
-#define LUKHTARI_STACK_RAMP 4096
+#define LUKHTARI_STACK_RAMP 9216
 
 /* The numbers of refusals. */
 enum lukhtari_refusal {
@@ -216,8 +223,9 @@ enum lukhtari_refusal {
     LUKHTARI_REFUSED_BUFFER_TOO_SHORT = 9,
     /* A float is NaN or infinite; place: the axis. */
     LUKHTARI_REFUSED_NOT_FINITE = 10,
-    /* A position is beyond the last node, or an in-cell step above 256; place: the axis, and for
-     * lukhtari_ramp the index of the position in the list. The cure is a smaller one. */
+    /* A position is beyond the last node, or an in-cell step above the axis's step number; place:
+     * the axis, and for lukhtari_ramp the index of the position in the list. The cure is a smaller
+     * one. */
     LUKHTARI_REFUSED_POSITION_BEYOND = 11,
     /* The axis of a slope or curvature is not used. */
     LUKHTARI_REFUSED_SLOPE_AXIS = 12,
@@ -249,19 +257,24 @@ enum lukhtari_refusal {
     /* Power coefficients are asked for of a table that is not two-axis cubic. */
     LUKHTARI_REFUSED_POWERS_SHAPE = 24,
     /* The count of the file's third section is not 1, or its number is not 2. */
-    LUKHTARI_REFUSED_FILE_EDITION = 25
+    LUKHTARI_REFUSED_FILE_EDITION = 25,
+    /* The step number of a used axis is not 16, 32, 64, 128 or 256, or that of an unused one not
+     * 1; place: the axis. */
+    LUKHTARI_REFUSED_STEP_NUMBER = 26
 };
 
 /* A table's number of axes (1 to 3), degree (3 or 5), node counts, 2 to 64 on each used axis and 1
- * on an unused one, and whether it is of edition two. */
+ * on an unused one, step numbers, 16, 32, 64, 128 or 256 on each used axis and 1 on an unused one,
+ * and whether it is of edition two. */
 typedef struct lukhtari_shape {
     uint32_t axes;
     uint32_t degree;
     uint32_t counts[3];
+    uint32_t steps[3];
     bool second_edition;
 } lukhtari_shape;
 
-/* A cell's indices, in-cell steps, or node counts. */
+/* A cell's indices, in-cell steps, node counts, or step numbers. */
 typedef struct lukhtari_index {
     uint32_t at[3];
 } lukhtari_index;
@@ -306,13 +319,14 @@ typedef struct lukhtari_real {
     float value;
 } lukhtari_real;
 
-/* The number of axes and the node counts of a file that was read, 1 on unused axes, and whether it
- * is of edition two. */
+/* The number of axes and the node counts of a file that was read, the step number 256 on each used
+ * axis, 1 for both on unused axes, and whether it is of edition two. */
 typedef struct lukhtari_table {
     uint32_t number;
     uint64_t place;
     uint32_t axes;
     uint32_t counts[3];
+    uint32_t steps[3];
     bool second_edition;
 } lukhtari_table;
 
@@ -338,7 +352,7 @@ typedef struct lukhtari_ramped {
 #endif
 #ifdef LUKHTARI_SIZE
 LUKHTARI_SIZE(size_t, 8);
-LUKHTARI_SIZE(lukhtari_shape, 24);
+LUKHTARI_SIZE(lukhtari_shape, 36);
 LUKHTARI_SIZE(lukhtari_index, 12);
 LUKHTARI_SIZE(lukhtari_position, 12);
 LUKHTARI_SIZE(lukhtari_float_position, 12);
@@ -346,7 +360,7 @@ LUKHTARI_SIZE(lukhtari_done, 16);
 LUKHTARI_SIZE(lukhtari_whole, 24);
 LUKHTARI_SIZE(lukhtari_marked, 24);
 LUKHTARI_SIZE(lukhtari_real, 24);
-LUKHTARI_SIZE(lukhtari_table, 40);
+LUKHTARI_SIZE(lukhtari_table, 48);
 LUKHTARI_SIZE(lukhtari_written, 24);
 LUKHTARI_SIZE(lukhtari_ramped, 24);
 #undef LUKHTARI_SIZE
@@ -355,12 +369,12 @@ LUKHTARI_SIZE(lukhtari_ramped, 24);
 /* Writes the records of all nodes, estimated from the samples. A record has 2^axes entries for
  * degree 3 and 3^axes for degree 5. Samples lie within +-32768 / 2^axes. At a border the estimate
  * continues the line.
- * Refusals in order: 1, 2, 3, 4, 9, 19. */
+ * Refusals in order: 1, 2, 3, 26, 4, 9, 19. */
 lukhtari_done lukhtari_estimate(lukhtari_shape shape, const int32_t *samples, size_t samples_len,
                                 int32_t *records, size_t records_len);
 
 /* Writes the (degree + 1)^axes coefficients of a cell, doubled once for each used axis.
- * Refusals in order: 1, 2, 3, 4, 9, 14 (each axis), 5 (the cell's corners in order). */
+ * Refusals in order: 1, 2, 3, 26, 4, 9, 14 (each axis), 5 (the cell's corners in order). */
 lukhtari_done lukhtari_coefficients(lukhtari_shape shape, const int32_t *records,
                                     size_t records_len, lukhtari_index cell, int32_t *out,
                                     size_t out_len);
@@ -372,58 +386,59 @@ lukhtari_done lukhtari_corners(uint32_t axes, uint32_t degree, const int32_t *co
 
 /* Writes the 16 coefficients of powers of x and y of a cell of a two-axis cubic table, each times
  * 4.
- * Refusals in order: 1, 2, 3, 24, 4, 9, 14 (each axis), 5 (the cell's corners in order). */
+ * Refusals in order: 1, 2, 3, 26, 24, 4, 9, 14 (each axis), 5 (the cell's corners in order). */
 lukhtari_done lukhtari_powers(lukhtari_shape shape, const int32_t *records, size_t records_len,
                               lukhtari_index cell, int32_t *out, size_t out_len);
 
 /* Dose at a table position, with its mark.
- * Refusals in order: 1, 2, 3, 4, on each axis 23, 22 and then 11, 5 (the cell's corners in
+ * Refusals in order: 1, 2, 3, 26, 4, on each axis 23, 22 and then 11, 5 (the cell's corners in
  * order). */
 lukhtari_marked lukhtari_dose(lukhtari_shape shape, const int32_t *records, size_t records_len,
                               lukhtari_position position);
 
 /* Slope along an axis (0 for x, 1 for y, 2 for z) at a table position.
- * Refusals in order: 1, 2, 3, 4, 12, on each axis 23, 22 and then 11, 5 (the cell's corners in
+ * Refusals in order: 1, 2, 3, 26, 4, 12, on each axis 23, 22 and then 11, 5 (the cell's corners in
  * order). */
 lukhtari_whole lukhtari_slope(lukhtari_shape shape, const int32_t *records, size_t records_len,
                               lukhtari_position position, uint32_t axis);
 
-/* Dose at the steps u (0 to 256) within a cell, with its mark.
- * Refusals in order: 1, 2, 3, 4, 14 (each axis), on each axis 23 and then 11, 5 (the cell's corners
- * in order). */
+/* Dose at the steps u (0 to the axis's step number) within a cell, with its mark.
+ * Refusals in order: 1, 2, 3, 26, 4, 14 (each axis), on each axis 23 and then 11, 5 (the cell's
+ * corners in order). */
 lukhtari_marked lukhtari_dose_in_cell(lukhtari_shape shape, const int32_t *records,
                                       size_t records_len, lukhtari_index cell, lukhtari_index u);
 
-/* Slope along an axis at the steps u (0 to 256) within a cell.
- * Refusals in order: 1, 2, 3, 4, 12, 14 (each axis), on each axis 23 and then 11, 5 (the cell's
+/* Slope along an axis at the steps u (0 to the axis's step number) within a cell.
+ * Refusals in order: 1, 2, 3, 26, 4, 12, 14 (each axis), on each axis 23 and then 11, 5 (the cell's
  * corners in order). */
 lukhtari_whole lukhtari_slope_in_cell(lukhtari_shape shape, const int32_t *records,
                                       size_t records_len, lukhtari_index cell, lukhtari_index u,
                                       uint32_t axis);
 
 /* Curvature along an axis (0 for x, 1 for y, 2 for z) at a table position.
- * Refusals in order: 1, 2, 3, 4, 12, 21, on each axis 23, 22 and then 11, 5 (the cell's corners in
- * order). */
+ * Refusals in order: 1, 2, 3, 26, 4, 12, 21, on each axis 23, 22 and then 11, 5 (the cell's corners
+ * in order). */
 lukhtari_whole lukhtari_curvature(lukhtari_shape shape, const int32_t *records, size_t records_len,
                                   lukhtari_position position, uint32_t axis);
 
-/* Curvature along an axis at the steps u (0 to 256) within a cell.
- * Refusals in order: 1, 2, 3, 4, 12, 21, 14 (each axis), on each axis 23 and then 11, 5 (the cell's
- * corners in order). */
+/* Curvature along an axis at the steps u (0 to the axis's step number) within a cell.
+ * Refusals in order: 1, 2, 3, 26, 4, 12, 21, 14 (each axis), on each axis 23 and then 11, 5 (the
+ * cell's corners in order). */
 lukhtari_whole lukhtari_curvature_in_cell(lukhtari_shape shape, const int32_t *records,
                                           size_t records_len, lukhtari_index cell,
                                           lukhtari_index u, uint32_t axis);
 
-/* Dose at the step nearest to a position in cells, halves up. 23, 22 and 11 look at the step:
- * -0.001 is step 0, which is taken.
- * Refusals in order: 1, 2, 3, 4, on each axis 10, 23, 22 and then 11, 5 (the cell's corners in
+/* Dose at the step nearest to a position in cells, halves up: the float times the axis's step
+ * number, on an unused axis times 256. 23, 22 and 11 look at the step: -0.001 is step 0, which is
+ * taken.
+ * Refusals in order: 1, 2, 3, 26, 4, on each axis 10, 23, 22 and then 11, 5 (the cell's corners in
  * order). */
 lukhtari_real lukhtari_dose_float(lukhtari_shape shape, const int32_t *records, size_t records_len,
                                   lukhtari_float_position position);
 
 /* Slope along an axis at the step nearest to a position in cells, halves up.
- * Refusals in order: 1, 2, 3, 4, 12, on each axis 10, 23, 22 and then 11, 5 (the cell's corners in
- * order). */
+ * Refusals in order: 1, 2, 3, 26, 4, 12, on each axis 10, 23, 22 and then 11, 5 (the cell's corners
+ * in order). */
 lukhtari_real lukhtari_slope_float(lukhtari_shape shape, const int32_t *records,
                                    size_t records_len, lukhtari_float_position position,
                                    uint32_t axis);
@@ -435,19 +450,20 @@ lukhtari_table lukhtari_read(const uint8_t *bytes, size_t bytes_len, int32_t *sa
                              size_t samples_len);
 
 /* Writes the table file of a number of axes, node counts, an edition and samples:
- * 4 * (2 + axes + samples) bytes, 8 more in edition two.
- * Refusals in order: 1, 3, 4, 9, 5. */
-lukhtari_written lukhtari_write(uint32_t axes, lukhtari_index counts, bool second_edition,
-                                const int32_t *samples, size_t samples_len, uint8_t *bytes,
-                                size_t bytes_len);
+ * 4 * (2 + axes + samples) bytes, 8 more in edition two. The step numbers are tested and left out.
+ * Refusals in order: 1, 3, 26, 4, 9, 5. */
+lukhtari_written lukhtari_write(uint32_t axes, lukhtari_index counts, lukhtari_index steps,
+                                bool second_edition, const int32_t *samples, size_t samples_len,
+                                uint8_t *bytes, size_t bytes_len);
 
 /* Reads the text of a table of this shape and writes its samples.
- * Refusals in order: 1, 2, 3, 4 (the number of tokens), 9, then token by token 16, 17, 18, 5. */
+ * Refusals in order: 1, 2, 3, 26, 4 (the number of tokens), 9, then token by token 16, 17, 18,
+ * 5. */
 lukhtari_done lukhtari_import(lukhtari_shape shape, const uint8_t *text, size_t text_len,
                               int32_t *samples, size_t samples_len);
 
 /* Writes the doses at a list of table positions, three numbers each, one answer for each position.
- * Refusals in order, also for an empty list: 1, 2, 3, 20, 4, 9; then position by position what
+ * Refusals in order, also for an empty list: 1, 2, 3, 26, 20, 4, 9; then position by position what
  * lukhtari_dose refuses it for, 23, 22, 11 or 5, with the index of the position in the list as
  * place. */
 lukhtari_ramped lukhtari_ramp(lukhtari_shape shape, const int32_t *records, size_t records_len,

@@ -57,17 +57,24 @@ INLINE lukhtari_whole dose(unsigned m, unsigned n, bool even, lukhtari_shape s, 
             return refused(3, a);
         }
     }
+    for (unsigned a = 0; a < 3; a++) {
+        uint32_t steps = s.steps[a];
+        if (a < n ? steps < 16 || steps > 256 || (steps & (steps - 1)) != 0 : steps != 1) {
+            return refused(26, a);
+        }
+    }
     if (length != (size_t)s.counts[0] * s.counts[1] * s.counts[2] * entries) {
         return refused(4, 0);
     }
     for (unsigned a = 0; a < 3; a++) {
-        if (p.at[a] < 0 || p.at[a] > (int32_t)(256 * (s.counts[a] - 1))) {
+        if (p.at[a] < 0 || p.at[a] > (int32_t)(s.steps[a] * (s.counts[a] - 1))) {
             return refused(a >= n ? 23 : p.at[a] < 0 ? 22 : 11, a);
         }
     }
     for (unsigned a = 0; a < n; a++) {
-        uint32_t last = s.counts[a] - 2, c = (uint32_t)p.at[a] / 256, cell = c < last ? c : last;
-        int64_t u = p.at[a] - 256 * (int64_t)cell;
+        unsigned bits = (unsigned)__builtin_ctz(s.steps[a]);
+        uint32_t last = s.counts[a] - 2, c = (uint32_t)p.at[a] >> bits, cell = c < last ? c : last;
+        int64_t u = (int64_t)((uint32_t)p.at[a] - (cell << bits)) << (8 - bits);
         end_basis(m, 256 - u, u, 1, basis[a]);
         end_basis(m, u, 256 - u, -1, basis[a] + m);
         far[a] = stride;

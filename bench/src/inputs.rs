@@ -50,15 +50,10 @@ impl Want {
 
 pub const KINDS: [(u32, u32); 6] = [(3, 1), (3, 2), (3, 3), (5, 1), (5, 2), (5, 3)];
 
-// A shape of edition one with the same number of nodes on each used axis.
+// A shape of edition one with the same number of nodes on each used axis, of 256 steps each.
 pub fn cube(degree: u32, axes: u32, count: u32) -> Shape {
     let counts = [0, 1, 2].map(|axis| if axis < axes { count } else { 1 });
-    Shape {
-        axes,
-        degree,
-        counts,
-        second_edition: false,
-    }
+    Shape::new(axes, degree, counts)
 }
 
 // A smooth table with some noise.
@@ -82,7 +77,7 @@ pub fn estimable(shape: Shape) -> Vec<i32> {
 pub fn positions(shape: Shape, number: usize) -> Vec<[i32; 3]> {
     let mut random = Random::new(11);
     let mut step = |axis: usize| {
-        let last = 256 * (shape.counts[axis] as u64 - 1);
+        let last = shape.steps[axis] as u64 * (shape.counts[axis] as u64 - 1);
         random.below(last + 1) as i32
     };
     (0..number).map(|_| [0, 1, 2].map(&mut step)).collect()
@@ -95,8 +90,9 @@ pub fn cell_and_u(shape: Shape, position: [i32; 3]) -> ([u32; 3], [u32; 3]) {
     let mut u = [0; 3];
     for axis in 0..shape.axes as usize {
         let p = position[axis] as u32;
-        cell[axis] = (p / 256).min(shape.counts[axis] - 2);
-        u[axis] = p - 256 * cell[axis];
+        let steps = shape.steps[axis];
+        cell[axis] = (p / steps).min(shape.counts[axis] - 2);
+        u[axis] = p - steps * cell[axis];
     }
     (cell, u)
 }

@@ -23,18 +23,20 @@ mod powers;
 mod queries;
 mod ramps;
 mod report;
+mod steps;
 
 use std::env;
 
 // All parts, or those named by the arguments.
 fn main() {
-    let parts: [(&str, fn()); 10] = [
+    let parts: [(&str, fn()); 11] = [
         ("import", import::run),
         ("estimation", estimation::run),
         ("conversion", conversion::run),
         ("powers", powers::run),
         ("queries", queries::run),
         ("editions", editions::run),
+        ("steps", steps::run),
         ("ramps", ramps::run),
         ("floats", floats::run),
         ("c", c::run),

@@ -5,11 +5,11 @@ use crate::{ffi, Refusal, Shape};
 
 /// Writes a cell's coefficients, x index fastest, to the front of `out`.
 ///
-/// Refusals in order: 1, 2, 3, 4, 9, 14, 5.
+/// Refusals in order: 1, 2, 3, 26, 4, 9, 14, 5.
 ///
 /// ```
 /// use lukhtari::{coefficients, Refusal, Shape};
-/// let shape = Shape { axes: 1, degree: 3, counts: [2, 1, 1], second_edition: false };
+/// let shape = Shape::new(1, 3, [2, 1, 1]);
 /// let mut out = [0; 4];
 /// coefficients(shape, &[0, 200, 100, 200], [0, 0, 0], &mut out)?;
 /// assert_eq!(out, [0, 200, 400, 200]);

@@ -11,11 +11,11 @@ use crate::{ffi, Refusal, Shape};
 ///
 /// Samples lie within [`estimate_limit`](crate::limits::estimate_limit) of the number of axes.
 ///
-/// Refusals in order: 1, 2, 3, 4, 9, 19.
+/// Refusals in order: 1, 2, 3, 26, 4, 9, 19.
 ///
 /// ```
 /// use lukhtari::{estimate, Refusal, Shape};
-/// let shape = Shape { axes: 1, degree: 3, counts: [2, 1, 1], second_edition: false };
+/// let shape = Shape::new(1, 3, [2, 1, 1]);
 /// let mut records = [0; 4];
 /// estimate(shape, &[0, 100], &mut records)?;
 /// assert_eq!(records, [0, 200, 100, 200]);

@@ -6,7 +6,7 @@
 //! with any pointer, null included: the pointer is not used, and every call but `lukhtari_ramp` is
 //! refused.
 
-/// Number of axes, degree, node counts and edition of a table.
+/// Number of axes, degree, node counts, step numbers and edition of a table.
 #[repr(C)]
 #[derive(Clone, Copy, Debug, PartialEq, Eq)]
 pub struct Shape {
@@ -16,19 +16,21 @@ pub struct Shape {
     pub degree: u32,
     /// 2 to 64 on a used axis, 1 on an unused one
     pub counts: [u32; 3],
+    /// Steps of a cell: 16, 32, 64, 128 or 256 on a used axis, 1 on an unused one
+    pub steps: [u32; 3],
     /// Edition two, in which every stage rounds halves to the even number; else they go up
     pub second_edition: bool,
 }
 
-/// A cell's indices, the steps within a cell, or node counts.
+/// A cell's indices, the steps within a cell, node counts, or step numbers.
 #[repr(C)]
 #[derive(Clone, Copy, Debug, PartialEq, Eq)]
 pub struct Index {
-    /// x, y, z; 0 on unused axes, for node counts 1
+    /// x, y, z; 0 on unused axes, for node counts and step numbers 1
     pub at: [u32; 3],
 }
 
-/// A table position in steps, 256 a cell.
+/// A table position in steps, so many a cell as the axis has.
 #[repr(C)]
 #[derive(Clone, Copy, Debug, PartialEq, Eq)]
 pub struct Position {
@@ -96,7 +98,7 @@ pub struct Real {
     pub value: f32,
 }
 
-/// Number of axes, node counts and edition that were read, or a refusal.
+/// Number of axes, node counts, step numbers and edition of a file, or a refusal.
 #[repr(C)]
 #[derive(Clone, Copy, Debug, PartialEq, Eq)]
 pub struct Table {
@@ -108,6 +110,8 @@ pub struct Table {
     pub axes: u32,
     /// 1 on unused axes, and 0 where refused
     pub counts: [u32; 3],
+    /// 256, 1 on unused axes, and 0 where refused
+    pub steps: [u32; 3],
     /// Edition two, and false where refused
     pub second_edition: bool,
 }
@@ -332,6 +336,7 @@ extern "C" {
     pub fn lukhtari_write(
         axes: u32,
         counts: Index,
+        steps: Index,
         second_edition: bool,
         samples: *const i32,
         samples_len: usize,

@@ -9,12 +9,12 @@ use crate::{ffi, Refusal, Shape};
 /// them. A token is a number as in RFC 8259, section 6, in grams per kilogram; the sample is its
 /// exact value times 100.
 ///
-/// Refusals in order: 1, 2, 3, 4, 9, then token by token 16, 17, 18, 5. The place of 16, 17 and 18
-/// is the index of the token's first byte in the text, that of 5 the sample's index.
+/// Refusals in order: 1, 2, 3, 26, 4, 9, then token by token 16, 17, 18, 5. The place of 16, 17 and
+/// 18 is the index of the token's first byte in the text, that of 5 the sample's index.
 ///
 /// ```
 /// use lukhtari::{import, Refusal, Shape};
-/// let shape = Shape { axes: 1, degree: 3, counts: [3, 1, 1], second_edition: false };
+/// let shape = Shape::new(1, 3, [3, 1, 1]);
 /// let mut samples = [0; 3];
 /// import(shape, b"5e-1 0.5\n-327.68", &mut samples)?;
 /// assert_eq!(samples, [50, 50, -32768]);

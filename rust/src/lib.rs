@@ -9,9 +9,10 @@
 //! calls are made by the static library `liblukhtari.a`; the crate uses neither `std` nor other
 //! crates.
 //!
-//! Samples, records and coefficients stand in slices with x fastest. A position counts 256 steps
-//! for each cell. Arrays of three hold one number for each axis, x first, and 0 on unused axes
-//! (node counts hold 1 there).
+//! Samples, records and coefficients stand in slices with x fastest. A position counts so many steps
+//! for each cell as the shape says of the axis: 16, 32, 64, 128 or 256, its step number. Arrays of
+//! three hold one number for each axis, x first, and 0 on unused axes (node counts and step numbers
+//! hold 1 there).
 //!
 //! A table has one of two editions, a part of its shape: the stages of an answer round halves up in
 //! edition one and to the even number in edition two. Nothing else depends on it.

@@ -1,10 +1,13 @@
 //! Limits of tables and the largest sizes of buffers, as `lukhtari.h` has them.
 
 /// Number of the C interface; another number means other structs, calls or names.
-pub const INTERFACE: u32 = 8;
+pub const INTERFACE: u32 = 9;
 
-/// Steps of a cell along an axis.
-pub const STEPS: u32 = 256;
+/// Least step number of a used axis; 32, 64 and 128 are between it and the largest.
+pub const STEPS_MIN: u32 = 16;
+
+/// Largest step number of a used axis.
+pub const STEPS_MAX: u32 = 256;
 
 /// Least node count of a used axis.
 pub const COUNT_MIN: u32 = 2;
@@ -85,4 +88,4 @@ pub const STACK_FILE: usize = 1024;
 pub const STACK_IMPORT: usize = 1024;
 
 /// Most bytes of stack that a ramp uses.
-pub const STACK_RAMP: usize = 4096;
+pub const STACK_RAMP: usize = 9216;

@@ -9,19 +9,19 @@ use crate::{ffi, Refusal, Shape};
 /// The number at index i + 4j is 4 times the coefficient of x to the i and y to the j, where x and y
 /// run from 0 to 1 in the cell. Their polynomial, divided by 4, is the exact dose.
 ///
-/// Refusals in order: 1, 2, 3, 24, 4, 9, 14, 5.
+/// Refusals in order: 1, 2, 3, 26, 24, 4, 9, 14, 5.
 ///
 /// ```
 /// use lukhtari::{estimate, powers, Refusal, Shape};
 /// // The samples are 100xy.
-/// let shape = Shape { axes: 2, degree: 3, counts: [2, 2, 1], second_edition: false };
+/// let shape = Shape::new(2, 3, [2, 2, 1]);
 /// let mut records = [0; 16];
 /// estimate(shape, &[0, 0, 0, 100], &mut records)?;
 /// let mut out = [0; 16];
 /// powers(shape, &records, [0, 0, 0], &mut out)?;
 /// assert_eq!(out, [0, 0, 0, 0, 0, 400, 0, 0, 0, 0, 0, 0, 0, 0, 0, 0]);
 ///
-/// let line = Shape { axes: 1, degree: 3, counts: [2, 1, 1], second_edition: false };
+/// let line = Shape::new(1, 3, [2, 1, 1]);
 /// let refusal = powers(line, &records[..4], [0, 0, 0], &mut out).unwrap_err();
 /// assert_eq!(refusal, Refusal { number: 24, place: 0 });
 /// # Ok::<(), Refusal>(())

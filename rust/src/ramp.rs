@@ -10,13 +10,13 @@ use crate::{ffi, Refusal, Shape};
 /// fetches is 0 for an empty list, else one more than the number of neighbouring pairs of positions
 /// with different cells.
 ///
-/// Refusals in order, also for an empty list: 1, 2, 3, 20, 4, 9; then position by position 23, 22
-/// and 11 on each axis, 5, with the index of the position in the list as place.
+/// Refusals in order, also for an empty list: 1, 2, 3, 26, 20, 4, 9; then position by position 23,
+/// 22 and 11 on each axis, 5, with the index of the position in the list as place.
 /// [`dose`](crate::dose) gives their places within the query.
 ///
 /// ```
 /// use lukhtari::{estimate, ramp, Refusal, Shape};
-/// let shape = Shape { axes: 1, degree: 3, counts: [3, 1, 1], second_edition: false };
+/// let shape = Shape::new(1, 3, [3, 1, 1]);
 /// let mut records = [0; 6];
 /// estimate(shape, &[0, 100, 200], &mut records)?;
 /// let mut answers = [0; 3];

@@ -7,19 +7,25 @@ fn float_position([x, y, z]: [f32; 3]) -> ffi::FloatPosition {
     ffi::FloatPosition { x, y, z }
 }
 
-/// Dose at a position in cells, taken to the nearest of 256 steps a cell.
+/// Dose at the step nearest to a position in cells, halves up: the float times the axis's step number,
+/// on an unused axis times 256.
 ///
-/// 23, 22 and 11 look at the step: -0.001 is step 0 and is taken, -0.003 is refused 22.
+/// 23, 22 and 11 look at the step: of 256 steps -0.001 is step 0 and is taken, -0.003 is refused 22.
 ///
-/// Refusals in order: 1, 2, 3, 4, then 10, 23, 22 and 11 on each axis, 5.
+/// Refusals in order: 1, 2, 3, 26, 4, then 10, 23, 22 and 11 on each axis, 5.
 ///
 /// ```
 /// use lukhtari::{dose_float, estimate, Refusal, Shape};
-/// let shape = Shape { axes: 1, degree: 3, counts: [2, 1, 1], second_edition: false };
+/// let shape = Shape::new(1, 3, [2, 1, 1]);
 /// let mut records = [0; 4];
 /// estimate(shape, &[0, 100], &mut records)?;
 /// assert_eq!(dose_float(shape, &records, [0.25, 0.0, 0.0])?, 25.0);
 /// assert_eq!(dose_float(shape, &records, [-0.001, 0.0, 0.0])?, 0.0);
+///
+/// // Of 16 steps the nearest one to 0.03 is step 0, to 0.04 step 1, which is 6.25.
+/// let coarse = Shape { steps: [16, 1, 1], ..shape };
+/// assert_eq!(dose_float(coarse, &records, [0.03, 0.0, 0.0])?, 0.0);
+/// assert_eq!(dose_float(coarse, &records, [0.04, 0.0, 0.0])?, 6.0);
 ///
 /// let refusal = dose_float(shape, &records, [f32::NAN, 0.0, 0.0]).unwrap_err();
 /// assert_eq!(refusal, Refusal { number: 10, place: 0 });
@@ -34,13 +40,13 @@ pub fn dose_float(shape: Shape, records: &[i32], position: [f32; 3]) -> Result<f
     answer(result.number, result.place, result.value)
 }
 
-/// Slope along an axis at a position in cells, taken to the nearest of 256 steps a cell.
+/// Slope along an axis at the step nearest to a position in cells, halves up.
 ///
-/// Refusals in order: 1, 2, 3, 4, 12, then 10, 23, 22 and 11 on each axis, 5.
+/// Refusals in order: 1, 2, 3, 26, 4, 12, then 10, 23, 22 and 11 on each axis, 5.
 ///
 /// ```
 /// use lukhtari::{estimate, slope_float, Refusal, Shape};
-/// let shape = Shape { axes: 1, degree: 3, counts: [2, 1, 1], second_edition: false };
+/// let shape = Shape::new(1, 3, [2, 1, 1]);
 /// let mut records = [0; 4];
 /// estimate(shape, &[0, 100], &mut records)?;
 /// assert_eq!(slope_float(shape, &records, [0.5, 0.0, 0.0], 0)?, 100.0);

@@ -13,7 +13,7 @@ use core::fmt;
 /// ```
 #[derive(Clone, Copy, Debug, PartialEq, Eq)]
 pub struct Refusal {
-    /// 1 to 25, the constants below
+    /// 1 to 26, the constants below
     pub number: u32,
     /// An index counted from 0, and 0 where the reason names none; of 5, 11, 22 and 23 of a ramp the
     /// index of the position in the list
@@ -43,7 +43,8 @@ impl Refusal {
     pub const BUFFER_TOO_SHORT: u32 = 9;
     /// A float is NaN or infinite; the place is the axis.
     pub const NOT_FINITE: u32 = 10;
-    /// A position is beyond the last node, or an in-cell step above 256; the place is the axis.
+    /// A position is beyond the last node, or an in-cell step above the axis's step number; the place
+    /// is the axis.
     pub const POSITION_BEYOND: u32 = 11;
     /// The axis of a slope or curvature is not used.
     pub const SLOPE_AXIS: u32 = 12;
@@ -73,6 +74,8 @@ impl Refusal {
     pub const POWERS_SHAPE: u32 = 24;
     /// The third section of the file is not the one of edition two.
     pub const FILE_EDITION: u32 = 25;
+    /// A step number is not allowed; the place is the axis.
+    pub const STEP_NUMBER: u32 = 26;
 }
 
 impl fmt::Display for Refusal {
@@ -137,6 +140,7 @@ impl fmt::Display for Refusal {
                     "the file's third section is not the count 1 and the number 2"
                 )
             }
+            Self::STEP_NUMBER => write!(f, "the step number of axis {place} is not allowed"),
             _ => write!(f, "unknown reason"),
         }
     }

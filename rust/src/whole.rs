@@ -27,14 +27,20 @@ fn dose_of(result: ffi::Marked) -> Result<Dose, Refusal> {
 
 /// Dose at a table position, with its mark.
 ///
-/// Refusals in order: 1, 2, 3, 4, then 23, 22 and 11 on each axis, 5.
+/// Refusals in order: 1, 2, 3, 26, 4, then 23, 22 and 11 on each axis, 5.
 ///
 /// ```
 /// use lukhtari::{dose, estimate, Dose, Refusal, Shape};
-/// let shape = Shape { axes: 1, degree: 3, counts: [2, 1, 1], second_edition: false };
+/// let shape = Shape::new(1, 3, [2, 1, 1]);
 /// let mut records = [0; 4];
 /// estimate(shape, &[0, 100], &mut records)?;
 /// assert_eq!(dose(shape, &records, [64, 0, 0])?, Dose { value: 25, exact: true });
+///
+/// // The same point of an axis of 16 steps.
+/// let coarse = Shape { steps: [16, 1, 1], ..shape };
+/// assert_eq!(dose(coarse, &records, [4, 0, 0])?, Dose { value: 25, exact: true });
+/// let none = Shape { steps: [48, 1, 1], ..shape };
+/// assert_eq!(dose(none, &records, [4, 0, 0]), Err(Refusal { number: 26, place: 0 }));
 ///
 /// // 25.390625, rounded.
 /// assert_eq!(dose(shape, &records, [65, 0, 0])?, Dose { value: 25, exact: false });
@@ -55,11 +61,11 @@ pub fn dose(shape: Shape, records: &[i32], position: [i32; 3]) -> Result<Dose, R
 
 /// Slope along an axis at a table position, in units per cell.
 ///
-/// Refusals in order: 1, 2, 3, 4, 12, then 23, 22 and 11 on each axis, 5.
+/// Refusals in order: 1, 2, 3, 26, 4, 12, then 23, 22 and 11 on each axis, 5.
 ///
 /// ```
 /// use lukhtari::{estimate, slope, Refusal, Shape};
-/// let shape = Shape { axes: 1, degree: 3, counts: [2, 1, 1], second_edition: false };
+/// let shape = Shape::new(1, 3, [2, 1, 1]);
 /// let mut records = [0; 4];
 /// estimate(shape, &[0, 100], &mut records)?;
 /// assert_eq!(slope(shape, &records, [128, 0, 0], 0)?, 100);
@@ -80,11 +86,11 @@ pub fn slope(shape: Shape, records: &[i32], position: [i32; 3], axis: u32) -> Re
 /// Dose at the steps `u` within a cell, with its mark. Cells that share a point agree on the dose;
 /// they may differ in the mark.
 ///
-/// Refusals in order: 1, 2, 3, 4, 14, then 23 and 11 on each axis, 5.
+/// Refusals in order: 1, 2, 3, 26, 4, 14, then 23 and 11 on each axis, 5.
 ///
 /// ```
 /// use lukhtari::{dose_in_cell, estimate, Refusal, Shape};
-/// let shape = Shape { axes: 2, degree: 3, counts: [2, 4, 1], second_edition: false };
+/// let shape = Shape::new(2, 3, [2, 4, 1]);
 /// let mut records = [0; 32];
 /// estimate(shape, &[0, 0, 0, 0, 0, 0, 0, 1], &mut records)?;
 /// let lower = dose_in_cell(shape, &records, [0, 0, 0], [16, 256, 0])?;
@@ -109,11 +115,11 @@ pub fn dose_in_cell(
 
 /// Slope along an axis at the steps `u` within a cell, in units per cell.
 ///
-/// Refusals in order: 1, 2, 3, 4, 12, 14, then 23 and 11 on each axis, 5.
+/// Refusals in order: 1, 2, 3, 26, 4, 12, 14, then 23 and 11 on each axis, 5.
 ///
 /// ```
 /// use lukhtari::{estimate, slope_in_cell, Refusal, Shape};
-/// let shape = Shape { axes: 1, degree: 3, counts: [2, 1, 1], second_edition: false };
+/// let shape = Shape::new(1, 3, [2, 1, 1]);
 /// let mut records = [0; 4];
 /// estimate(shape, &[0, 100], &mut records)?;
 /// assert_eq!(slope_in_cell(shape, &records, [0, 0, 0], [0, 0, 0], 0)?, 100);
@@ -138,11 +144,11 @@ pub fn slope_in_cell(
 /// Curvature along an axis at a table position, in units per cell squared: the second derivative of
 /// a quintic table.
 ///
-/// Refusals in order: 1, 2, 3, 4, 12, 21, then 23, 22 and 11 on each axis, 5.
+/// Refusals in order: 1, 2, 3, 26, 4, 12, 21, then 23, 22 and 11 on each axis, 5.
 ///
 /// ```
 /// use lukhtari::{curvature, estimate, Refusal, Shape};
-/// let shape = Shape { axes: 1, degree: 5, counts: [3, 1, 1], second_edition: false };
+/// let shape = Shape::new(1, 5, [3, 1, 1]);
 /// let mut records = [0; 9];
 /// estimate(shape, &[0, 100, 400], &mut records)?;
 /// assert_eq!(curvature(shape, &records, [256, 0, 0], 0)?, 200);
@@ -168,11 +174,11 @@ pub fn curvature(
 
 /// Curvature along an axis at the steps `u` within a cell, in units per cell squared.
 ///
-/// Refusals in order: 1, 2, 3, 4, 12, 21, 14, then 23 and 11 on each axis, 5.
+/// Refusals in order: 1, 2, 3, 26, 4, 12, 21, 14, then 23 and 11 on each axis, 5.
 ///
 /// ```
 /// use lukhtari::{curvature_in_cell, estimate, Refusal, Shape};
-/// let shape = Shape { axes: 1, degree: 5, counts: [3, 1, 1], second_edition: false };
+/// let shape = Shape::new(1, 5, [3, 1, 1]);
 /// let mut records = [0; 9];
 /// estimate(shape, &[0, 100, 400], &mut records)?;
 /// assert_eq!(curvature_in_cell(shape, &records, [0, 0, 0], [256, 0, 0], 0)?, 200);

@@ -18,13 +18,14 @@ fn all_cells_that_contain_a_point_agree() {
     let mut random = Random::new(1);
     for (axes, degree) in KINDS {
         for _ in 0..40 {
-            let shape = random.shape(axes, degree, 4);
+            let shape = random.stepped(axes, degree, 4);
             let samples = random.estimable(shape);
             let table = Estimated::new(shape, &samples);
             for _ in 0..20 {
                 let point = shared_point(&mut random, shape);
                 let steps = Where::Position(point.map(|step| step as i32));
-                let floats = Where::Float(point.map(|step| step as f32 / 256.0));
+                let cells = |axis: usize| point[axis] as f32 / shape.steps[axis] as f32;
+                let floats = Where::Float([0, 1, 2].map(cells));
                 for want in wants(shape) {
                     let answer = table.ask(steps, want).expect("accepted query");
                     if want.order() < 2 {
@@ -55,7 +56,9 @@ fn assert_alike(random: &mut Random, tables: &[Estimated; 2], cell: [u32; 3], ti
     let shape = tables[0].shape;
     for _ in 0..times {
         let mut u = [0; 3];
-        u[..shape.axes as usize].fill_with(|| random.below(257) as u32);
+        for axis in 0..shape.axes as usize {
+            u[axis] = random.below(shape.steps[axis] as u64 + 1) as u32;
+        }
         for want in wants(shape) {
             let [one, two] = tables
                 .each_ref()
@@ -71,7 +74,7 @@ fn samples_outside_the_block_do_not_count() {
     let mut random = Random::new(2);
     for (axes, degree) in KINDS {
         for _ in 0..40 {
-            let shape = random.shape(axes, degree, 7);
+            let shape = random.stepped(axes, degree, 7);
             let samples = random.estimable(shape);
             let cell = random.pick(&cells(shape));
             let mut other = random.estimable(shape);
@@ -103,7 +106,7 @@ fn a_table_that_grows_keeps_its_answers() {
     let mut random = Random::new(5);
     for (axes, degree) in KINDS {
         for _ in 0..40 {
-            let small = random.shape(axes, degree, 6);
+            let small = random.stepped(axes, degree, 6);
             let mut large = small;
             for count in &mut large.counts[..axes as usize] {
                 *count += random.below(3) as u32;

@@ -13,6 +13,7 @@ fn worked_examples() {
     let call = Read { bytes, room: 2 };
     let table = run_read_table(&call).expect("permitted file");
     assert_eq!((table.axes, table.counts), (1, [2, 1, 1]));
+    assert_eq!(table.steps, [256, 1, 1]);
     assert_eq!(table.samples, [0, 100]);
     let mut cut = call.clone();
     cut.bytes.pop();
@@ -45,6 +46,9 @@ fn round_trips() {
             let room = table.samples.len();
             let again = run_read_table(&Read { bytes, room }).expect("permitted file");
             assert_eq!((again.axes, again.counts), (axes, table.counts));
+            // A file holds no step numbers.
+            let used = |axis: u32| if axis < axes { 256 } else { 1 };
+            assert_eq!(again.steps, [0, 1, 2].map(used));
             assert_eq!(again.second_edition, edition);
             assert_eq!(again.samples, table.samples);
         }
@@ -66,6 +70,7 @@ fn border_shapes() {
             let call = Write {
                 axes,
                 counts,
+                steps: shape.steps,
                 second_edition: shape.second_edition,
                 samples: random.samples(shape.nodes()),
                 room: shape.file_bytes(),
@@ -130,6 +135,7 @@ fn samples_at_and_beyond_the_limit() {
             let write = Write {
                 axes: 2,
                 counts: [2, 2, 1],
+                steps: [256, 16, 1],
                 second_edition: false,
                 samples,
                 room: 32,

@@ -135,10 +135,11 @@ fn wrong_tables_are_not_written() {
     for (right_axes, edition) in FILES {
         let right = table(&mut Random::new(8), right_axes, 2, edition);
         for (shape, number, place) in wrong_shapes(right_axes, 3) {
-            let (axes, counts) = (shape.axes, shape.counts);
+            let (axes, counts, steps) = (shape.axes, shape.counts, shape.steps);
             let call = Write {
                 axes,
                 counts,
+                steps,
                 ..right.clone()
             };
             // A file has no degree.
@@ -166,6 +167,10 @@ fn faults_in_order_of_writing() {
         for axis in 0..3 {
             let make = move |call: &mut Write| call.counts[axis] = 65;
             faults.push(fault(3, axis as u64, make));
+        }
+        for axis in 0..3 {
+            let make = move |call: &mut Write| call.steps[axis] = 0;
+            faults.push(fault(26, axis as u64, make));
         }
         faults.push(fault(4, 0, |call: &mut Write| call.samples.push(0)));
         faults.push(fault(9, 0, |call: &mut Write| call.room -= 1));
@@ -252,22 +257,25 @@ fn refused_results_are_empty() {
         };
         assert_eq!((done.number, done.place), (0, 0));
         assert_eq!((done.axes, done.counts), (1, [2, 1, 1]));
+        assert_eq!(done.steps, [256, 1, 1]);
         assert_eq!(done.second_edition, edition);
         assert_eq!(
             (refused.number, refused.axes, refused.counts),
             (9, 0, [0; 3])
         );
+        assert_eq!(refused.steps, [0; 3]);
         assert!(!refused.second_edition);
     }
     let counts = ffi::Index { at: [2, 1, 1] };
+    let steps = ffi::Index { at: [64, 1, 1] };
     let mut file = [0; 28];
     let (from, out) = (samples.as_ptr(), file.as_mut_ptr());
     for (length, edition) in [(20, false), (28, true)] {
         // SAFETY: pointers and lengths are those of the arrays.
         let (done, refused) = unsafe {
             (
-                ffi::lukhtari_write(1, counts, edition, from, 2, out, length),
-                ffi::lukhtari_write(1, counts, edition, from, 2, out, length - 1),
+                ffi::lukhtari_write(1, counts, steps, edition, from, 2, out, length),
+                ffi::lukhtari_write(1, counts, steps, edition, from, 2, out, length - 1),
             )
         };
         let written = (done.number, done.place, done.length);

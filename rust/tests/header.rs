@@ -16,7 +16,8 @@ macro_rules! add {
 #[rustfmt::skip]
 fn constants() -> BTreeMap<String, u64> {
     let mut all = BTreeMap::new();
-    add!(all, "LUKHTARI_", limits, INTERFACE, STEPS, COUNT_MIN, COUNT_MAX, NODES_MAX);
+    add!(all, "LUKHTARI_", limits, INTERFACE, STEPS_MIN, STEPS_MAX, COUNT_MIN, COUNT_MAX);
+    add!(all, "LUKHTARI_", limits, NODES_MAX);
     add!(all, "LUKHTARI_", limits, SAMPLE_LIMIT, COEFFICIENT_LIMIT, ANSWER_LIMIT);
     add!(all, "LUKHTARI_", limits, RECORD_ENTRIES_MAX, ENTRIES_MAX, COEFFICIENTS_MAX);
     add!(all, "LUKHTARI_", limits, FILE_BYTES_MAX, TOKEN_BYTES_MAX, RAMP_MAX);
@@ -28,7 +29,7 @@ fn constants() -> BTreeMap<String, u64> {
     add!(all, "LUKHTARI_REFUSED_", Refusal, BUFFER_TOO_SHORT, NOT_FINITE, SLOPE_AXIS);
     add!(all, "LUKHTARI_REFUSED_", Refusal, POSITION_BEYOND, POSITION_BELOW_ZERO);
     add!(all, "LUKHTARI_REFUSED_", Refusal, POSITION_UNUSED_AXIS, POWERS_SHAPE);
-    add!(all, "LUKHTARI_REFUSED_", Refusal, FILE_EDITION);
+    add!(all, "LUKHTARI_REFUSED_", Refusal, FILE_EDITION, STEP_NUMBER);
     add!(all, "LUKHTARI_REFUSED_", Refusal, NO_CORNER_RECORDS, CELL, COEFFICIENT_COUNT);
     add!(all, "LUKHTARI_REFUSED_", Refusal, TOKEN_TOO_LONG, TOKEN_GRAMMAR, TOKEN_NOT_WHOLE);
     add!(all, "LUKHTARI_REFUSED_", Refusal, BEYOND_ESTIMATE_LIMIT, RAMP_LENGTH, CURVATURE_DEGREE);
@@ -100,14 +101,14 @@ fn constants_have_the_same_values() {
 }
 
 #[test]
-fn refusals_are_numbered_from_1_to_25() {
+fn refusals_are_numbered_from_1_to_26() {
     let refused = |(name, number): (String, u64)| {
         let refused = name.starts_with("LUKHTARI_REFUSED_");
         refused.then_some(number)
     };
     let mut all: Vec<u64> = constants().into_iter().filter_map(refused).collect();
     all.sort();
-    assert_eq!(all, (1..=25).collect::<Vec<u64>>());
+    assert_eq!(all, (1..=26).collect::<Vec<u64>>());
 }
 
 #[test]
@@ -133,12 +134,7 @@ int main(void) {
     for (axes, degree) in [(1, 3), (1, 5), (2, 3), (2, 5), (3, 3), (3, 5)] {
         for count in limits::COUNT_MIN..=limits::COUNT_MAX {
             let counts = [0, 1, 2].map(|axis| if axis < axes { count } else { 1 });
-            let shape = Shape {
-                axes,
-                degree,
-                counts,
-                second_edition: false,
-            };
+            let shape = Shape::new(axes, degree, counts);
             let second = Shape {
                 second_edition: true,
                 ..shape
@@ -172,7 +168,7 @@ const USE: &str = "#include \"lukhtari.h\"
 int32_t records[LUKHTARI_ENTRIES(2, 5, LUKHTARI_NODES(4, 3, 1))];
 int32_t most = LUKHTARI_ESTIMATE_LIMIT(2);
 uint8_t file[LUKHTARI_FILE_BYTES(2, 12, true)];
-lukhtari_shape shape = {2, 5, {4, 3, 1}, true};
+lukhtari_shape shape = {2, 5, {4, 3, 1}, {LUKHTARI_STEPS_MAX, LUKHTARI_STEPS_MIN, 1}, true};
 int refused(lukhtari_done done);
 int refused(lukhtari_done done) {
     switch (done.number) {

@@ -39,6 +39,7 @@ fn layouts() -> Layout {
         axes,
         degree,
         counts,
+        steps,
         second_edition
     );
     layout!(all, Index, "lukhtari_index", at);
@@ -56,6 +57,7 @@ fn layouts() -> Layout {
         place,
         axes,
         counts,
+        steps,
         second_edition
     );
     layout!(all, Written, "lukhtari_written", number, place, length);

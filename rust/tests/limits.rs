@@ -3,7 +3,7 @@
 mod common;
 mod model;
 
-use common::{cube, in_edition, plain_shape, KINDS};
+use common::{cube, in_edition, in_steps, plain_shape, KINDS};
 use lukhtari::limits::*;
 use lukhtari::*;
 
@@ -17,7 +17,14 @@ fn samples() {
     for sign in [1, -1] {
         let refused = |sample| {
             let samples = [0, sign * sample];
-            number(write(1, [2, 1, 1], false, &samples, &mut [0; 20]))
+            number(write(
+                1,
+                [2, 1, 1],
+                [16, 1, 1],
+                false,
+                &samples,
+                &mut [0; 20],
+            ))
         };
         assert_eq!(refused(SAMPLE_LIMIT), 0);
         assert_eq!(refused(SAMPLE_LIMIT + 1), Refusal::BEYOND_LIMIT);
@@ -87,16 +94,22 @@ fn largest_table() {
 
 #[test]
 fn steps() {
-    let shape = cube(1, 3, 3);
     let records = [0; 6];
-    let last = 2 * STEPS as i32;
-    assert_eq!(number(dose(shape, &records, [last, 0, 0])), 0);
-    assert_eq!(number(dose(shape, &records, [last + 1, 0, 0])), 11);
-    let within = |u| number(dose_in_cell(shape, &records, [0; 3], [u, 0, 0]));
-    assert_eq!(
-        [STEPS, STEPS + 1].map(within),
-        [0, Refusal::POSITION_BEYOND]
-    );
+    let of = |steps| in_steps(cube(1, 3, 3), [steps; 3]);
+    for steps in [STEPS_MIN, STEPS_MAX] {
+        let (shape, last) = (of(steps), 2 * steps as i32);
+        assert_eq!(number(dose(shape, &records, [last, 0, 0])), 0);
+        assert_eq!(number(dose(shape, &records, [last + 1, 0, 0])), 11);
+        let within = |u| number(dose_in_cell(shape, &records, [0; 3], [u, 0, 0]));
+        assert_eq!(
+            [steps, steps + 1].map(within),
+            [0, Refusal::POSITION_BEYOND]
+        );
+    }
+    for steps in [STEPS_MIN / 2, 2 * STEPS_MAX] {
+        let refused = number(dose(of(steps), &records, [0; 3]));
+        assert_eq!(refused, Refusal::STEP_NUMBER);
+    }
 }
 
 #[test]

@@ -50,7 +50,7 @@ static void print(lukhtari_marked dose) {
            (int)dose.value, dose.exact);
 }
 int main(void) {
-    lukhtari_shape shape = {2, 3, {2, 4, 1}, false};
+    lukhtari_shape shape = {2, 3, {2, 4, 1}, {256, 256, 1}, false};
     int32_t samples[8] = {0, 0, 0, 0, 0, 0, 0, 1};
     int32_t records[LUKHTARI_ENTRIES(2, 3, 8)];
     lukhtari_index lower = {{0, 0, 0}}, top = {{16, 256, 0}};

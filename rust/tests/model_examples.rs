@@ -1,6 +1,7 @@
 //! The reference model on all worked examples and traps of document 01, as request U2 of document
 //! 02 works them out anew, on the texts of request U1, on ramps of request U5, on curvatures of
-//! request U6, on the editions of request U9 and on the marks of request U10.
+//! request U6, on the editions of request U9, on the marks of request U10 and on the step numbers of
+//! request U11.
 
 mod model;
 
@@ -12,7 +13,7 @@ use model::int::Int;
 use model::program::output;
 use model::query::{locate, marked_dose, query, query_float, Where};
 use model::ramp::ramp;
-use model::stages::{axis_weights, curvature_weights, exact, slope_weights};
+use model::stages::{axis_weights, curvature_weights, exact, slope_weights, Step};
 use model::stages::{stages, stages_in_order, Point};
 use model::text::import;
 use model::Want::{self, Curvature, Dose, Slope};
@@ -127,7 +128,7 @@ fn sample_limits() {
     assert_eq!(estimate(&shape, &[-16385, 32769], 4), refused(19, 0));
     assert_eq!(estimate(&shape, &[0, 40000], 4), refused(19, 1));
     // Files keep theirs.
-    let file = |samples| write(1, [2, 1, 1], false, samples, 20);
+    let file = |samples| write(1, [2, 1, 1], [256, 1, 1], false, samples, 20);
     let bytes = file(&[32768, -32768]).expect("a file");
     assert_eq!(
         read(&bytes, 2).map(|table| table.samples),
@@ -140,15 +141,15 @@ fn sample_limits() {
 
 #[test]
 fn float_steps() {
-    let step = |float| float_step(float).expect("finite");
+    let step = |float| float_step(float, 256).expect("finite");
     assert_eq!(step(0.25), Int::from(64));
     assert_eq!(step(f32::from_bits(0x3B00_0000)), Int::from(1));
     assert_eq!(step(f32::from_bits(0x3AFF_FFFF)), Int::ZERO);
     assert_eq!(step(-0.0), Int::ZERO);
     assert_eq!(step(-1.0 / 512.0), Int::ZERO);
     assert_eq!(step(-1.5 / 512.0), Int::from(-1));
-    assert_eq!(float_step(f32::NAN), None);
-    assert_eq!(float_step(f32::NEG_INFINITY), None);
+    assert_eq!(float_step(f32::NAN, 256), None);
+    assert_eq!(float_step(f32::NEG_INFINITY, 256), None);
 }
 
 #[test]
@@ -198,7 +199,7 @@ fn file_of_0_100() {
     let table = read(&FILE, 2).expect("accepted file");
     assert_eq!((table.axes, table.counts), (1, [2, 1, 1]));
     assert_eq!(table.samples, [0, 100]);
-    let bytes = write(1, [2, 1, 1], false, &[0, 100], 20);
+    let bytes = write(1, [2, 1, 1], [256, 1, 1], false, &[0, 100], 20);
     assert_eq!(bytes, Ok(FILE.to_vec()));
     assert_eq!(output(&FILE), "0 0 0 50 50\n");
 }
@@ -219,10 +220,13 @@ fn damaged_files() {
 #[test]
 fn files_of_edition_two() {
     // The samples 0, 1 with a third section: half way is 1/2.
-    let first = write(1, [2, 1, 1], false, &[0, 1], 20).expect("a file");
-    let second = write(1, [2, 1, 1], true, &[0, 1], 28).expect("a file");
+    let first = write(1, [2, 1, 1], [256, 1, 1], false, &[0, 1], 20).expect("a file");
+    let second = write(1, [2, 1, 1], [256, 1, 1], true, &[0, 1], 28).expect("a file");
     assert_eq!(second, [&first[..], &[1, 0, 0, 0, 2, 0, 0, 0]].concat());
-    assert_eq!(write(1, [2, 1, 1], true, &[0, 1], 27), refused(9, 0));
+    assert_eq!(
+        write(1, [2, 1, 1], [256, 1, 1], true, &[0, 1], 27),
+        refused(9, 0)
+    );
     let edition = |bytes: &[u8]| read(bytes, 2).map(|table| table.second_edition);
     assert_eq!([edition(&first), edition(&second)], [Ok(false), Ok(true)]);
     assert_eq!(output(&first), "0 0 0 1 1\n");
@@ -291,7 +295,37 @@ fn marks() {
 fn trap_adding_half_to_the_float() {
     let float = f32::from_bits(0x3AFF_FFFF);
     assert_eq!((float * 256.0 + 0.5).floor(), 1.0);
-    assert_eq!(float_step(float), Some(Int::ZERO));
+    assert_eq!(float_step(float, 256), Some(Int::ZERO));
+}
+
+#[test]
+fn step_numbers() {
+    // The same points of one table: a quarter of the cell, 5/16 of it, and the last node.
+    let records = records(&line(3), &[0, 100]);
+    for n in [16, 32, 64, 128, 256] {
+        let shape = line(3).in_steps([n, 1, 1]);
+        let at = |p: u32| marked_dose(&shape, &records, Where::Position([p as i32, 0, 0]));
+        assert_eq!(at(n / 4), Ok((25, true)));
+        assert_eq!(at(5 * n / 16), Ok((31, false)));
+        assert_eq!(at(n), Ok((100, true)));
+        assert_eq!(at(n + 1), refused(11, 0));
+        let within = |u| marked_dose(&shape, &records, Where::Cell([0; 3], [u, 0, 0]));
+        assert_eq!(within(n), Ok((100, true)));
+        assert_eq!(within(n + 1), refused(11, 0));
+        // A half goes up, in steps of the axis; on an unused axis they are of 256.
+        let half = 0.5 / n as f32;
+        let step = |float| float_step(float, n as i64).expect("finite");
+        assert_eq!([step(half.next_down()), step(half)], [0, 1].map(Int::from));
+        let at = |y| locate(&shape, Where::Float([half, y, 0.0]));
+        assert_eq!(at(1.0 / 513.0), Ok(([0; 3], [1, 0, 0])));
+        assert_eq!(at(1.0 / 512.0), refused(23, 1));
+    }
+    for (steps, place) in [([17, 1, 1], 0), ([256, 0, 1], 1), ([256, 1, 256], 2)] {
+        let shape = line(3).in_steps(steps);
+        assert_eq!(estimate(&shape, &[], 0), refused(26, place));
+        let file = write(1, [2, 1, 1], steps, false, &[], 0);
+        assert_eq!(file, refused(26, place));
+    }
 }
 
 #[test]
@@ -508,12 +542,15 @@ fn weights_are_derivatives_of_each_other() {
         [0, 0, 1, 0, 0, 0],
         [3, -5, 8, 13, -21, 34],
     ] {
-        for u in 2..=254 {
-            let slope = |u| derived(slope_weights(5, u), &numbers);
+        for (n, u) in [16, 256]
+            .iter()
+            .flat_map(|&n| (2..=n as u32 - 2).map(move |u| (n, u)))
+        {
+            let slope = |u| derived(slope_weights(5, Step::of(n, u)), &numbers);
             let eight = Int::from(8);
             let steps = slope(u - 2) - eight * slope(u - 1) + eight * slope(u + 1) - slope(u + 2);
-            let curvature = derived(curvature_weights(5, u), &numbers);
-            assert_eq!(steps, Int::from(12) * curvature, "{numbers:?} {u}");
+            let curvature = derived(curvature_weights(5, Step::of(n, u)), &numbers);
+            assert_eq!(steps, Int::from(12) * curvature, "{numbers:?} {u} of {n}");
         }
     }
 }

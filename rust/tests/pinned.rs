@@ -9,7 +9,7 @@ mod queries;
 
 use common::*;
 use files::{words, EXAMPLE, SECTION};
-use lukhtari::{dose_float, read};
+use lukhtari::{dose_float, read, Shape};
 use model::query::Where::{Cell, Position};
 use model::Rational;
 use model::Want::{self, Curvature, Dose, Slope};
@@ -287,6 +287,52 @@ fn halves_to_even_in_every_stage() {
             check(shape, &records, Position(at), Dose, Ok(answer));
         }
     }
+}
+
+#[test]
+fn step_numbers_are_tested_after_counts_and_before_lengths() {
+    let with = |counts: [u32; 3], steps| Shape {
+        steps,
+        ..shape(2, 3, counts)
+    };
+    let plane = [2, 2, 1];
+    for (wrong, number, place) in [
+        (with([2, 65, 1], [16, 8, 1]), 3, 1),
+        (with(plane, [16, 8, 1]), 26, 1),
+        (with(plane, [16, 512, 0]), 26, 1),
+        (with(plane, [256, 128, 256]), 26, 2),
+        (with(plane, [1, 1, 1]), 26, 0),
+        (with(plane, [16, 128, 1]), 4, 0),
+    ] {
+        assert_eq!(with_nothing_lent(wrong), [refused(number, place); 5]);
+    }
+}
+
+#[test]
+fn points_are_counted_by_the_steps_of_their_axis() {
+    // One axis of 16 steps: its middle, its last node, the step beyond, by position and by cell.
+    for degree in [3, 5] {
+        let line = in_steps(cube(1, degree, 2), [16; 3]);
+        let records = estimated(line, &[0, 100], line.entries()).expect("samples");
+        for (at, printed) in [
+            (Position([8, 0, 0]), Ok(50)),
+            (Position([16, 0, 0]), Ok(100)),
+            (Position([17, 0, 0]), refused(11, 0)),
+            (Cell(ORIGIN, [16, 0, 0]), Ok(100)),
+            (Cell(ORIGIN, [17, 0, 0]), refused(11, 0)),
+        ] {
+            check(line, &records, at, Dose, printed);
+        }
+        // 1/64 is a quarter of a step; on an unused axis it is step 4 of 256.
+        let float = |at| plain(dose_float(line, &records, at));
+        assert_eq!(float([0.5, 0.0, 0.0]), Ok(50.0));
+        assert_eq!(float([1.0 / 64.0, 0.0, 0.0]), Ok(0.0));
+        assert_eq!(float([1.0 / 64.0, 0.0, 1.0 / 64.0]), refused(23, 2));
+    }
+    // Axes of 16 and 32 steps.
+    let plane = in_steps(cube(2, 3, 2), [16, 32, 1]);
+    let records = estimated(plane, &[0, 100, 0, 300], 16).expect("samples");
+    check(plane, &records, Position([8, 16, 0]), Dose, Ok(100));
 }
 
 #[test]

@@ -365,6 +365,10 @@ fn faults_in_order() {
             let make = move |call: &mut Call| call.shape.counts[axis] = 65;
             faults.push(fault(3, axis as u64, make));
         }
+        for axis in 0..3 {
+            let make = move |call: &mut Call| call.shape.steps[axis] = 0;
+            faults.push(fault(26, axis as u64, make));
+        }
         // With the records that the other table has: 24 is its only fault.
         faults.push(fault(24, 0, move |call: &mut Call| {
             call.shape = other;

@@ -50,7 +50,7 @@ fn run_table(random: &mut Random, seed: u64, (degree, axes, kind): (u32, u32, Ki
         2 => random.pick(&[2, 3, 5, 9]),
         _ => random.pick(&[2, 3, 3, 4]),
     };
-    let shape = random.shape(axes, degree, most);
+    let shape = random.stepped(axes, degree, most);
     let estimates = estimated(random, seed, shape);
     let from_samples = estimates.is_ok() && !random.chance(3);
     let records = match estimates {
@@ -115,7 +115,8 @@ fn random_point(random: &mut Random, shape: Shape, kind: Kind) -> Where {
     let plain = plain_shape(shape);
     let mut step = |axis| {
         let last = last_step(&plain, axis);
-        let node = 256 * random.range(0, last / 256);
+        let steps = plain.steps_on(axis);
+        let node = steps * random.range(0, last / steps);
         let inside = random.range(0, last);
         random.pick(&[node, last, inside, inside])
     };
@@ -128,15 +129,21 @@ fn random_point(random: &mut Random, shape: Shape, kind: Kind) -> Where {
             for axis in 0..shape.axes as usize {
                 let last = shape.counts[axis] as i64 - 2;
                 cell[axis] = random.range(0, last) as u32;
-                let inside = random.below(257) as u32;
-                u[axis] = random.pick(&[0, 256, inside, inside]);
+                let steps = shape.steps[axis];
+                let inside = random.below(steps as u64 + 1) as u32;
+                u[axis] = random.pick(&[0, steps, inside, inside]);
             }
             Where::Cell(cell, u)
         }
         // A float within a half step of the step; the sum is exact up to the last step of 64 nodes.
-        _ => Where::Float(steps.map(|step| {
+        _ => Where::Float([0, 1, 2].map(|axis| {
             let part = random.range(-511, 511) as f32 / 1024.0;
-            (step as f32 + part) / 256.0
+            let number = if axis < shape.axes as usize {
+                shape.steps[axis]
+            } else {
+                256
+            };
+            (steps[axis] as f32 + part) / number as f32
         })),
     }
 }
@@ -269,13 +276,14 @@ fn along_path(random: &mut Random, query: &Query, seed: u64) {
 fn spoil(random: &mut Random, call: &mut Ramp) {
     for _ in 0..random.range(1, 3) {
         let any = random.next() as i32;
-        match random.below(7) {
+        match random.below(8) {
             0 => call.shape.axes = random.below(5) as u32,
             1 => call.shape.degree = random.below(8) as u32,
             2 => call.shape.counts[random.below(3) as usize] = random.below(67) as u32,
-            3 => call.positions.push(0),
-            4 => call.records.push(0),
-            5 => call.room = call.room.saturating_sub(3),
+            3 => call.shape.steps[random.below(3) as usize] = random.below(258) as u32,
+            4 => call.positions.push(0),
+            5 => call.records.push(0),
+            6 => call.room = call.room.saturating_sub(3),
             _ if random.chance(2) => {
                 let index = random.below(call.records.len() as u64) as usize;
                 call.records[index] = any;

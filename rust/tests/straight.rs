@@ -56,9 +56,9 @@ fn expression(numbers: &Numbers, [x, y, z]: [Rational; 3], want: Want) -> Ration
     }
 }
 
-// A point in cells.
-fn in_cells(point: [u32; 3]) -> [Rational; 3] {
-    point.map(|step| Rational::ratio(step as i64, 256))
+// A point in cells, of so many steps each.
+fn in_cells(steps: [u32; 3], point: [u32; 3]) -> [Rational; 3] {
+    [0, 1, 2].map(|axis| Rational::ratio(point[axis] as i64, steps[axis] as i64))
 }
 
 // Random numbers, multiples of a step, whose sum estimation takes at every node.
@@ -172,14 +172,14 @@ fn the_exact_interpolant_is_the_expression() {
     for (axes, degree) in KINDS {
         for _ in 0..30 {
             let straight = Straight::random(&mut random, axes, degree);
-            let shape = straight.table.shape;
+            let shape = random.any_steps(straight.table.shape);
             let plain = plain_shape(shape);
             let records = model::estimate::estimate(&plain, &straight.samples, plain.entries());
             let records = records.expect("accepted table");
             for _ in 0..6 {
                 let at = shared_point(&mut random, shape);
                 for want in wants(shape) {
-                    let expected = expression(&straight.numbers, in_cells(at), want);
+                    let expected = expression(&straight.numbers, in_cells(shape.steps, at), want);
                     for (cell, u) in cells_at(shape, at) {
                         let value = exact(&plain, &records, &Point { cell, u, want });
                         assert_eq!(value, expected, "{shape:?} {at:?} {want:?}");
@@ -212,15 +212,16 @@ fn a_slope_is_the_difference_over_a_cell() {
     for _ in 0..500 {
         let numbers: Numbers = [0; 8].map(|_: i64| random.range(-4096, 4096));
         let at = [0; 3].map(|_: u32| random.below(1024) as u32);
-        let here = expression(&numbers, in_cells(at), Dose);
+        let steps = [256; 3];
+        let here = expression(&numbers, in_cells(steps, at), Dose);
         let parts = at.map(|step| step as i64);
         assert_eq!(here, Rational::ratio(sum(&numbers, parts, 256, Dose), CUBE));
         for axis in 0..3 {
             let mut next = at;
             next[axis] += 256;
             let want = Slope(axis as u32);
-            let slope = expression(&numbers, in_cells(next), Dose) - here;
-            assert_eq!(expression(&numbers, in_cells(at), want), slope);
+            let slope = expression(&numbers, in_cells(steps, next), Dose) - here;
+            assert_eq!(expression(&numbers, in_cells(steps, at), want), slope);
             let along = sum(&numbers, parts, 256, want);
             assert_eq!(slope, Rational::ratio(along, CUBE));
             assert_eq!(sum(&numbers, parts, 256, Curvature(axis as u32)), 0);
@@ -233,12 +234,14 @@ fn every_answer_is_near_the_expression() {
     let mut random = Random::new(4);
     for (axes, degree) in KINDS {
         for _ in 0..60 {
-            let straight = Straight::random(&mut random, axes, degree);
-            let shape = straight.table.shape;
+            let mut straight = Straight::random(&mut random, axes, degree);
+            // Records do not depend on step numbers.
+            let shape = random.any_steps(straight.table.shape);
+            straight.table.shape = shape;
             for _ in 0..10 {
                 let at = shared_point(&mut random, shape);
                 for want in wants(shape) {
-                    let expected = expression(&straight.numbers, in_cells(at), want);
+                    let expected = expression(&straight.numbers, in_cells(shape.steps, at), want);
                     for place in places(shape, at, want) {
                         let answer = straight.table.ask(place, want).expect("accepted query");
                         let distance = (Rational::whole(answer as i64) - expected).abs();
@@ -261,7 +264,8 @@ fn places(shape: Shape, at: [u32; 3], want: Want) -> Vec<Where> {
     let cells = cells_at(shape, at);
     all.extend(cells.into_iter().map(|(cell, u)| Where::Cell(cell, u)));
     if want.order() < 2 {
-        all.push(Where::Float(at.map(|step| step as f32 / 256.0)));
+        let cells = |axis: usize| at[axis] as f32 / shape.steps[axis] as f32;
+        all.push(Where::Float([0, 1, 2].map(cells)));
     }
     all
 }

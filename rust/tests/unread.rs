@@ -9,7 +9,7 @@
 mod common;
 mod model;
 
-use common::{cube, editions, KINDS};
+use common::{cube, editions, in_steps, KINDS};
 use lukhtari::ffi::*;
 use std::ptr::{null, null_mut, NonNull};
 
@@ -28,9 +28,10 @@ fn estimate(shape: Shape, samples: usize, room: usize) -> u32 {
 
 fn write(shape: Shape, samples: usize, room: usize) -> u32 {
     let (axes, edition) = (shape.axes, shape.second_edition);
-    let counts = Index { at: shape.counts };
+    let (counts, steps) = (Index { at: shape.counts }, Index { at: shape.steps });
+    let (from, to) = (nowhere(), nowhere());
     // SAFETY: nothing is read or written.
-    unsafe { lukhtari_write(axes, counts, edition, nowhere(), samples, nowhere(), room) }.number
+    unsafe { lukhtari_write(axes, counts, steps, edition, from, samples, to, room) }.number
 }
 
 fn coefficients(shape: Shape, records: usize, cell: u32, room: usize) -> u32 {
@@ -70,6 +71,7 @@ fn importing() {
             assert_eq!(import_nowhere(Shape { axes: 0, ..shape }, LONG, room), 1);
             assert_eq!(import_nowhere(Shape { degree: 4, ..shape }, LONG, room), 2);
             assert_eq!(import_nowhere(cube(axes, degree, 65), LONG, room), 3);
+            assert_eq!(import_nowhere(in_steps(shape, [0; 3]), LONG, room), 26);
             assert_eq!(import_nowhere(shape, 0, room), 4);
         }
         let mut tokens = vec!["1"; shape.nodes()];
@@ -133,6 +135,7 @@ fn ramps() {
             assert_eq!(number(Shape { axes: 0, ..shape }), 1);
             assert_eq!(number(Shape { degree: 4, ..shape }), 2);
             assert_eq!(number(cube(axes, degree, 65)), 3);
+            assert_eq!(number(in_steps(shape, [0; 3])), 26);
         }
         for numbers in [LONG, 1, 2, 4, 767, 769, 771, 3 * 65_536, usize::MAX] {
             for (records, room) in [(LONG, LONG), (entries, 256), (0, 0)] {
@@ -171,6 +174,7 @@ fn estimation() {
         assert_eq!(estimate(Shape { axes: 0, ..shape }, LONG, LONG), 1);
         assert_eq!(estimate(Shape { degree: 4, ..shape }, LONG, LONG), 2);
         assert_eq!(estimate(cube(axes, degree, 65), LONG, LONG), 3);
+        assert_eq!(estimate(in_steps(shape, [0; 3]), LONG, LONG), 26);
     }
 }
 
@@ -190,6 +194,7 @@ fn writing() {
             assert_eq!(write(Shape { axes: 4, ..shape }, LONG, LONG), 1);
             let counts = [1; 3];
             assert_eq!(write(Shape { counts, ..shape }, LONG, LONG), 3);
+            assert_eq!(write(in_steps(shape, [0; 3]), LONG, LONG), 26);
         }
     }
 }
@@ -204,6 +209,7 @@ fn conversion() {
             assert_eq!(coefficients(shape, LONG, 0, room), 4);
             assert_eq!(corners(axes, degree, LONG, room), 15);
         }
+        assert_eq!(coefficients(in_steps(shape, [0; 3]), LONG, 0, count), 26);
         assert_eq!(coefficients(shape, entries, 0, count - 1), 9);
         assert_eq!(coefficients(shape, entries, 63, count), 14);
         assert_eq!(corners(axes, degree, count, count - 1), 9);
@@ -219,6 +225,8 @@ fn power_coefficients() {
             assert_eq!(powers(Shape { axes: 0, ..shape }, records, cell, room), 1);
             assert_eq!(powers(Shape { degree: 4, ..shape }, records, cell, room), 2);
             assert_eq!(powers(cube(axes, degree, 65), records, cell, room), 3);
+            let none = in_steps(shape, [0; 3]);
+            assert_eq!(powers(none, records, cell, room), 26);
             if (axes, degree) != (2, 3) {
                 assert_eq!(powers(shape, records, cell, room), 24);
             }
@@ -270,6 +278,7 @@ fn doses_slopes_and_curvatures() {
         let shape = cube(axes, degree, 64);
         let entries = shape.entries();
         assert_eq!(queries(shape, LONG, 0, 0), [4; 8]);
+        assert_eq!(queries(in_steps(shape, [0; 3]), LONG, -1, axes), [26; 8]);
         assert_eq!(queries(shape, entries, -1, axes)[3..], [12; 5]);
         // Below 0, which within a cell is a step above 256; and beyond the last node.
         let cubic = degree == 3;
@@ -401,16 +410,16 @@ fn null_with_length_0_for_cells() {
 
 #[test]
 fn null_with_length_0_for_files() {
-    let counts = Index { at: [2, 1, 1] };
+    let (counts, steps) = (Index { at: [2, 1, 1] }, Index { at: [32, 1, 1] });
     let (mut samples, mut bytes) = ([0, 100], [0; 20]);
     let (s, b) = (samples.as_mut_ptr(), bytes.as_mut_ptr());
     // SAFETY: the slices are lent; one of length 0 may be NULL.
     let files = unsafe {
         [
-            lukhtari_write(1, counts, false, null(), 0, null_mut(), 0).number,
-            lukhtari_write(1, counts, false, null(), 0, b, 20).number,
-            lukhtari_write(1, counts, false, s, 2, null_mut(), 0).number,
-            lukhtari_write(1, counts, false, s, 2, b, 20).number,
+            lukhtari_write(1, counts, steps, false, null(), 0, null_mut(), 0).number,
+            lukhtari_write(1, counts, steps, false, null(), 0, b, 20).number,
+            lukhtari_write(1, counts, steps, false, s, 2, null_mut(), 0).number,
+            lukhtari_write(1, counts, steps, false, s, 2, b, 20).number,
             lukhtari_read(null(), 0, null_mut(), 0).number,
             lukhtari_read(null(), 0, s, 2).number,
             lukhtari_read(b, 20, null_mut(), 0).number,

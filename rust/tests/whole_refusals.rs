@@ -220,7 +220,7 @@ fn every_combination_of_steps() {
         for want in [Dose, wants(shape).pop().unwrap()] {
             let at = Where::Cell(cell, [0; 3]);
             let mut query = Query::new(shape, vec![7; shape.entries()], at, want);
-            for (u, expected) in combinations(axes, &step_kinds()) {
+            for (u, expected) in combinations(axes, &step_kinds(256)) {
                 query.at = Where::Cell(cell, u);
                 assert_eq!(run_checked(&query), expected, "{u:?}");
                 // A cell index on an unused axis stays 14.

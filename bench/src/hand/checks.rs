@@ -10,7 +10,7 @@ pub fn refuse<T>(number: u32, place: usize) -> Answer<T> {
     Err(Refusal { number, place })
 }
 
-// 1, 2, 3
+// 1, 2, 3, 26
 pub fn check_shape(shape: Shape) -> Answer<()> {
     if shape.axes < 1 || shape.axes > 3 {
         return refuse(1, 0);
@@ -29,6 +29,17 @@ pub fn check_shape(shape: Shape) -> Answer<()> {
             return refuse(3, axis);
         }
     }
+    for axis in 0..3 {
+        let steps = shape.steps[axis];
+        let allowed = if axis < shape.axes as usize {
+            steps.is_power_of_two() && (16..=256).contains(&steps)
+        } else {
+            steps == 1
+        };
+        if !allowed {
+            return refuse(26, axis);
+        }
+    }
     Ok(())
 }
 
@@ -43,7 +54,7 @@ pub fn nodes(shape: Shape) -> usize {
     x * y * z
 }
 
-// 1, 2, 3, 4, 12, 21
+// 1, 2, 3, 26, 4, 12, 21
 pub fn check_query(shape: Shape, records: &[i32], want: Want) -> Answer<()> {
     check_shape(shape)?;
     if records.len() != nodes(shape) * record(shape) {
@@ -79,26 +90,29 @@ fn refuse_step<T>(shape: Shape, axis: usize, step: i64) -> Answer<T> {
     refuse(number, axis)
 }
 
-// 23 and 11 for in-cell steps
-pub fn check_u(shape: Shape, u: [u32; 3]) -> Answer<()> {
+// 23 and 11 for in-cell steps, else the same in steps of 256
+pub fn check_u(shape: Shape, mut u: [u32; 3]) -> Answer<[u32; 3]> {
     for axis in 0..3 {
-        let last = if axis < shape.axes as usize { 256 } else { 0 };
+        let used = axis < shape.axes as usize;
+        let last = if used { shape.steps[axis] } else { 0 };
         if u[axis] > last {
             return refuse_step(shape, axis, u[axis] as i64);
         }
+        u[axis] <<= 8 - shape.steps[axis].trailing_zeros();
     }
-    Ok(())
+    Ok(u)
 }
 
-// 23, 22 and 11 for one step, else its cell and in-cell step
+// 23, 22 and 11 for one step, else its cell, and its in-cell step in steps of 256
 pub fn locate(shape: Shape, axis: usize, step: i64) -> Answer<(u32, u32)> {
     let used = axis < shape.axes as usize;
     let cells = if used { shape.counts[axis] - 1 } else { 0 };
-    if step < 0 || step > 256 * cells as i64 {
+    let bits = shape.steps[axis].trailing_zeros();
+    if step < 0 || step > (cells as i64) << bits {
         return refuse_step(shape, axis, step);
     }
-    let cell = (step as u32 / 256).min(cells.saturating_sub(1));
-    Ok((cell, step as u32 - 256 * cell))
+    let cell = (step as u32 >> bits).min(cells.saturating_sub(1));
+    Ok((cell, (step as u32 - (cell << bits)) << (8 - bits)))
 }
 
 // 5: the first entry of a record beyond its limit.

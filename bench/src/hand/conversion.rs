@@ -7,7 +7,7 @@ use super::stages::{record, Limits};
 use crate::inputs::Want;
 use lukhtari::Shape;
 
-// 1, 2, 3, 4, 9, 14, 5, else the coefficients
+// 1, 2, 3, 26, 4, 9, 14, 5, else the coefficients
 pub fn coefficients(shape: Shape, records: &[i32], cell: [u32; 3], out: &mut [i32]) -> Answer<()> {
     check_query(shape, records, Want::Dose)?;
     if out.len() < (shape.degree as usize + 1).pow(shape.axes) {

@@ -3,7 +3,7 @@
 use super::checks::*;
 use lukhtari::Shape;
 
-// 1, 2, 3, 4, 9, then token by token 16, 17, 18, 5, else the samples
+// 1, 2, 3, 26, 4, 9, then token by token 16, 17, 18, 5, else the samples
 pub fn import(shape: Shape, text: &[u8], samples: &mut [i32]) -> Answer<()> {
     check_shape(shape)?;
     let nodes = nodes(shape);

@@ -4,6 +4,7 @@ use super::checks::*;
 use crate::inputs::Want;
 use lukhtari::Shape;
 
+// The in-cell steps are of 256.
 #[derive(Clone, Copy)]
 pub struct Point {
     pub cell: [u32; 3],
@@ -11,7 +12,7 @@ pub struct Point {
     pub want: Want,
 }
 
-// 1, 2, 3, 4, 12, 21, then on each axis its own test, 23, 22 and 11
+// 1, 2, 3, 26, 4, 12, 21, then on each axis its own test, 23, 22 and 11
 #[inline(always)]
 fn located(
     shape: Shape,
@@ -28,13 +29,13 @@ fn located(
     Ok(Point { cell, u, want })
 }
 
-// 1, 2, 3, 4, 12, 21, then 23, 22 and 11 on each axis
+// 1, 2, 3, 26, 4, 12, 21, then 23, 22 and 11 on each axis
 #[inline(always)]
 pub fn of_position(shape: Shape, records: &[i32], position: [i32; 3], want: Want) -> Answer<Point> {
     located(shape, records, want, |axis| Ok(position[axis] as i64))
 }
 
-// 1, 2, 3, 4, 12, 21, 14, then 23 and 11 on each axis
+// 1, 2, 3, 26, 4, 12, 21, 14, then 23 and 11 on each axis
 #[inline(always)]
 pub fn of_cell(
     shape: Shape,
@@ -45,11 +46,11 @@ pub fn of_cell(
 ) -> Answer<Point> {
     check_query(shape, records, want)?;
     check_cell(shape, cell)?;
-    check_u(shape, u)?;
+    let u = check_u(shape, u)?;
     Ok(Point { cell, u, want })
 }
 
-// 1, 2, 3, 4, 12, then 10, 23, 22 and 11 on each axis
+// 1, 2, 3, 26, 4, 12, then 10, 23, 22 and 11 on each axis
 #[inline(always)]
 pub fn of_float(shape: Shape, records: &[i32], position: [f32; 3], want: Want) -> Answer<Point> {
     located(shape, records, want, |axis| {
@@ -58,6 +59,8 @@ pub fn of_float(shape: Shape, records: &[i32], position: [f32; 3], want: Want) -
             return refuse(10, axis);
         }
         // Exact in f64 wherever the step is within a table.
-        Ok((float as f64 * 256.0 + 0.5).floor() as i64)
+        let used = axis < shape.axes as usize;
+        let steps = if used { shape.steps[axis] } else { 256 };
+        Ok((float as f64 * steps as f64 + 0.5).floor() as i64)
     })
 }

@@ -5,7 +5,7 @@ use super::stages::record;
 use crate::inputs::Want;
 use lukhtari::Shape;
 
-// 1, 2, 3, 24, 4, 9, 14, 5, else each coefficient times 4: equation 8 along x, then along y.
+// 1, 2, 3, 26, 24, 4, 9, 14, 5, else each coefficient times 4: equation 8 along x, then along y.
 pub fn powers(shape: Shape, records: &[i32], cell: [u32; 3], out: &mut [i32]) -> Answer<()> {
     check_shape(shape)?;
     if shape.axes != 2 || shape.degree != 3 {

@@ -10,7 +10,7 @@ use lukhtari::Shape;
 
 const MOST: usize = 256;
 
-// 1, 2, 3, 20, 4, 9, then position by position 23, 22, 11, 5; else the number of fetches.
+// 1, 2, 3, 26, 20, 4, 9, then position by position 23, 22, 11, 5; else the number of fetches.
 pub fn ramp(
     shape: Shape,
     records: &[i32],

@@ -20,7 +20,7 @@ module _ (round : Rounding) (q : Ask) (ok : Proper q) (cell step : Place) (insid
   stage-same : (a : ℕ) → a < q .n → stageOn q a ≡ stageOn (elsewhere q cell step) a
   unfolding stageOn
   stage-same a l = stage-point (orderOn (q .want) a) (q .m) (q .N a) (q .cell a) (cell a) (q .step a) (step a) (ok .m-low) (ok .m-high)
-      (order-smooth (q .want) a (q .m) (ok .smooth)) (ok .some a) (ok .inside a l) (inside a l) (same a l)
+      (order-smooth (q .want) a (q .m) (ok .smooth)) (ok .some a l) (ok .inside a l) (inside a l) (same a l)
 
   pub agreement : (g : Field) → answerBy round q g ≡ answerBy round (elsewhere q cell step) g
   unfolding answerBy before toEighth toUnit divisorOn

@@ -13,20 +13,20 @@ use Rattle.cell.specs.Cell.{Accepted}
 use Rattle.estimate.specs.Estimate.{NextTo, tableRecords}
 use Rattle.estimate.proofs.EstimateLaws.{entry-local, entry-recounted}
 use Rattle.estimated.proofs.Estimated.{at-node, inside}
-use Rattle.evaluate.specs.Evaluate.{Want, lastAxis, answerBy, askAt}
+use Rattle.evaluate.specs.Evaluate.{Want, lastAxis, answerBy, askOf}
 use Rattle.evaluate.proofs.AnswerLaws.{answer-local}
 use Rattle.claims.specs.Third.{NearCell, recounted, AgreeOnBlock}
 use Rattle.claims.proofs.General.{leb-same}
 
 module _ (s : Shape) (xs : List ℤ) (cell : Place) (here : Accepted s cell) where
   -- two tables that agree on the block
-  pub block-local : (round : Rounding) (counts : List ℕ) (ys : List ℤ) → AgreeOnBlock s (recounted s counts) cell xs ys
+  pub block-local : (N : Place) (round : Rounding) (counts : List ℕ) (ys : List ℤ) → AgreeOnBlock s (recounted s counts) cell xs ys
       → (want : Want) (step : Place) → lastAxis (s .axes) want < s .axes
-      → answerBy round (askAt s want cell step) (tableRecords s xs)
-      ≡ answerBy round (askAt (recounted s counts) want cell step) (tableRecords (recounted s counts) ys)
-  unfolding askAt tableRecords
-  block-local round counts ys same want step last =
-      answer-local round (askAt s want cell step) last (tableRecords s xs) (tableRecords t ys)
+      → answerBy round (askOf s want N cell step) (tableRecords s xs)
+      ≡ answerBy round (askOf (recounted s counts) want N cell step) (tableRecords (recounted s counts) ys)
+  unfolding tableRecords
+  block-local N round counts ys same want step last =
+      answer-local round (askOf s want N cell step) last (tableRecords s xs) (tableRecords t ys)
       (λ p x. entry-local (orders s) (s .axes) (count s) p (λ a l. two-nodes (cell a) (here .used a l)) (inside s cell here p x) (x .unused)
       (samplesField s xs) (samplesField t ys)
       (λ q y. same .samples q (record

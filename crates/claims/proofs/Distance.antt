@@ -32,7 +32,7 @@ pub record Proper (q : Ask) : Type 0 where
   pub m-high : q .m ≤ 3
   pub smooth : Smooth (orderWanted (q .want)) (q .m)
   pub n-high : q .n ≤ 3
-  pub some : (a : ℕ) → 0 < q .N a
+  pub some : (a : ℕ) → a < q .n → 0 < q .N a
   pub last : lastAxis (q .n) (q .want) < q .n
   pub inside : (a : ℕ) → a < q .n → q .step a ≤ q .N a
 
@@ -121,9 +121,9 @@ error zero = 0
 error (suc k) = 4 ^ suc k + 5 * error k
 
 module _ (round : Rounding) (sound : Sound round) (q : Ask) (ok : Proper q) (g : Field) where
-  -- no derivative, and a step of the cell
+  -- no derivative, a step of the cell, and some steps
   abbrev Plain : ℕ → Type 0
-  Plain a = (orderOn (q .want) a ≡ 0) × (q .step a ≤ q .N a)
+  Plain a = (orderOn (q .want) a ≡ 0) × (q .step a ≤ q .N a) × (0 < q .N a)
 
   abbrev got : List ℕ → Field
   got ls = sweep ls (toEighth round q) (inEighths g)
@@ -146,7 +146,7 @@ module _ (round : Rounding) (sound : Sound round) (q : Ask) (ok : Proper q) (g :
       (natAbs (got (a ∷ ls) p *ℤ pos (scale (a ∷ ls)) -ℤ pos 8 *ℤ exact (a ∷ ls) p)) (pow-suc 4 (length ls)) (ap gain (h .0 .0))
       (stage-near round sound k (q .m) (q .N a) (q .cell a) (q .step a) (divisor k (q .m) (q .N a)) (scale ls) (4 ^ length ls)
       (error (length ls)) (order-smooth (q .want) a (q .m) (ok .smooth)) (ok .m-low) (ok .m-high) (h .0 .1)
-      (divisor-some k (q .m) (q .N a) (ok .some a))
+      (divisor-some k (q .m) (q .N a) (h .0 .2))
       (λ t. got ls (put a t p)) (λ t. exact ls (put a t p)) (λ t. stages-near ls (h .1) (put a t p)) (p a))
     where
       k : ℕ
@@ -159,7 +159,7 @@ module _ (round : Rounding) (sound : Sound round) (q : Ask) (ok : Proper q) (g :
   -- ---- the last stage
 
   plain : Each Plain (before q)
-  plain = each-before q Plain (λ a l n. (order-before (q .want) a (q .n) n, ok .inside a l))
+  plain = each-before q Plain (λ a l n. (order-before (q .want) a (q .n) n, ok .inside a l, ok .some a l))
 
   answer-near : 64 * 4 ^ length (before q) * natAbs (answerBy round q g *ℤ pos (exactDivisor q) -ℤ exactSum q g)
       ≤ (32 * 4 ^ length (before q) + gain (orderOn (q .want) (lastAxis (q .n) (q .want))) * error (length (before q))) * exactDivisor q
@@ -169,7 +169,7 @@ module _ (round : Rounding) (sound : Sound round) (q : Ask) (ok : Proper q) (g :
       (times-order (last-first (q .n) l (ok .last)) (divisorOn q)) (exact-last q l (ok .last) g)
       (stage-near round sound k (q .m) (q .N l) (q .cell l) (q .step l) (8 * D) P (4 ^ length (before q)) (error (length (before q)))
       (order-smooth (q .want) l (q .m) (ok .smooth)) (ok .m-low) (ok .m-high) (ok .inside l (ok .last))
-      (more D (divisor-some k (q .m) (q .N l) (ok .some l)))
+      (more D (divisor-some k (q .m) (q .N l) (ok .some l (ok .last))))
       (λ t. got (before q) (put l t origin)) (λ t. exact (before q) (put l t origin))
       (λ t. stages-near (before q) plain (put l t origin)) 0)
     where

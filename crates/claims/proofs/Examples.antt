@@ -1,6 +1,5 @@
 -- The worked examples with a star, and the further rows: every row computes what is printed. An example of straight data.
 use mathlib.Core.Path.{_≡_, refl, sym, ap₂, _∙_}
-use mathlib.Core.Bool.{false}
 use mathlib.Core.List.{List, _++_, map-append}
 use Prim.Native.Nat.{ℕ, _+_, _*_, _<_}
 use lib.Dec.{lit<}
@@ -12,10 +11,10 @@ use Rattle.arith.proofs.Choices.{by-2, by-3}
 use Rattle.lattice.specs.Outcome.{firstOf}
 use Rattle.lattice.specs.Buffer.{at, tabulate}
 use Rattle.lattice.specs.Digits.{number, span, digit}
-use Rattle.lattice.specs.Shape.{fullShape, count, ordersOf, nodes, entries, size, axesOutcome, degreeOutcome, countAllowed, countsOutcome, shapeOutcome}
+use Rattle.lattice.specs.Shape.{count, stepsOn, ordersOf, nodes, entries, size, axesOutcome, degreeOutcome, countAllowed, countsOutcome, shapeOutcome, stepNumber, stepsAllowed, stepNumbersOutcome, fullOutcome, finestOn}
 use Rattle.lattice.specs.Axes.{put, sweep, axes, without}
 use Rattle.lattice.specs.Records.{nodeNumber, samplesField, entryNumber, entryIndex, recordsField, entryPlace, totalOrder, entryLimit, limitOutcome}
-use Rattle.hermite.specs.Hermite.{steps, multiplier, mirrored, share, forward, solved, backward, weight, weightAt, divisor, stageSum}
+use Rattle.hermite.specs.Hermite.{multiplier, mirrored, share, forward, solved, backward, weight, weightAt, divisor, stageSum}
 use Rattle.cell.specs.Cell.{placeAt, cellOutcome, cornerPlace, cornerEntries, entryOutcome, cornersOutcome}
 use Rattle.cell.specs.Coefficients.{coefficients}
 use Rattle.cell.specs.Corners.{cornerNumbers}
@@ -24,33 +23,34 @@ use Rattle.table_file.specs.File.{sectionOne, sectionTwo, sectionThree, fileOf,
 use Rattle.estimate.specs.Estimate.{left, right, byOrder, estimate, records, tableRecords, recordsOf, estimateLimit, estimateOutcome, estimateWrites}
 use Rattle.coefficients.specs.Coefficients.{requestOutcome, coefficientList, coefficientsOutcome}
 use Rattle.corners.specs.Corners.{numbersOutcome, coefficientsField, doubledEntry, entryAllowed, possibleOutcome, entryList, backOutcome}
-use Rattle.evaluate.specs.Evaluate.{dose, orderWanted, orderOn, lastAxis, weightOn, sumOver, exactSum, divisorOn, exactDivisor, stageOn, toEighth, toUnit, inEighths, before, answerBy, clean, exactBy, askAt}
+use Rattle.evaluate.specs.Evaluate.{dose, orderWanted, orderOn, lastAxis, weightOn, sumOver, exactSum, divisorOn, exactDivisor, stageOn, toEighth, toUnit, inEighths, before, answerBy, clean, exactBy}
 use Rattle.query.specs.Queries.{wantOutcome, askedOutcome, reading, positionTest, stepsOutcome, testedOutcome, byCell, positionAt, positionOutcome, cellOf, positionCell, positionStep, byPosition, cellMark, positionMark}
 use Rattle.floats.specs.Step.{step}
-use Rattle.float_query.specs.Floats.{floatsAt, stepsOf, floatOutcome, byFloat}
+use Rattle.float_query.specs.Floats.{floatsAt, floatSteps, stepsOf, floatOutcome, byFloat}
 use Rattle.claims.specs.Third.{atPosition, queried, pointOf, cellRead, stepRead, bothCalls, _over_, allowedDistance, WithinDistance}
-use Rattle.claims.specs.Examples.{Row, recordsFrom, coefficientsOf, coefficientsFrom, backInto, firstStage, exactly, answerIn, table, AllRows}
+use Rattle.claims.specs.Examples.{Row, full, recordsFrom, coefficientsOf, coefficientsFrom, backInto, firstStage, exactly, answerIn, table, AllRows}
 use Rattle.claims.specs.Marks.{markOf}
-use Rattle.claims.specs.Pinned.{answerFrom, doseIn, notZero, sparse, among, numbered, limits, leftOver, distances, only, flat, fileWith, refusals, positions, readings, numbers, editions, marks, pins}
+use Rattle.claims.specs.Pinned.{answerFrom, doseIn, doseWith, notZero, sparse, among, numbered, limits, leftOver, distances, only, flat, fileWith, refusals, positions, readings, numbers, editions, stepNumbers, marks, pins}
 use Rattle.claims.specs.Straight.{valueOf, valueAt, wantedOf, Straight, saddle, saddleTable, inSaddle, saddleRows}
 use Rattle.claims.proofs.Straight.{nearly-straight}
 
 -- all definitions that the rows compute with, opened together
 opened : Unit {0}
-unfolding doseIn markOf positionMark cellMark exactBy clean divides all
+unfolding doseWith doseIn markOf positionMark cellMark exactBy clean divides all
     answerFrom notZero sparse among numbered limits leftOver distances only flat fileWith allowedDistance readCheck threeOutcome
     nothingAfter twoOutcome oneOutcome countOutcome secondIn startOfThree samplesIn nodesIn countIn complete fileOf sectionThree sectionTwo
     sectionOne bytesOfAll bytesOf numberAt signedOf unsignedOf
     step floatsAt stepsOf floatOutcome byFloat positionTest placeAt byCell testedOutcome stepsOutcome recordsFrom coefficientsOf
     coefficientsFrom backInto firstStage exactly answerIn bothCalls
-    queried cellRead stepRead byPosition positionStep positionCell cellOf positionOutcome positionAt reading askAt askedOutcome wantOutcome
+    queried cellRead stepRead byPosition positionStep positionCell cellOf positionOutcome positionAt reading askedOutcome wantOutcome
     answerBy before inEighths toUnit toEighth stageOn exactDivisor divisorOn exactSum sumOver weightOn lastAxis orderOn orderWanted
     estimateWrites estimateOutcome estimateLimit recordsOf tableRecords records estimate byOrder right left coefficientsOutcome
     requestOutcome numbersOutcome coefficientList backOutcome possibleOutcome entryAllowed entryList doubledEntry coefficientsField
     cornerNumbers coefficients
     cellOutcome cornersOutcome entryOutcome cornerEntries cornerPlace stageSum divisor weightAt weight forward backward solved share
     mirrored multiplier limitOutcome entryLimit totalOrder entryPlace recordsField entryIndex entryNumber samplesField nodeNumber without
-    axes sweep put shapeOutcome countsOutcome countAllowed degreeOutcome axesOutcome size entries nodes ordersOf count digit span number
+    axes sweep put fullOutcome stepNumbersOutcome stepsAllowed stepNumber stepsOn finestOn floatSteps shapeOutcome countsOutcome
+    countAllowed degreeOutcome axesOutcome size entries nodes ordersOf count digit span number
     tabulate firstOf pick times product total sum roundingOf roundHalfEven isEven roundHalfUp
 opened = tt
 
@@ -79,6 +79,10 @@ of-editions : AllRows editions
 unfolding opened editions
 of-editions = refl
 
+of-step-numbers : AllRows stepNumbers
+unfolding opened stepNumbers
+of-step-numbers = refl
+
 of-marks : AllRows marks
 unfolding opened marks
 of-marks = refl
@@ -86,11 +90,12 @@ of-marks = refl
 pub pinned : AllRows pins
 unfolding pins
 pinned =
-    joined (refusals ++ positions ++ readings ++ numbers ++ editions) marks
+    joined (refusals ++ positions ++ readings ++ numbers ++ editions ++ stepNumbers) marks
+    (joined (refusals ++ positions ++ readings ++ numbers ++ editions) stepNumbers
     (joined (refusals ++ positions ++ readings ++ numbers) editions
     (joined (refusals ++ positions ++ readings) numbers
     (joined (refusals ++ positions) readings (joined refusals positions of-refusals of-positions) of-readings) of-numbers) of-editions)
-    of-marks
+    of-step-numbers) of-marks
   where
     joined : (xs ys : List Row) → AllRows xs → AllRows ys → AllRows (xs ++ ys)
     joined xs ys e f = map-append (λ (r : Row). r .computed) xs ys ∙ ap₂ _++_ e f ∙ sym (map-append (λ (r : Row). r .printed) xs ys)
@@ -120,9 +125,9 @@ saddle-straight degree p here =
     rest i a b c d = by-2 (λ j. (k : ℕ) → k < 2 → Node i j k) (by-2 (Node i 0) a b) (by-2 (Node i 1) c d)
 
 -- so the theorem speaks of the number given
-pub saddle-near : WithinDistance (173 over 256) (pos 161) (valueAt saddle (λ a. steps) (positionAt inSaddle)) (steps * steps * steps)
+pub saddle-near : WithinDistance (173 over 256) (pos 161) (valueAt saddle (λ a. 256) (positionAt inSaddle)) (256 * 256 * 256)
 unfolding opened wantedOf pointOf
 saddle-near =
-    nearly-straight (fullShape (saddleTable 3 .shape) false) (saddleTable 3 .samples) (tabulate 96 (λ i. pos 0)) saddle dose
+    nearly-straight (full (saddleTable 3 .shape)) (saddleTable 3 .samples) (tabulate 96 (λ i. pos 0)) saddle dose
     (atPosition inSaddle) (pos 161)
     (saddle-straight 3) refl

@@ -6,6 +6,7 @@ pub mod Gates
 pub mod Demand
 pub mod Straight
 pub mod Editions
+pub mod Coarser
 pub mod Marks
 pub mod Corners
 pub mod Second

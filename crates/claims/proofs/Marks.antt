@@ -8,7 +8,7 @@ use native.Mathlib.Omega.{arith}
 use lib.Dec.{lit<}
 use lib.IntN.{ℤ, pos, _*ℤ_}
 use Rattle.arith.specs.Choice.{all}
-use Rattle.arith.specs.Int.{Rounding, divides}
+use Rattle.arith.specs.Int.{Rounding, roundingOf, divides}
 use Rattle.arith.specs.Sum.{times}
 use Rattle.arith.proofs.Choices.{clash, and-true, true-and, all-each, all-ext, all-true}
 use Rattle.arith.proofs.Editions.{edition-sound}
@@ -20,26 +20,24 @@ use Rattle.arith.proofs.Round.{Sound}
 use Rattle.lattice.specs.declared.Shape.{Shape}
 use Rattle.lattice.specs.declared.FullShape.{FullShape}
 use Rattle.lattice.specs.Axes.{Place, Field, origin, put, along, sweep}
-use Rattle.lattice.specs.Outcome.{first}
-use Rattle.lattice.specs.Shape.{fullShape, roundingIn, orders}
+use Rattle.lattice.specs.Outcome.{Outcome, done, first}
+use Rattle.lattice.specs.Shape.{fullShape, roundingIn, stepsOn}
 use Rattle.lattice.specs.Records.{recordsField}
-use Rattle.lattice.proofs.Along.{linear-multiple, last-first, times-order}
+use Rattle.lattice.proofs.Along.{Each, linear-multiple, last-first, times-order}
 use Rattle.lattice.proofs.OutcomeLaws.{first-done}
 use Rattle.lattice.proofs.ShapeLaws.{shaped}
-use Rattle.hermite.specs.Hermite.{steps}
 use Rattle.hermite.proofs.HermiteLaws.{stage-linear}
-use Rattle.hermite.proofs.Sizes.{divisor-some}
-use Rattle.cell.specs.Cell.{placeAt}
-use Rattle.evaluate.specs.Evaluate.{Ask, Want, orderOn, lastAxis, divisorOn, stageOn, toEighth, toUnit, inEighths, before, exactSum, exactDivisor, answerBy, clean, exactBy, askAt}
+use Rattle.evaluate.specs.Evaluate.{Ask, Want, orderOn, lastAxis, divisorOn, stageOn, toEighth, toUnit, inEighths, before, exactSum, exactDivisor, answerBy, clean, exactBy}
+use Rattle.evaluate.proofs.AnswerLaws.{each-before}
 use Rattle.evaluate.proofs.Exact.{exact-last}
-use Rattle.query.specs.Queries.{askedOutcome, reading, cellMark, positionMark}
-use Rattle.query.proofs.QueryLaws.{asked-parts, last-used, reading-parts}
-use Rattle.claims.specs.Third.{Query, atPosition, inCell, atFloats, asked, cellRead, stepRead}
+use Rattle.query.specs.Queries.{askedOutcome, reading, positionCell, positionStep, cellMark, positionMark}
+use Rattle.query.proofs.QueryLaws.{Common, asked-facts, last-used, reading-parts}
+use Rattle.claims.specs.Third.{Query, atPosition, inCell, atFloats, queried, asked, cellRead, stepRead}
 use Rattle.claims.specs.Marks.{markOf, MarkedExact, MarksAgree}
-use Rattle.claims.proofs.General.{same-sum}
+use Rattle.claims.proofs.General.{same-sum, divisors}
 use Rattle.claims.proofs.Gates.{gate, by-gate}
 
-module _ (q : Ask) (some : (a : ℕ) → 0 < divisorOn q a) where
+module _ (q : Ask) (some : (a : ℕ) → a < q .n → 0 < divisorOn q a) (last : lastAxis (q .n) (q .want) < q .n) where
   abbrev l : ℕ
   l = lastAxis (q .n) (q .want)
 
@@ -48,7 +46,10 @@ module _ (q : Ask) (some : (a : ℕ) → 0 < divisorOn q a) where
   multiple a z x j = linear-multiple (stage-linear (orderOn (q .want) a) (q .m) (q .N a) (q .cell a) (q .step a)) z x j
 
   last-some : 0 < 8 * divisorOn q l
-  last-some = let k = some l in omega arith
+  last-some = let k = some l last in omega arith
+
+  each-low : Each (λ a. a < q .n) (before q)
+  each-low = each-before q (λ a. a < q .n) (λ a i n. i)
 
   -- ---- the exact interpolant
 
@@ -73,26 +74,27 @@ module _ (q : Ask) (some : (a : ℕ) → 0 < divisorOn q a) where
         turn : (h p r : ℤ) → h *ℤ p *ℤ r ≡ p *ℤ (h *ℤ r)
         turn h p r = ring! (h ∷ p ∷ r ∷ []) (search quotes depth 40) tt
 
-    stages-exact : (ls : List ℕ) (p : Place) → clean round q ls (inEighths g) p ≡ true → pos (scale ls) *ℤ got ls p ≡ pos 8 *ℤ exact ls p
+    stages-exact : (ls : List ℕ) → Each (λ a. a < q .n) ls → (p : Place) → clean round q ls (inEighths g) p ≡ true
+        → pos (scale ls) *ℤ got ls p ≡ pos 8 *ℤ exact ls p
     unfolding sweep clean times toEighth inEighths
-    stages-exact [] p h = pos-one-*ℤ (pos 8 *ℤ g p)
-    stages-exact (a ∷ ls) p h =
+    stages-exact [] e p h = pos-one-*ℤ (pos 8 *ℤ g p)
+    stages-exact (a ∷ ls) e p h =
         let k = and-true (divides (divisorOn q a) (along a (stageOn q a) (got ls) p))
         (all (2 * q .m) (λ t. clean round q ls (inEighths g) (put a (q .m * q .cell a + t) p))) h in
-        stage-exact a (divisorOn q a) (scale ls) (λ t. got ls (put a t p)) (λ t. exact ls (put a t p)) (p a) (some a)
-        (λ t i. stages-exact ls (put a (q .m * q .cell a + t) p)
+        stage-exact a (divisorOn q a) (scale ls) (λ t. got ls (put a t p)) (λ t. exact ls (put a t p)) (p a) (some a (e .0))
+        (λ t i. stages-exact ls (e .1) (put a (q .m * q .cell a + t) p)
         (all-each (2 * q .m) (λ t. clean round q ls (inEighths g) (put a (q .m * q .cell a + t) p)) (k .1) t i)) (k .0)
 
-    pub marked-exact : l < q .n → exactBy round q g ≡ true → exactSum q g ≡ answerBy round q g *ℤ pos (exactDivisor q)
+    pub marked-exact : exactBy round q g ≡ true → exactSum q g ≡ answerBy round q g *ℤ pos (exactDivisor q)
     unfolding exactBy answerBy toUnit before exactDivisor times
-    marked-exact last h =
+    marked-exact h =
         let k = and-true (divides (8 * divisorOn q l) (along l (stageOn q l) (got (before q)) origin))
         (all (2 * q .m) (λ t. clean round q (before q) (inEighths g) (put l (q .m * q .cell l + t) origin))) h in
         exact-last q l last g
         ∙ same-quotient 8 (lit< tt) (along l (stageOn q l) (exact (before q)) origin) (v *ℤ pos (divisorOn q l * scale (before q)))
         (sym (stage-exact l (8 * divisorOn q l) (scale (before q)) (λ t. got (before q) (put l t origin))
         (λ t. exact (before q) (put l t origin)) 0 last-some
-        (λ t i. stages-exact (before q) (put l (q .m * q .cell l + t) origin)
+        (λ t i. stages-exact (before q) each-low (put l (q .m * q .cell l + t) origin)
         (all-each (2 * q .m) (λ t. clean round q (before q) (inEighths g) (put l (q .m * q .cell l + t) origin)) (k .1) t i)) (k .0))
         ∙ turn v (pos (divisorOn q l)) (pos (scale (before q))))
         ∙ ap (λ (y : ℕ). v *ℤ pos y) (sym (times-order (last-first (q .n) l last) (divisorOn q)))
@@ -150,54 +152,68 @@ module _ (q : Ask) (some : (a : ℕ) → 0 < divisorOn q a) where
           sums = same-sum q a (λ t. sweep ls (toEighth one q) g (put a t p)) (λ t. sweep ls (toEighth other q) g (put a t p))
               (λ t i. each t i .0) j
 
-      stages-same : (ls : List ℕ) → Same ls
+      stages-same : (ls : List ℕ) → Each (λ a. a < q .n) ls → Same ls
       unfolding sweep clean toEighth
-      stages-same [] p h = (refl, refl)
-      stages-same (a ∷ ls) p h = stage-same a (divisorOn q a) ls p (p a) (some a) (stages-same ls) h
+      stages-same [] e p h = (refl, refl)
+      stages-same (a ∷ ls) e p h = stage-same a (divisorOn q a) ls p (p a) (some a (e .0)) (stages-same ls (e .1)) h
 
     pub exact-too : (g : Field) → exactBy one q g ≡ true → exactBy other q g ≡ true
     unfolding exactBy
-    exact-too g h = stage-same (inEighths g) l (8 * divisorOn q l) (before q) origin 0 last-some (stages-same (inEighths g) (before q)) h .1
+    exact-too g h =
+        stage-same (inEighths g) l (8 * divisorOn q l) (before q) origin 0 last-some (stages-same (inEighths g) (before q) each-low) h .1
 
 -- ---- the queries
 
-asked-some : (s : Shape) (want : Want) (cell step : Place) (a : ℕ) → 0 < divisorOn (askAt s want cell step) a
-unfolding divisorOn askAt
-asked-some s want cell step a = divisor-some (orderOn want a) (orders s) steps (lit< tt)
+-- of a query that is answered
+module _ (t : FullShape) (rs : List ℤ) (want : Want) (q : Query) (v : ℤ) (h : queried t rs want q ≡ done v) where
+  abbrev tests : Outcome ℤ
+  tests = first (gate t q) (reading t rs want (cellRead t q) (stepRead t q))
 
-mark-same : (s : Shape) (rs : List ℤ) (want : Want) (cell step : Place)
-    → cellMark (fullShape s true) rs want cell step ≡ cellMark (fullShape s false) rs want cell step
-unfolding cellMark
-mark-same s rs want cell step =
-    let some = asked-some s want cell step in
+  parts : (askedOutcome t rs want ≡ done tt) × (tests ≡ done v)
+  parts = first-done (askedOutcome t rs want) tests v (sym (by-gate t rs want q) ∙ h)
+
+  facts : Common t rs want
+  facts = asked-facts t rs want (parts .0)
+
+  some : (a : ℕ) → a < t .shape .axes → 0 < divisorOn (asked t want q) a
+  some = divisors t (facts .full) want (cellRead t q) (stepRead t q)
+
+  last : lastAxis (t .shape .axes) want < t .shape .axes
+  last = last-used (t .shape) want (shaped (t .shape) (facts .shape) .axes-low) (facts .wanted)
+
+  read : answerBy (roundingIn t) (asked t want q) (recordsField (t .shape) rs) ≡ v
+  read =
+      reading-parts t rs want (cellRead t q) (stepRead t q) v
+      (first-done (gate t q) (reading t rs want (cellRead t q) (stepRead t q)) v (parts .1) .1) .1
+
+-- both editions ask the same
+both-mark : (s : Shape) (numbers : List ℕ) (rs : List ℤ) (want : Want) (q : Query) (v : ℤ)
+    → queried (fullShape s numbers false) rs want q ≡ done v
+    → let ask = asked (fullShape s numbers false) want q in
+    exactBy (roundingOf true) ask (recordsField s rs) ≡ exactBy (roundingOf false) ask (recordsField s rs)
+both-mark s numbers rs want q v h =
+    let t = fullShape s numbers false in
+    let ask = asked t want q in
     let g = recordsField s rs in
-    same-test _ _ (exact-too (askAt s want cell step) some (edition-sound true) (edition-sound false) g)
-    (exact-too (askAt s want cell step) some (edition-sound false) (edition-sound true) g)
+    same-test _ _ (exact-too ask (some t rs want q v h) (last t rs want q v h) (edition-sound true) (edition-sound false) g)
+    (exact-too ask (some t rs want q v h) (last t rs want q v h) (edition-sound false) (edition-sound true) g)
 
 pub marks-agree : MarksAgree
-unfolding markOf positionMark cellRead stepRead
-marks-agree s rs want (atPosition p) = mark-same s rs want (cellRead s (atPosition p)) (stepRead s (atPosition p))
-marks-agree s rs want (inCell cell u) = mark-same s rs want (placeAt cell) (placeAt u)
-marks-agree s rs want (atFloats x) = refl
+unfolding markOf positionMark cellMark cellRead stepRead positionCell positionStep stepsOn
+marks-agree s numbers rs want (atPosition p) v h = both-mark s numbers rs want (atPosition p) v h
+marks-agree s numbers rs want (inCell cell u) v h = both-mark s numbers rs want (inCell cell u) v h
+marks-agree s numbers rs want (atFloats x) v h = refl
 
 -- the mark is that of the cell that the query reads
 mark-read : (t : FullShape) (rs : List ℤ) (want : Want) (q : Query) → markOf t rs want q ≡ true
-    → exactBy (roundingIn t) (asked (t .shape) want q) (recordsField (t .shape) rs) ≡ true
+    → exactBy (roundingIn t) (asked t want q) (recordsField (t .shape) rs) ≡ true
 unfolding markOf positionMark cellMark cellRead stepRead
 mark-read t rs want (atPosition p) h = h
 mark-read t rs want (inCell cell u) h = h
 mark-read t rs want (atFloats x) h = clash (cc)
 
 pub marked-is-exact : MarkedExact
-unfolding askAt
 marked-is-exact t rs want q v h mark =
-    let s = t .shape in
-    let cell = cellRead s q in
-    let step = stepRead s q in
-    let f = first-done (askedOutcome s rs want) (first (gate s q) (reading t rs want cell step)) v (sym (by-gate t rs want q) ∙ h) in
-    let k = first-done (gate s q) (reading t rs want cell step) v (f .1) in
-    let parts = asked-parts s rs want (f .0) in
-    let ok = shaped s (parts .0) in
-    marked-exact (asked s want q) (asked-some s want cell step) (edition-sound (t .«second_edition»)) (recordsField s rs)
-    (last-used s want (ok .axes-low) (parts .1)) (mark-read t rs want q mark)
-    ∙ ap (λ z. z *ℤ pos (exactDivisor (asked s want q))) (reading-parts t rs want cell step v (k .1) .1)
+    marked-exact (asked t want q) (some t rs want q v h) (last t rs want q v h) (edition-sound (t .«second_edition»))
+    (recordsField (t .shape) rs) (mark-read t rs want q mark)
+    ∙ ap (λ z. z *ℤ pos (exactDivisor (asked t want q))) (read t rs want q v h)

@@ -10,22 +10,24 @@ use lib.IntN.{ℤ, natAbs}
 use lib.ListN.{length}
 use borrow.Author.Tests.{eq-eqb, le-leb}
 use Rattle.lattice.specs.declared.Shape.{Shape}
+use Rattle.lattice.specs.declared.FullShape.{FullShape}
 use Rattle.lattice.specs.Outcome.{done, refuseUnless}
 use Rattle.lattice.specs.Buffer.{at, overwrite}
 use Rattle.lattice.specs.Digits.{digit}
-use Rattle.lattice.specs.Shape.{orders, ordersOf, entries, size, shapeOutcome}
+use Rattle.lattice.specs.Shape.{orders, ordersOf, entries, size, fullOutcome}
 use Rattle.lattice.specs.Records.{recordsField}
 use Rattle.lattice.proofs.OutcomeLaws.{first-passed, passes, when-done}
 use Rattle.lattice.proofs.BufferLaws.{tabulate-same}
 use Rattle.lattice.proofs.DigitsLaws.{digits-in}
 use Rattle.lattice.proofs.ShapeLaws.{orders-range, shaped}
+use Rattle.lattice.proofs.StepLaws.{full-shape}
 use Rattle.cell.specs.Cell.{placeAt, cornersOutcome, cornerPlace}
 use Rattle.cell.specs.Coefficients.{coefficientCount}
 use Rattle.cell.proofs.CellLaws.{cell-passes}
 use Rattle.cell.proofs.CornerLaws.{corners-pass, corner-inside}
 use Rattle.cell.proofs.NumberLaws.{count-split}
 use Rattle.estimate.specs.Estimate.{Estimable, tableRecords, recordsOf}
-use Rattle.estimate.proofs.CallLaws.{estimated, records-length}
+use Rattle.estimate.proofs.CallLaws.{estimated, estimated-full, records-length}
 use Rattle.coefficients.specs.Coefficients.{coefficientList, requestOutcome, coefficientsOutcome, coefficientsWrites}
 use Rattle.coefficients.proofs.TableCell.{cell-same}
 use Rattle.corners.specs.Corners.{entryList, backOutcome}
@@ -38,24 +40,31 @@ use Rattle.estimated.proofs.Estimated.{lent, field-same, field-within}
 
 from-records : FromRecords
 unfolding coefficientsOutcome requestOutcome coefficientsWrites
-from-records s rs cell out m a = record { taken = taken; written = written; within = written-coefficients s rs cell (length out) taken }
+from-records t rs cell out m a = record { taken = taken; written = written; within = written-coefficients t rs cell (length out) taken }
   where
-    taken : coefficientsOutcome s rs (placeAt cell) (length out) ≡ done tt
+    s : Shape
+    s = t .shape
+
+    taken : coefficientsOutcome t rs (placeAt cell) (length out) ≡ done tt
     taken =
-        first-passed (requestOutcome s (length rs) (placeAt cell) (length out)) (cornersOutcome s rs (placeAt cell))
-        (first-passed (shapeOutcome s) _ (m .shape)
+        first-passed (requestOutcome t (length rs) (placeAt cell) (length out)) (cornersOutcome s rs (placeAt cell))
+        (first-passed (fullOutcome t) _ (m .full)
         ∙ first-passed (refuseUnless (eqb (length rs) (size s)) 4 0) _ (passes _ 4 0 (eq-eqb _ _ (m .many)))
         ∙ first-passed (refuseUnless (leb (coefficientCount (orders s) (s .axes)) (length out)) 9 0) _ (passes _ 9 0 (le-leb _ _ (a .room)))
         ∙ cell-passes s (placeAt cell) (a .here .used) (λ i l k. a .here .unused i k))
-        ∙ corners-pass s rs (placeAt cell) (m .within) (shaped s (m .shape)) (a .here)
+        ∙ corners-pass s rs (placeAt cell) (m .within) (shaped s (full-shape t (m .full))) (a .here)
 
-    written : coefficientsWrites s rs (placeAt cell) out ≡ overwrite
+    written : coefficientsWrites t rs (placeAt cell) out ≡ overwrite
         (coefficientList (orders s) (s .axes) (placeAt cell) (recordsField s rs)) out
     written = sym (when-done (overwrite (coefficientList (orders s) (s .axes) (placeAt cell) (recordsField s rs)) out) out taken)
 
-module _ (s : Shape) (xs old : List ℤ) (cell : List ℕ) (out : List ℤ) (taken : AcceptedTable s xs old) (a : Asked s cell out) where
+module _ (t : FullShape) (xs old : List ℤ) (cell : List ℕ) (out : List ℤ) (taken : AcceptedTable t xs old)
+    (a : Asked (t .shape) cell out) where
+  abbrev s : Shape
+  s = t .shape
+
   known : Estimable s xs (length old)
-  known = estimated s xs (length old) taken
+  known = estimated t xs (length old) taken
 
   -- at the corners the records that estimation wrote are those of the rules
   corner-same : (i : ℕ) → i < coefficientCount (orders s) (s .axes)
@@ -79,12 +88,12 @@ module _ (s : Shape) (xs old : List ℤ) (cell : List ℕ) (out : List ℤ) (tak
       (λ i. g (cornerPlace s (placeAt cell) i)) corner-same p d
       ∙ sym (cell-same s (known .shape) (placeAt cell) (a .here) g (λ i. g (cornerPlace s (placeAt cell) i)) (λ i q. refl) p d))
 
-  estimates : Converts s (recordsOf s xs) (tableRecords s xs) cell out
+  estimates : Converts t (recordsOf s xs) (tableRecords s xs) cell out
   estimates =
       let c =
-      from-records s (recordsOf s xs) cell out
+      from-records t (recordsOf s xs) cell out
       (record {
-        shape = known .passed;
+        full = estimated-full t xs (length old) taken;
         many = records-length s xs;
         within =
             field-within s xs (length old) known (placeAt cell) (a .here);
@@ -96,8 +105,9 @@ module _ (s : Shape) (xs old : List ℤ) (cell : List ℕ) (out : List ℤ) (tak
       }
 
 from-estimates : FromEstimates
-from-estimates s xs old cell out taken a =
-    subst (λ (rs : List ℤ). Converts s rs (tableRecords s xs) cell out) (sym (lent s xs old taken)) (estimates s xs old cell out taken a)
+from-estimates t xs old cell out taken a =
+    subst (λ (rs : List ℤ). Converts t rs (tableRecords (t .shape) xs) cell out) (sym (lent t xs old taken))
+    (estimates t xs old cell out taken a)
 
 -- ---- back
 

@@ -6,7 +6,7 @@ use Prim.Native.Nat.{ℕ, zero, suc, _+_, _*_, _-_, _≤_, _<_}
 use native.Mathlib.Nat.{add-zero, add-suc}
 use native.Mathlib.Decide.{decLt}
 use native.Mathlib.Omega.{arith}
-use lib.Dec.{eqb, lit<}
+use lib.Dec.{eqb}
 use lib.IntN.{ℤ, pos, natAbs, _+ℤ_, _*ℤ_}
 use borrow.Author.Tests.{ne-eqb}
 use Rattle.arith.specs.Choice.{pick}
@@ -16,17 +16,15 @@ use Rattle.arith.proofs.Round.{Sound}
 use Rattle.arith.proofs.Editions.{edition-sound}
 use Rattle.arith.proofs.Choices.{by-3, pick-false}
 use Rattle.arith.proofs.Laws.{*ℤ-assoc, *ℤ-left-comm}
-use Rattle.arith.proofs.Sums.{times-some}
 use Rattle.arith.proofs.Quote.{quotes, ring! }
 use Rattle.lattice.specs.declared.Shape.{Shape}
-use Rattle.lattice.specs.Shape.{roundingIn, count, orders, Shaped}
+use Rattle.lattice.specs.Shape.{roundingIn, count, stepsOn, orders, Shaped}
 use Rattle.lattice.specs.Axes.{Place, Field, Rule, origin, put, sweep, axes}
 use Rattle.lattice.specs.Records.{samplesField}
 use Rattle.lattice.proofs.Along.{linear-multiple, each-axes, fresh-axes, distinct-axes, sweep-fuse, same}
 use Rattle.lattice.proofs.Local.{used, OnAxis, on-used}
 use Rattle.lattice.proofs.ShapeLaws.{orders-range}
 use Rattle.lattice.proofs.Straight.{LinearOn, Straightens, moved, ones, unused, Works, straight-sweep}
-use Rattle.hermite.specs.Hermite.{steps}
 use Rattle.hermite.proofs.Sizes.{divisor-some}
 use Rattle.hermite.proofs.HermiteLaws.{stage-linear}
 use Rattle.hermite.proofs.Straight.{unitOf, coordinateOf, stage-line}
@@ -34,15 +32,15 @@ use Rattle.cell.specs.Cell.{Accepted}
 use Rattle.estimate.specs.Estimate.{estimate, records, tableRecords}
 use Rattle.estimate.proofs.EstimateLaws.{estimate-linear}
 use Rattle.estimate.proofs.Straight.{estimate-line}
-use Rattle.evaluate.specs.Evaluate.{Want, dose, derivativeAlong, orderWanted, Ask, orderOn, stageOn, divisorOn, exactSum, exactDivisor, answerBy, askAt, askOf}
+use Rattle.evaluate.specs.Evaluate.{Want, dose, derivativeAlong, orderWanted, Ask, orderOn, stageOn, divisorOn, exactSum, exactDivisor, answerBy, askOf}
 use Rattle.evaluate.proofs.Exact.{exact-stages}
 use Rattle.evaluate.proofs.AnswerLaws.{order-smooth}
 use Rattle.query.specs.Queries.{Position}
 use Rattle.claims.specs.Third.{WithinDistance, allowedDistance, pointOf, cellRead, stepRead, Reads, asked, Askable}
 use Rattle.claims.specs.Straight.{Expression, valueOf, valueAt, derivative, derivativeOf, wantedOf, Straight, ExactlyStraight, NearlyStraight}
-use Rattle.claims.proofs.General.{rejoined}
+use Rattle.claims.proofs.General.{rejoined, steps-some, times-used}
 use Rattle.claims.proofs.Distance.{distance, same-fraction}
-use Rattle.claims.proofs.Demand.{permitted, known, Taken, taken, third-reads, proper}
+use Rattle.claims.proofs.Demand.{permitted, full, known, Taken, taken, third-reads, proper}
 
 -- ---- the expression
 
@@ -212,14 +210,14 @@ module _ (s : Shape) (xs : List ℤ) (e : Expression) (want : Want) (N cell u x 
       ∙ ap (λ z. z *ℤ pos (exactDivisor q)) (wanted-is s want n3 can e N x)
 
   -- whatever the rounding, the answer is near it
-  pub near-at : (round : Rounding) → Sound round → Shaped s → ((a : ℕ) → 0 < N a)
+  pub near-at : (round : Rounding) → Sound round → Shaped s → ((a : ℕ) → a < s .axes → 0 < N a)
       → WithinDistance (allowedDistance (orderWanted want) (s .axes)) (answerBy round q (tableRecords s xs))
       (valueAt (wantedOf want e) N (λ a. pos (x a))) (N 0 * N 1 * N 2)
   unfolding exactDivisor divisorOn
   near-at round sound ok stepped =
       same-fraction (allowedDistance (orderWanted want) (s .axes)) (answerBy round q (tableRecords s xs)) exact
       (valueAt (wantedOf want e) N (λ a. pos (x a))) (exactDivisor q) (N 0 * N 1 * N 2)
-      (times-some (axes (s .axes)) (divisorOn q) (λ a. divisor-some (order a) m (N a) (stepped a))) exact-at
+      (times-used (s .axes) (divisorOn q) (λ a l. divisor-some (order a) m (N a) (stepped a l))) exact-at
       (distance round sound q (proper s want N cell u ok can stepped inside) (tableRecords s xs))
 
 -- ---- the theorems
@@ -230,20 +228,22 @@ exactly-straight s xs e want N cell u ok straight can here inside =
     (λ a l. ap₂ (λ (c i : ℕ). N a * c + i) (here .unused a l) (inside .unused a l) ∙ omega arith)
 
 pub nearly-straight : NearlyStraight
-unfolding askAt
 nearly-straight t xs old e want q v straight h =
-    subst (λ z. WithinDistance (allowedDistance (orderWanted want) (s .axes)) z (valueAt (wantedOf want e) (λ a. steps) (pointOf q))
-    (steps * steps * steps))
+    subst (λ z. WithinDistance (allowedDistance (orderWanted want) (s .axes)) z (valueAt (wantedOf want e) N (pointOf t q))
+    (N 0 * N 1 * N 2))
     (sym (k .is))
     (subst (λ (p : Position). WithinDistance (allowedDistance (orderWanted want) (s .axes))
-    (answerBy (roundingIn t) (asked s want q) (tableRecords s xs)) (valueAt (wantedOf want e) (λ a. steps) p) (steps * steps * steps))
+    (answerBy (roundingIn t) (asked t want q) (tableRecords s xs)) (valueAt (wantedOf want e) N p) (N 0 * N 1 * N 2))
     (fun-ext (λ a. back a (decLt a (s .axes))))
-    (near-at s xs e want (λ a. steps) (cellRead s q) (stepRead s q) (λ a. natAbs (pointOf q a)) (ok .axes-high) straight (k .can)
+    (near-at s xs e want N (cellRead t q) (stepRead t q) (λ a. natAbs (pointOf t q a)) (ok .axes-high) straight (k .can)
     (r .accepted) (r .contains .upto) (λ a l. ap natAbs (point a l)) (λ a l. ap natAbs (r .point .unused a l))
-    (roundingIn t) (edition-sound (t .«second_edition»)) ok (λ a. lit< tt)))
+    (roundingIn t) (edition-sound (t .«second_edition»)) ok (steps-some t (full t xs old (k .table)))))
   where
     s : Shape
     s = t .shape
+
+    N : Place
+    N = stepsOn t
 
     k : Taken t xs old want q v
     k = taken t xs old want q v h
@@ -251,12 +251,12 @@ nearly-straight t xs old e want q v straight h =
     ok : Shaped s
     ok = known t xs old (k .table) .shape
 
-    r : Reads s q
+    r : Reads t q
     r = third-reads t xs old want q v h
 
-    point : (a : ℕ) → a < s .axes → pointOf q a ≡ pos (steps * cellRead s q a + stepRead s q a)
-    point a l = sym (rejoined (pointOf q a) (steps * cellRead s q a) (stepRead s q a) (r .contains .is a l))
+    point : (a : ℕ) → a < s .axes → pointOf t q a ≡ pos (N a * cellRead t q a + stepRead t q a)
+    point a l = sym (rejoined (pointOf t q a) (N a * cellRead t q a) (stepRead t q a) (r .contains .is a l))
 
-    back : (a : ℕ) → Dec (a < s .axes) → pos (natAbs (pointOf q a)) ≡ pointOf q a
+    back : (a : ℕ) → Dec (a < s .axes) → pos (natAbs (pointOf t q a)) ≡ pointOf t q a
     back a (yes l) = rw (point a l)
     back a (no l) = rw (r .point .unused a (omega arith))

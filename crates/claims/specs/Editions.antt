@@ -30,5 +30,6 @@ NoHalf q g =
 -- then the two calls give the same in both editions
 abbrev pub EditionsAgree : Type 0
 EditionsAgree =
-    (s : Shape) (xs old : List ℤ) (want : Want) (q : Query) → NoHalf (asked s want q) (tableRecords s xs)
-    → bothCalls (fullShape s true) xs old want q ≡ bothCalls (fullShape s false) xs old want q
+    (s : Shape) (numbers : List ℕ) (xs old : List ℤ) (want : Want) (q : Query)
+    → NoHalf (asked (fullShape s numbers false) want q) (tableRecords s xs)
+    → bothCalls (fullShape s numbers true) xs old want q ≡ bothCalls (fullShape s numbers false) xs old want q

@@ -6,9 +6,10 @@ use Prim.Native.Nat.{ℕ}
 use lib.IntN.{ℤ, pos, negsuc, _-ℤ_, _*ℤ_}
 use Rattle.arith.specs.Int.{roundHalfUp, floorDiv}
 use Rattle.lattice.specs.declared.Shape.{Shape}
+use Rattle.lattice.specs.declared.FullShape.{FullShape}
 use Rattle.lattice.specs.Outcome.{Outcome, done, refused, first}
 use Rattle.lattice.specs.Buffer.{tabulate}
-use Rattle.lattice.specs.Shape.{shapeOf, fullShape, ordersOf, orders, size}
+use Rattle.lattice.specs.Shape.{shapeOf, fullShape, finestSteps, ordersOf, orders, size}
 use Rattle.lattice.specs.Axes.{origin, along}
 use Rattle.lattice.specs.Records.{recordsField}
 use Rattle.estimate.specs.Estimate.{tableRecords, recordsOf, estimateOutcome}
@@ -22,6 +23,13 @@ pub record Table : Type 0 where
   pub shape : Shape
   pub samples : List ℤ
 
+-- with 256 steps on each used axis, in an edition
+abbrev pub inEdition : (secondEdition : Bool) → Shape → FullShape
+inEdition secondEdition s = fullShape s (finestSteps (s .axes)) secondEdition
+
+abbrev pub full : Shape → FullShape
+full = inEdition false
+
 -- ---- what a row computes
 
 abbrev pub listed : Outcome ℤ → Outcome (List ℤ)
@@ -29,11 +37,12 @@ listed (done v) = done (v ∷ [])
 listed (refused number place) = refused number place
 
 unfoldable pub recordsFrom : Table → Outcome (List ℤ)
-recordsFrom t = first (estimateOutcome (t .shape) (t .samples) (size (t .shape))) (done (recordsOf (t .shape) (t .samples)))
+recordsFrom t = first (estimateOutcome (full (t .shape)) (t .samples) (size (t .shape))) (done (recordsOf (t .shape) (t .samples)))
 
 -- of the cell at the origin, from records
 unfoldable pub coefficientsOf : Shape → List ℤ → Outcome (List ℤ)
-coefficientsOf s rs = first (coefficientsOutcome s rs origin 216) (done (coefficientList (orders s) (s .axes) origin (recordsField s rs)))
+coefficientsOf s rs =
+    first (coefficientsOutcome (full s) rs origin 216) (done (coefficientList (orders s) (s .axes) origin (recordsField s rs)))
 
 -- and from samples
 unfoldable pub coefficientsFrom : Table → Outcome (List ℤ)
@@ -49,13 +58,13 @@ backFrom = backInto 216
 -- along x, in eighths
 unfoldable pub firstStage : Table → List ℤ → Outcome (List ℤ)
 firstStage t p =
-    done (along 0 (toEighth roundHalfUp (asked (t .shape) dose (atPosition p)) 0)
+    done (along 0 (toEighth roundHalfUp (asked (full (t .shape)) dose (atPosition p)) 0)
     (inEighths (tableRecords (t .shape) (t .samples))) origin ∷ [])
 
 -- the exact value in ten-thousandths, and what is left
 unfoldable pub exactly : Table → Want → List ℤ → Outcome (List ℤ)
 exactly t want p =
-    let q = asked (t .shape) want (atPosition p) in
+    let q = asked (full (t .shape)) want (atPosition p) in
     let x = pos 10000 *ℤ exactSum q (tableRecords (t .shape) (t .samples)) in
     let v = floorDiv x (exactDivisor q) in
     done (v ∷ (x -ℤ v *ℤ pos (exactDivisor q)) ∷ [])
@@ -63,7 +72,7 @@ exactly t want p =
 -- estimation, then the query by position, in an edition
 unfoldable pub answerIn : (secondEdition : Bool) → Table → Want → List ℤ → Outcome (List ℤ)
 answerIn secondEdition t want p =
-    listed (bothCalls (fullShape (t .shape) secondEdition) (t .samples) (tabulate (size (t .shape)) (λ i. pos 0)) want (atPosition p))
+    listed (bothCalls (inEdition secondEdition (t .shape)) (t .samples) (tabulate (size (t .shape)) (λ i. pos 0)) want (atPosition p))
 
 abbrev pub answerTo : Table → Want → List ℤ → Outcome (List ℤ)
 answerTo = answerIn false

@@ -1,4 +1,4 @@
--- Reading order: Third, Second, Corners, Calls, Marks, Examples, Pinned, Straight, Editions.
+-- Reading order: Third, Second, Corners, Calls, Marks, Examples, Pinned, Straight, Editions, Coarser.
 pub mod Third
 pub mod Second
 pub mod Corners
@@ -8,3 +8,4 @@ pub mod Examples
 pub mod Pinned
 pub mod Straight
 pub mod Editions
+pub mod Coarser

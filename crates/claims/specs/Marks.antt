@@ -2,6 +2,7 @@
 use mathlib.Core.Path.{_≡_}
 use mathlib.Core.Bool.{Bool, true, false}
 use mathlib.Core.List.{List}
+use Prim.Native.Nat.{ℕ}
 use lib.IntN.{ℤ, pos, _*ℤ_}
 use Rattle.lattice.specs.declared.Shape.{Shape}
 use Rattle.lattice.specs.declared.FullShape.{FullShape}
@@ -24,9 +25,11 @@ markOf t rs want (atFloats x) = false
 abbrev pub MarkedExact : Type 0
 MarkedExact =
     (t : FullShape) (rs : List ℤ) (want : Want) (q : Query) (v : ℤ) → queried t rs want q ≡ done v → markOf t rs want q ≡ true
-    → exactSum (asked (t .shape) want q) (recordsField (t .shape) rs) ≡ v *ℤ pos (exactDivisor (asked (t .shape) want q))
+    → exactSum (asked t want q) (recordsField (t .shape) rs) ≡ v *ℤ pos (exactDivisor (asked t want q))
 
--- both editions mark the same answers
+-- both editions mark the same answers: of a query that is answered
 abbrev pub MarksAgree : Type 0
 MarksAgree =
-    (s : Shape) (rs : List ℤ) (want : Want) (q : Query) → markOf (fullShape s true) rs want q ≡ markOf (fullShape s false) rs want q
+    (s : Shape) (numbers : List ℕ) (rs : List ℤ) (want : Want) (q : Query) (v : ℤ)
+    → queried (fullShape s numbers false) rs want q ≡ done v
+    → markOf (fullShape s numbers true) rs want q ≡ markOf (fullShape s numbers false) rs want q

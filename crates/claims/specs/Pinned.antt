@@ -1,7 +1,7 @@
 -- Further rows: where a theorem would hold of more than one reading of document 01, a computed row fixes the reading.
 -- Refusal numbers, places and order, those of a position apart; borders; the order of nodes, entries, coefficients and corners on two and
--- three axes; limits; the order of the stages; the cell of a shared node; curvatures; the distances; the rounding of both editions; the
--- mark.
+-- three axes; limits; the order of the stages; the cell of a shared node; curvatures; the distances; the rounding of both editions;
+-- step numbers; the mark.
 use mathlib.Core.Bool.{Bool, true, false}
 use mathlib.Core.List.{List, [], _∷_, _++_}
 use Prim.Native.Nat.{ℕ, suc, _+_, _*_, _-_}
@@ -18,11 +18,11 @@ use Rattle.lattice.specs.Digits.{digit}
 use Rattle.lattice.specs.Records.{entryLimit}
 use Rattle.estimate.specs.Estimate.{tableRecords, recordsOf, estimateOutcome}
 use Rattle.evaluate.specs.Evaluate.{Want, dose, slopeAlong, curvatureAlong, orderWanted, exactSum, exactDivisor}
-use Rattle.table_file.specs.File.{readCheck, fileOf, header}
+use Rattle.table_file.specs.File.{readCheck, fileOf, fileHeader}
 use Rattle.float_query.specs.Floats.{floatsAt}
 use Rattle.claims.specs.Third.{Query, atPosition, inCell, atFloats, queried, allowedDistance, asked}
 use Rattle.claims.specs.Marks.{markOf}
-use Rattle.claims.specs.Examples.{Table, listed, Row, _gives_, _refusedAs_atPlace_, recordsFrom, coefficientsOf, backFrom, backInto, answerIn, pair, at-x}
+use Rattle.claims.specs.Examples.{Table, inEdition, full, listed, Row, _gives_, _refusedAs_atPlace_, recordsFrom, coefficientsOf, backFrom, backInto, answerIn, pair, at-x}
 
 -- ---- what a row computes
 
@@ -33,7 +33,7 @@ tested (refused number place) = refused number place
 
 -- a query of records, in edition one
 unfoldable pub answerFrom : Shape → List ℤ → Want → Query → Outcome (List ℤ)
-answerFrom s rs want q = listed (queried (fullShape s false) rs want q)
+answerFrom s rs want q = listed (queried (full s) rs want q)
 
 -- an answer and its mark, 1 where it is marked
 abbrev pub withMark : Outcome ℤ → Bool → Outcome (List ℤ)
@@ -43,7 +43,7 @@ withMark (refused number place) mark = refused number place
 -- a dose from samples, in an edition
 unfoldable pub doseIn : (secondEdition : Bool) → Table → Query → Outcome (List ℤ)
 doseIn secondEdition t q =
-    let s = fullShape (t .shape) secondEdition in
+    let s = inEdition secondEdition (t .shape) in
     let rs = recordsOf (t .shape) (t .samples) in
     withMark (queried s rs dose q) (markOf s rs dose q)
 
@@ -72,7 +72,7 @@ limits m count = tabulate count (λ i. pos (entryLimit m 3 (λ a. digit (λ b. m
 -- the distance allowed less the distance of the answer v from the exact value, multiplied out
 unfoldable pub leftOver : Table → Want → List ℤ → ℤ → ℤ
 leftOver t want p v =
-    let q = asked (t .shape) want (atPosition p) in
+    let q = asked (full (t .shape)) want (atPosition p) in
     let f = allowedDistance (orderWanted want) (t .shape .axes) in
     let y = exactDivisor q in
     pos (f .top * y - f .bottom * natAbs (v *ℤ pos y -ℤ exactSum q (tableRecords (t .shape) (t .samples))))
@@ -130,7 +130,7 @@ start = atPoint (pos 0) (pos 0) (pos 0)
 
 -- the file of 0, 100 in edition two or one, with more bytes
 unfoldable pub fileWith : Bool → List ℕ → List ℕ
-fileWith second more = fileOf (header 1 (2 ∷ 1 ∷ 1 ∷ []) second) (pos 0 ∷ pos 100 ∷ []) ++ more
+fileWith second more = fileOf (fileHeader 1 (2 ∷ 1 ∷ 1 ∷ []) second) (pos 0 ∷ pos 100 ∷ []) ++ more
 
 -- ---- refusals: numbers, places and order
 
@@ -142,13 +142,14 @@ refusals =
     ∷ (answerFrom (shapeOf 2 3 (64 ∷ 65 ∷ 1 ∷ [])) [] dose start refusedAs 3 atPlace 1)
     ∷ (answerFrom (shapeOf 2 5 (64 ∷ 64 ∷ 1 ∷ [])) [] (slopeAlong 2) start refusedAs 4 atPlace 0)
     -- 4 before 9, 9 before 19; samples of 16384, 8192 and 4096 stand on one, two and three axes, and of 32768 in a file
-    ∷ (tested (estimateOutcome plane (pos 0 ∷ []) 0) refusedAs 4 atPlace 0)
-    ∷ (tested (estimateOutcome threeNodes (pos 32769 ∷ pos 0 ∷ pos 0 ∷ []) 5) refusedAs 9 atPlace 0)
-    ∷ (tested (estimateOutcome threeNodes (pos 16384 ∷ negsuc 16383 ∷ pos 16385 ∷ []) 6) refusedAs 19 atPlace 2)
-    ∷ (tested (estimateOutcome threeNodes (pos 0 ∷ negsuc 32768 ∷ pos 16385 ∷ []) 6) refusedAs 19 atPlace 1)
-    ∷ (tested (estimateOutcome plane (pos 8192 ∷ negsuc 8191 ∷ pos 0 ∷ negsuc 8192 ∷ []) 16) refusedAs 19 atPlace 3)
-    ∷ (tested (estimateOutcome cube (onCube (pos 4096 ∷ negsuc 4095 ∷ pos 4097 ∷ [])) 64) refusedAs 19 atPlace 2)
-    ∷ (tested (readCheck (fileOf (header 1 (3 ∷ 1 ∷ 1 ∷ []) false) (pos 32768 ∷ negsuc 32767 ∷ pos 32769 ∷ [])) 3) refusedAs 5 atPlace 2)
+    ∷ (tested (estimateOutcome (full plane) (pos 0 ∷ []) 0) refusedAs 4 atPlace 0)
+    ∷ (tested (estimateOutcome (full threeNodes) (pos 32769 ∷ pos 0 ∷ pos 0 ∷ []) 5) refusedAs 9 atPlace 0)
+    ∷ (tested (estimateOutcome (full threeNodes) (pos 16384 ∷ negsuc 16383 ∷ pos 16385 ∷ []) 6) refusedAs 19 atPlace 2)
+    ∷ (tested (estimateOutcome (full threeNodes) (pos 0 ∷ negsuc 32768 ∷ pos 16385 ∷ []) 6) refusedAs 19 atPlace 1)
+    ∷ (tested (estimateOutcome (full plane) (pos 8192 ∷ negsuc 8191 ∷ pos 0 ∷ negsuc 8192 ∷ []) 16) refusedAs 19 atPlace 3)
+    ∷ (tested (estimateOutcome (full cube) (onCube (pos 4096 ∷ negsuc 4095 ∷ pos 4097 ∷ [])) 64) refusedAs 19 atPlace 2)
+    ∷ (tested (readCheck (fileOf (fileHeader 1 (3 ∷ 1 ∷ 1 ∷ []) false) (pos 32768 ∷ negsuc 32767 ∷ pos 32769 ∷ [])) 3)
+    refusedAs 5 atPlace 2)
     -- 15 before 9; the place of 13 is 0 wherever the entry stands
     ∷ (backInto 0 1 3 (pos 0 ∷ []) refusedAs 15 atPlace 0)
     ∷ (backFrom 1 3 (pos 0 ∷ pos 0 ∷ pos 65537 ∷ pos 0 ∷ []) refusedAs 13 atPlace 0)
@@ -272,6 +273,38 @@ editions =
     ∷ (answerIn true (fourSamples (pos 0) (pos 7) (negsuc 7) (negsuc 7)) dose (at-x 16) gives pos 0 ∷ [])
     ∷ []
 
+-- ---- step numbers
+
+-- a dose from samples, with step numbers, in edition one
+unfoldable pub doseWith : List ℕ → Table → Query → Outcome (List ℤ)
+doseWith numbers t q = listed (queried (fullShape (t .shape) numbers false) (recordsOf (t .shape) (t .samples)) dose q)
+
+-- m/64
+abbrev pub plus : ℕ → Float
+plus m = fin false m (negsuc 5)
+
+unfoldable pub stepNumbers : List Row
+stepNumbers =
+    -- 26 after 3 and before 4; 1 on an unused axis
+    (tested (estimateOutcome (fullShape (shapeOf 2 3 (2 ∷ 65 ∷ 1 ∷ [])) (16 ∷ 8 ∷ 1 ∷ []) false) [] 0) refusedAs 3 atPlace 1)
+    ∷ (tested (estimateOutcome (fullShape plane (16 ∷ 8 ∷ 1 ∷ []) false) [] 0) refusedAs 26 atPlace 1)
+    ∷ (tested (estimateOutcome (fullShape plane (16 ∷ 512 ∷ 0 ∷ []) false) [] 0) refusedAs 26 atPlace 1)
+    ∷ (tested (estimateOutcome (fullShape plane (256 ∷ 128 ∷ 256 ∷ []) false) [] 0) refusedAs 26 atPlace 2)
+    ∷ (doseWith (1 ∷ 1 ∷ 1 ∷ []) (pair 3 (pos 0) (pos 100)) start refusedAs 26 atPlace 0)
+    -- one axis of 16 steps: its middle, its last node, the step beyond, by position and by cell
+    ∷ (doseWith (16 ∷ 1 ∷ 1 ∷ []) (pair 3 (pos 0) (pos 100)) (atPosition (at-x 8)) gives pos 50 ∷ [])
+    ∷ (doseWith (16 ∷ 1 ∷ 1 ∷ []) (pair 3 (pos 0) (pos 100)) (atPosition (at-x 16)) gives pos 100 ∷ [])
+    ∷ (doseWith (16 ∷ 1 ∷ 1 ∷ []) (pair 3 (pos 0) (pos 100)) (atPosition (at-x 17)) refusedAs 11 atPlace 0)
+    ∷ (doseWith (16 ∷ 1 ∷ 1 ∷ []) (pair 3 (pos 0) (pos 100)) (inCell (0 ∷ 0 ∷ 0 ∷ []) (16 ∷ 0 ∷ 0 ∷ [])) gives pos 100 ∷ [])
+    ∷ (doseWith (16 ∷ 1 ∷ 1 ∷ []) (pair 3 (pos 0) (pos 100)) (inCell (0 ∷ 0 ∷ 0 ∷ []) (17 ∷ 0 ∷ 0 ∷ [])) refusedAs 11 atPlace 0)
+    -- a float by the axis's own number, 1/64 being a quarter of a step of 16; on an unused axis by 256, so that it is step 4
+    ∷ (doseWith (16 ∷ 1 ∷ 1 ∷ []) (pair 3 (pos 0) (pos 100)) (atFloat (plus 32) (plus 0) (plus 0)) gives pos 50 ∷ [])
+    ∷ (doseWith (16 ∷ 1 ∷ 1 ∷ []) (pair 3 (pos 0) (pos 100)) (atFloat (plus 1) (plus 0) (plus 0)) gives pos 0 ∷ [])
+    ∷ (doseWith (16 ∷ 1 ∷ 1 ∷ []) (pair 3 (pos 0) (pos 100)) (atFloat (plus 1) (plus 0) (plus 1)) refusedAs 23 atPlace 2)
+    -- axes of 16 and 32 steps
+    ∷ (doseWith (16 ∷ 32 ∷ 1 ∷ []) (fourSamples (pos 0) (pos 100) (pos 0) (pos 300)) (atPoint (pos 8) (pos 16) (pos 0)) gives pos 100 ∷ [])
+    ∷ []
+
 -- ---- the mark
 
 -- cubic, 2 by 4 nodes, all samples 0 but the last
@@ -291,4 +324,4 @@ marks =
     ∷ []
 
 unfoldable pub pins : List Row
-pins = refusals ++ positions ++ readings ++ numbers ++ editions ++ marks
+pins = refusals ++ positions ++ readings ++ numbers ++ editions ++ stepNumbers ++ marks

@@ -8,9 +8,10 @@ use Prim.Native.Nat.{ℕ, _≤_, _^_, _<_}
 use lib.IntN.{ℤ, natAbs}
 use lib.ListN.{length, take}
 use Rattle.lattice.specs.declared.Shape.{Shape}
+use Rattle.lattice.specs.declared.FullShape.{FullShape}
 use Rattle.lattice.specs.Outcome.{done, refused}
 use Rattle.lattice.specs.Buffer.{at, overwrite}
-use Rattle.lattice.specs.Shape.{orders, ordersOf, size, axesOutcome, degreeOutcome, shapeOutcome}
+use Rattle.lattice.specs.Shape.{orders, ordersOf, size, axesOutcome, degreeOutcome, fullOutcome}
 use Rattle.lattice.specs.Axes.{Place, Field}
 use Rattle.lattice.specs.Records.{recordsField, entryLimit}
 use Rattle.cell.specs.Cell.{placeAt, Accepted, InCorners}
@@ -24,11 +25,12 @@ use Rattle.claims.specs.Third.{AcceptedTable}
 
 -- the coefficients call, lent the records rs: it is not refused, and `out` then holds the coefficients of the numbers g, each within 2^30,
 -- and its old tail
-pub record Converts (s : Shape) (rs : List ℤ) (g : Field) (cell : List ℕ) (out : List ℤ) : Type 0 where
-  pub taken : coefficientsOutcome s rs (placeAt cell) (length out) ≡ done tt
-  pub written : coefficientsWrites s rs (placeAt cell) out ≡ overwrite (coefficientList (orders s) (s .axes) (placeAt cell) g) out
-  pub within : (K : ℕ) → K < coefficientCount (orders s) (s .axes)
-      → natAbs (at (coefficientList (orders s) (s .axes) (placeAt cell) g) K) ≤ 2 ^ 30
+pub record Converts (t : FullShape) (rs : List ℤ) (g : Field) (cell : List ℕ) (out : List ℤ) : Type 0 where
+  pub taken : coefficientsOutcome t rs (placeAt cell) (length out) ≡ done tt
+  pub written : coefficientsWrites t rs (placeAt cell) out
+      ≡ overwrite (coefficientList (orders (t .shape)) (t .shape .axes) (placeAt cell) g) out
+  pub within : (K : ℕ) → K < coefficientCount (orders (t .shape)) (t .shape .axes)
+      → natAbs (at (coefficientList (orders (t .shape)) (t .shape .axes) (placeAt cell) g) K) ≤ 2 ^ 30
 
 -- an accepted cell, and a slice long enough
 pub record Asked (s : Shape) (cell : List ℕ) (out : List ℤ) : Type 0 where
@@ -38,20 +40,20 @@ pub record Asked (s : Shape) (cell : List ℕ) (out : List ℤ) : Type 0 where
 -- from estimates: the call is lent exactly the records that estimation wrote, and converts the records that the rules under Estimates give
 abbrev pub FromEstimates : Type 0
 FromEstimates =
-    (s : Shape) (xs old : List ℤ) (cell : List ℕ) (out : List ℤ) → AcceptedTable s xs old → Asked s cell out
-    → Converts s (take (size s) (estimateWrites s xs old)) (tableRecords s xs) cell out
+    (t : FullShape) (xs old : List ℤ) (cell : List ℕ) (out : List ℤ) → AcceptedTable t xs old → Asked (t .shape) cell out
+    → Converts t (take (size (t .shape)) (estimateWrites t xs old)) (tableRecords (t .shape) xs) cell out
 
 -- records as many as the shape has, of which those of the cell's corners are within their limits
-pub record Measured (s : Shape) (rs : List ℤ) (cell : List ℕ) : Type 0 where
-  pub shape : shapeOutcome s ≡ done tt
-  pub many : length rs ≡ size s
-  pub within : (p : Place) → InCorners (orders s) (s .axes) (placeAt cell) p
-      → natAbs (recordsField s rs p) ≤ entryLimit (orders s) (s .axes) p
+pub record Measured (t : FullShape) (rs : List ℤ) (cell : List ℕ) : Type 0 where
+  pub full : fullOutcome t ≡ done tt
+  pub many : length rs ≡ size (t .shape)
+  pub within : (p : Place) → InCorners (orders (t .shape)) (t .shape .axes) (placeAt cell) p
+      → natAbs (recordsField (t .shape) rs p) ≤ entryLimit (orders (t .shape)) (t .shape .axes) p
 
 -- from measured slopes
 abbrev pub FromRecords : Type 0
-FromRecords = (s : Shape) (rs : List ℤ) (cell : List ℕ) (out : List ℤ) → Measured s rs cell → Asked s cell out
-    → Converts s rs (recordsField s rs) cell out
+FromRecords = (t : FullShape) (rs : List ℤ) (cell : List ℕ) (out : List ℤ) → Measured t rs cell → Asked (t .shape) cell out
+    → Converts t rs (recordsField (t .shape) rs) cell out
 
 -- ---- back
 

@@ -8,10 +8,9 @@ use lib.IntN.{ℤ, pos, negsuc, _+ℤ_, _*ℤ_}
 use Rattle.lattice.specs.declared.Shape.{Shape}
 use Rattle.lattice.specs.declared.FullShape.{FullShape}
 use Rattle.lattice.specs.Outcome.{done}
-use Rattle.lattice.specs.Shape.{shapeOf, count, Shaped}
+use Rattle.lattice.specs.Shape.{shapeOf, count, stepsOn, Shaped}
 use Rattle.lattice.specs.Axes.{Place, OnUsed}
 use Rattle.lattice.specs.Records.{samplesField}
-use Rattle.hermite.specs.Hermite.{steps}
 use Rattle.cell.specs.Cell.{Accepted}
 use Rattle.estimate.specs.Estimate.{tableRecords}
 use Rattle.evaluate.specs.Evaluate.{Want, dose, derivativeAlong, slopeAlong, orderWanted, exactSum, exactDivisor, askOf}
@@ -82,8 +81,8 @@ abbrev pub NearlyStraight : Type 0
 NearlyStraight =
     (t : FullShape) (xs old : List ℤ) (e : Expression) (want : Want) (q : Query) (v : ℤ)
     → Straight (t .shape) xs e → bothCalls t xs old want q ≡ done v
-    → WithinDistance (allowedDistance (orderWanted want) (t .shape .axes)) v (valueAt (wantedOf want e) (λ a. steps) (pointOf q))
-    (steps * steps * steps)
+    → WithinDistance (allowedDistance (orderWanted want) (t .shape .axes)) v (valueAt (wantedOf want e) (stepsOn t) (pointOf t q))
+    (stepsOn t 0 * stepsOn t 1 * stepsOn t 2)
 
 -- ---- an example
 

@@ -12,15 +12,14 @@ use lib.Signed.{_≤ℤ_}
 use Rattle.lattice.specs.declared.Shape.{Shape}
 use Rattle.lattice.specs.declared.FullShape.{FullShape}
 use Rattle.lattice.specs.Outcome.{Outcome, done, first}
-use Rattle.lattice.specs.Shape.{shapeOf, fullShape, count, orders, size}
+use Rattle.lattice.specs.Shape.{shapeOf, fullShape, count, stepsOn, orders, size}
 use Rattle.lattice.specs.Axes.{Place, OnUsed}
 use Rattle.lattice.specs.Records.{samplesField}
-use Rattle.hermite.specs.Hermite.{steps}
 use Rattle.hermite.specs.Stage.{Smooth}
 use Rattle.cell.specs.Cell.{placeAt, Accepted}
 use Rattle.estimate.specs.Estimate.{tableRecords, estimateOutcome, estimateWrites}
-use Rattle.evaluate.specs.Evaluate.{Want, dose, derivativeAlong, orderWanted, Ask, exactSum, exactDivisor, askAt}
-use Rattle.query.specs.Queries.{Position, positionAt, positionCell, positionStep, byCell, byPosition}
+use Rattle.evaluate.specs.Evaluate.{Want, dose, derivativeAlong, orderWanted, Ask, exactSum, exactDivisor}
+use Rattle.query.specs.Queries.{Position, positionAt, positionCell, positionStep, askIn, byCell, byPosition}
 use Rattle.float_query.specs.Floats.{stepsOf, byFloat}
 
 -- ---- queries and points
@@ -37,46 +36,46 @@ queried t rs want (atPosition p) = byPosition t rs want (positionAt p)
 queried t rs want (inCell cell u) = byCell t rs want (placeAt cell) (placeAt u)
 queried t rs want (atFloats x) = byFloat t rs want x
 
--- the point of a query: for a cell and u, on each axis, 256 times the cell's index plus u; for a float the step it becomes
-unfoldable pub pointOf : Query → Position
-pointOf (atPosition p) = positionAt p
-pointOf (inCell cell u) = λ a. pos (steps * placeAt cell a + placeAt u a)
-pointOf (atFloats x) = stepsOf x
+-- the point of a query: for a cell and u, on each axis, the axis's number of steps times the cell's index plus u; for a float the step it
+-- becomes
+unfoldable pub pointOf : FullShape → Query → Position
+pointOf t (atPosition p) = positionAt p
+pointOf t (inCell cell u) = λ a. pos (stepsOn t a * placeAt cell a + placeAt u a)
+pointOf t (atFloats x) = stepsOf t x
 
 -- the cell that a query reads
-unfoldable pub cellRead : Shape → Query → Place
-cellRead s (atPosition p) = positionCell s (positionAt p)
-cellRead s (inCell cell u) = placeAt cell
-cellRead s (atFloats x) = positionCell s (stepsOf x)
+unfoldable pub cellRead : FullShape → Query → Place
+cellRead t (atPosition p) = positionCell t (positionAt p)
+cellRead t (inCell cell u) = placeAt cell
+cellRead t (atFloats x) = positionCell t (stepsOf t x)
 
 -- its u there
-unfoldable pub stepRead : Shape → Query → Place
-stepRead s (atPosition p) = positionStep s (positionAt p)
-stepRead s (inCell cell u) = placeAt u
-stepRead s (atFloats x) = positionStep s (stepsOf x)
+unfoldable pub stepRead : FullShape → Query → Place
+stepRead t (atPosition p) = positionStep t (positionAt p)
+stepRead t (inCell cell u) = placeAt u
+stepRead t (atFloats x) = positionStep t (stepsOf t x)
 
 -- a point of the table: a position per axis, from 0 to that of the last node, 0 on an unused axis
-pub record Point (s : Shape) (p : Position) : Type 0 where
-  pub low : (a : ℕ) → a < s .axes → pos 0 ≤ℤ p a
-  pub high : (a : ℕ) → a < s .axes → p a ≤ℤ pos (steps * (count s a - 1))
-  pub unused : (a : ℕ) → s .axes ≤ a → p a ≡ pos 0
+pub record Point (t : FullShape) (p : Position) : Type 0 where
+  pub low : (a : ℕ) → a < t .shape .axes → pos 0 ≤ℤ p a
+  pub high : (a : ℕ) → a < t .shape .axes → p a ≤ℤ pos (stepsOn t a * (count (t .shape) a - 1))
+  pub unused : (a : ℕ) → t .shape .axes ≤ a → p a ≡ pos 0
 
--- a cell contains a point: on each used axis the position less 256 times the cell's index is u, from 0 to 256
-pub record Contains (s : Shape) (cell u : Place) (p : Position) : Type 0 where
-  pub is : (a : ℕ) → a < s .axes → p a -ℤ pos (steps * cell a) ≡ pos (u a)
-  pub upto : (a : ℕ) → a < s .axes → u a ≤ steps
+-- a cell contains a point: on each used axis the position less the number of steps times the cell's index is u, from 0 to that number
+pub record Contains (t : FullShape) (cell u : Place) (p : Position) : Type 0 where
+  pub is : (a : ℕ) → a < t .shape .axes → p a -ℤ pos (stepsOn t a * cell a) ≡ pos (u a)
+  pub upto : (a : ℕ) → a < t .shape .axes → u a ≤ stepsOn t a
 
 -- ---- the two calls
 
 -- estimation takes the samples, and has room for the records
-abbrev pub AcceptedTable : Shape → List ℤ → List ℤ → Type 0
-AcceptedTable s xs old = estimateOutcome s xs (length old) ≡ done tt
+abbrev pub AcceptedTable : FullShape → List ℤ → List ℤ → Type 0
+AcceptedTable t xs old = estimateOutcome t xs (length old) ≡ done tt
 
 -- estimation of the samples `xs` into the slice `old`, then the query, which is lent exactly the records that estimation wrote
 unfoldable pub bothCalls : FullShape → List ℤ → List ℤ → Want → Query → Outcome ℤ
 bothCalls t xs old want q =
-    let s = t .shape in
-    first (estimateOutcome s xs (length old)) (queried t (take (size s) (estimateWrites s xs old)) want q)
+    first (estimateOutcome t xs (length old)) (queried t (take (size (t .shape)) (estimateWrites t xs old)) want q)
 
 -- ---- distance
 
@@ -105,25 +104,24 @@ abbrev pub WithinDistance : Fraction → ℤ → ℤ → ℕ → Type 0
 WithinDistance f v x y = f .bottom * natAbs (v *ℤ pos y -ℤ x) ≤ f .top * y
 
 -- the question that a query asks of the cell that it reads
-abbrev pub asked : Shape → Want → Query → Ask
-asked s want q = askAt s want (cellRead s q) (stepRead s q)
+abbrev pub asked : FullShape → Want → Query → Ask
+asked t want q = askIn t want (cellRead t q) (stepRead t q)
 
 -- a number that is given lies near the exact interpolant: the exact value at the cell that the query reads, from the records that the rules
 -- under Estimates give
-abbrev pub Distance : Shape → List ℤ → Want → Query → Outcome ℤ → Type 0
-Distance s xs want q given =
+abbrev pub Distance : FullShape → List ℤ → Want → Query → Outcome ℤ → Type 0
+Distance t xs want q given =
     (v : ℤ) → given ≡ done v
-    → WithinDistance (allowedDistance (orderWanted want) (s .axes)) v (exactSum (asked s want q) (tableRecords s xs))
-    (exactDivisor (asked s want q))
+    → WithinDistance (allowedDistance (orderWanted want) (t .shape .axes)) v (exactSum (asked t want q) (tableRecords (t .shape) xs))
+    (exactDivisor (asked t want q))
 
 -- ---- agreement
 
 -- a query of the same table gives the same number, where its cell and the one that q reads contain one point
 abbrev pub Agreement : FullShape → List ℤ → Want → Query → Outcome ℤ → Type 0
 Agreement t xs want q given =
-    let s = t .shape in
     (old : List ℤ) (r : Query) (p : Position) (v w : ℤ)
-    → Contains s (cellRead s q) (stepRead s q) p → Contains s (cellRead s r) (stepRead s r) p
+    → Contains t (cellRead t q) (stepRead t q) p → Contains t (cellRead t r) (stepRead t r) p
     → given ≡ done v → bothCalls t xs old want r ≡ done w → v ≡ w
 
 -- ---- locality
@@ -149,14 +147,17 @@ pub record AgreeOnBlock (s t : Shape) (cell : Place) (xs ys : List ℤ) : Type 0
   pub back : (a : ℕ) → a < s .axes → (i : ℕ) → NearCell (count t a) (cell a) i → i < count s a
   pub samples : (p : Place) → InBlock s cell p → samplesField s xs p ≡ samplesField t ys p
 
--- a query that reads the same cell in two tables of one edition, which agree on its block, has the same answer in both; the tables may
--- differ in size
+-- with the same step numbers and edition
+abbrev pub resized : FullShape → List ℕ → FullShape
+resized t counts = fullShape (recounted (t .shape) counts) (t .steps) (t .«second_edition»)
+
+-- a query that reads the same cell in two tables of the same step numbers and edition, which agree on its block, has the same answer in
+-- both; the tables may differ in size
 abbrev pub Locality : FullShape → List ℤ → List ℤ → Want → Query → Outcome ℤ → Type 0
 Locality t xs old want q given =
-    let s = t .shape in
-    (counts : List ℕ) (ys new : List ℤ) → AcceptedTable s xs old → AcceptedTable (recounted s counts) ys new
-    → AgreeOnBlock s (recounted s counts) (cellRead s q) xs ys → cellRead (recounted s counts) q ≡ cellRead s q
-    → given ≡ bothCalls (fullShape (recounted s counts) (t .«second_edition»)) ys new want q
+    (counts : List ℕ) (ys new : List ℤ) → AcceptedTable t xs old → AcceptedTable (resized t counts) ys new
+    → AgreeOnBlock (t .shape) (recounted (t .shape) counts) (cellRead t q) xs ys → cellRead (resized t counts) q ≡ cellRead t q
+    → given ≡ bothCalls (resized t counts) ys new want q
 
 -- ---- no gap
 
@@ -165,32 +166,32 @@ unfoldable pub Askable : Shape → Want → Type 0
 Askable s dose = Unit {0}
 Askable s (derivativeAlong order l) = (l < s .axes) × Smooth order (orders s)
 
--- a step of the table, or an accepted cell with u from 0 to 256
-unfoldable pub Inside : Shape → Query → Type 0
-Inside s (atPosition p) = Point s (positionAt p)
-Inside s (inCell cell u) = Accepted s (placeAt cell) × OnUsed (s .axes) (λ a i. i ≤ steps) (placeAt u)
-Inside s (atFloats x) = ((a : ℕ) → a < 3 → finite (x a) ≡ true) × Point s (stepsOf x)
+-- a step of the table, or an accepted cell with u from 0 to the number of steps
+unfoldable pub Inside : FullShape → Query → Type 0
+Inside t (atPosition p) = Point t (positionAt p)
+Inside t (inCell cell u) = Accepted (t .shape) (placeAt cell) × OnUsed (t .shape .axes) (λ a i. i ≤ stepsOn t a) (placeAt u)
+Inside t (atFloats x) = ((a : ℕ) → a < 3 → finite (x a) ≡ true) × Point t (stepsOf t x)
 
 -- every such query of an accepted table has an answer
-abbrev pub NoGap : Shape → List ℤ → List ℤ → Want → Query → Outcome ℤ → Type 0
-NoGap s xs old want q given = AcceptedTable s xs old → Askable s want → Inside s q → (v : ℤ) × (given ≡ done v)
+abbrev pub NoGap : FullShape → List ℤ → List ℤ → Want → Query → Outcome ℤ → Type 0
+NoGap t xs old want q given = AcceptedTable t xs old → Askable (t .shape) want → Inside t q → (v : ℤ) × (given ≡ done v)
 
 -- ---- the whole
 
 -- a query that is answered reads an accepted cell, which contains its point
-pub record Reads (s : Shape) (q : Query) : Type 0 where
-  pub point : Point s (pointOf q)
-  pub accepted : Accepted s (cellRead s q)
-  pub contains : Contains s (cellRead s q) (stepRead s q) (pointOf q)
+pub record Reads (t : FullShape) (q : Query) : Type 0 where
+  pub point : Point t (pointOf t q)
+  pub accepted : Accepted (t .shape) (cellRead t q)
+  pub contains : Contains t (cellRead t q) (stepRead t q) (pointOf t q)
 
 -- what is claimed of what the two calls give
 pub record Claimed (t : FullShape) (xs old : List ℤ) (want : Want) (q : Query) (given : Outcome ℤ) : Type 0 where
-  pub reads : (v : ℤ) → given ≡ done v → Reads (t .shape) q
-  pub distance : Distance (t .shape) xs want q given
+  pub reads : (v : ℤ) → given ≡ done v → Reads t q
+  pub distance : Distance t xs want q given
   pub agreement : Agreement t xs want q given
   pub locality : Locality t xs old want q given
-  pub no-gap : NoGap (t .shape) xs old want q given
+  pub no-gap : NoGap t xs old want q given
 
--- for all tables, of both editions, and all queries
+-- for all tables, whatever their step numbers and edition, and all queries
 abbrev pub ThirdDemand : Type 0
 ThirdDemand = (t : FullShape) (xs old : List ℤ) (want : Want) (q : Query) → Claimed t xs old want q (bothCalls t xs old want q)

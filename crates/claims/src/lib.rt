@@ -90,10 +90,10 @@ pub fn estimate_and_ask(
     derivative: Derivative,
 ) -> Reply
     ensures given { λ r. ⌜ Gives (wanted derivative) r (bothCalls t (now (samples .entry)) (now (records .entry)) (wanted derivative) (queryOf q)) ⌝ }
-    ensures written { λ r. ⌜ now (records .exit) ≡ estimateWrites (t .shape) (now (samples .entry)) (now (records .entry)) ⌝ }
+    ensures written { λ r. ⌜ now (records .exit) ≡ estimateWrites t (now (samples .entry)) (now (records .entry)) ⌝ }
     ensures claimed { λ r. ⌜ ((outcome : Outcome ℤ) → Gives (wanted derivative) r outcome → Claimed t (now (samples .entry)) (now (records .entry)) (wanted derivative) (queryOf q) outcome) ⌝ }
 {
-    let answer = estimate::estimate(t.shape, samples, records);
+    let answer = estimate::estimate(t, samples, records);
     match answer {
         Check::Refused(r) => Reply::Refused(r),
         Check::Done => {

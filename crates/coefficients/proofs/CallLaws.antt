@@ -8,14 +8,16 @@ use lib.IntN.{ℤ}
 use lib.ListN.{length}
 use borrow.Author.Tests.{leb-true, eqb-true}
 use Rattle.lattice.specs.declared.Shape.{Shape}
+use Rattle.lattice.specs.declared.FullShape.{FullShape}
 use Rattle.lattice.specs.Outcome.{done, refuseUnless, first}
 use Rattle.lattice.specs.Buffer.{at, tabulate}
 use Rattle.lattice.specs.Digits.{digit}
-use Rattle.lattice.specs.Shape.{orders, entries, size, shapeOutcome, Shaped}
+use Rattle.lattice.specs.Shape.{orders, entries, size, fullOutcome, Shaped}
 use Rattle.lattice.specs.Axes.{Place}
 use Rattle.lattice.specs.Records.{recordsField}
 use Rattle.lattice.proofs.OutcomeLaws.{first-done, refuse-done}
 use Rattle.lattice.proofs.ShapeLaws.{shaped, orders-range}
+use Rattle.lattice.proofs.StepLaws.{full-shape}
 use Rattle.lattice.proofs.BufferLaws.{tabulate-same}
 use Rattle.lattice.proofs.DigitsLaws.{digits-in}
 use Rattle.cell.specs.declared.Layout.{Layout}
@@ -32,17 +34,18 @@ pub record Asked (s : Shape) (given : ℕ) (cell : Place) (room : ℕ) : Type 0 
   pub roomy : coefficientCount (orders s) (s .axes) ≤ room
   pub here : Accepted s cell
 
-pub asked : (s : Shape) (given : ℕ) (xs : List ℕ) (room : ℕ) → requestOutcome s given (placeAt xs) room ≡ done tt
-    → Asked s given (placeAt xs) room
+pub asked : (t : FullShape) (given : ℕ) (xs : List ℕ) (room : ℕ) → requestOutcome t given (placeAt xs) room ≡ done tt
+    → Asked (t .shape) given (placeAt xs) room
 unfolding requestOutcome
-asked s given xs room h =
+asked t given xs room h =
+    let s = t .shape in
     let n = coefficientCount (orders s) (s .axes) in
-    let a = first-done (shapeOutcome s)
+    let a = first-done (fullOutcome t)
     (first (refuseUnless (eqb given (size s)) 4 0) (first (refuseUnless (leb n room) 9 0) (cellOutcome s (placeAt xs)))) tt h in
     let b = first-done (refuseUnless (eqb given (size s)) 4 0) (first (refuseUnless (leb n room) 9 0) (cellOutcome s (placeAt xs))) tt
     (a .1) in
     let c = first-done (refuseUnless (leb n room) 9 0) (cellOutcome s (placeAt xs)) tt (b .1) in
-    let ok = shaped s (a .0) in
+    let ok = shaped s (full-shape t (a .0)) in
     record {
       shape = ok;
       many = eqb-true given (size s) (refuse-done (eqb given (size s)) 4 0 (b .0));

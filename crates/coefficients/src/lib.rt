@@ -19,6 +19,7 @@ ghost use Rattle.coefficients.specs.Coefficients.{requestOutcome, coeffi
 ghost use Rattle.coefficients.specs.Blocks.{Sizes, RowOf, endSign, blockSign, signedRecord, coefficientNumber, coefficientIndex, cellCoefficient, solvedBlock, AllWithin, StartsWith, scatter, cornerAt, Filled, Gathered};
 use cell::Layout;
 use lattice::Check;
+use lattice::FullShape;
 use lattice::Shape;
 
 // Listings 1 to 4 of the source: FullSolve is `fill`, BlockSolve `block_solve`; on axis 0 of a corner b0 is its end,
@@ -392,37 +393,37 @@ fn check_sizes(s: Shape, given: usize, room: usize) -> Check
     lattice::earlier(whole, lattice::refuse_unless(count <= room, 9, 0))
 }
 
-// 1, 2, 3, 4, 9, 14.
-pub fn check_request(s: Shape, given: usize, cell: [u32; 3], room: usize) -> Check
-    ensures { λ r. ⌜ outcomeOf r ≡ requestOutcome s given (placeAt cell) room ⌝ }
+// 1, 2, 3, 26, 4, 9, 14.
+pub fn check_request(t: FullShape, given: usize, cell: [u32; 3], room: usize) -> Check
+    ensures { λ r. ⌜ outcomeOf r ≡ requestOutcome t given (placeAt cell) room ⌝ }
 {
-    let shape = lattice::check_shape(s);
+    let shape = lattice::check_full(t);
     if let Check::Refused(_) = shape {
         return shape;
     }
-    let sizes = check_sizes(s, given, room);
+    let sizes = check_sizes(t.shape, given, room);
     lattice::earlier(
         sizes,
-        cell::check_cell(s.axes, s, cell[0], cell[1], cell[2]),
+        cell::check_cell(t.shape.axes, t.shape, cell[0], cell[1], cell[2]),
     )
 }
 
 // The coefficients of a cell to the front of `out`.
-pub fn coefficients(s: Shape, records: &[i32], cell: [u32; 3], out: &mut [i32]) -> Check
-    ensures { λ r. ⌜ outcomeOf r ≡ coefficientsOutcome s (now (records .entry)) (placeAt cell) (length (now (out .entry))) ⌝ }
-    ensures { λ _. ⌜ now (out .exit) ≡ coefficientsWrites s (now (records .entry)) (placeAt cell) (now (out .entry)) ⌝ }
+pub fn coefficients(t: FullShape, records: &[i32], cell: [u32; 3], out: &mut [i32]) -> Check
+    ensures { λ r. ⌜ outcomeOf r ≡ coefficientsOutcome t (now (records .entry)) (placeAt cell) (length (now (out .entry))) ⌝ }
+    ensures { λ _. ⌜ now (out .exit) ≡ coefficientsWrites t (now (records .entry)) (placeAt cell) (now (out .entry)) ⌝ }
 {
-    let asked = check_request(s, records.len(), cell, out.len());
+    let asked = check_request(t, records.len(), cell, out.len());
     if let Check::Refused(_) = asked {
         return asked;
     }
-    let l = cell::layout_of(s, cell);
-    let tested = cell::check_corners(s, records, cell, l);
+    let l = cell::layout_of(t.shape, cell);
+    let tested = cell::check_corners(t.shape, records, cell, l);
     if let Check::Refused(_) = tested {
         return tested;
     }
-    let n = s.axes as usize;
+    let n = t.shape.axes as usize;
     let xs = filled(n, power(2, n), l, records);
-    copy_out(coefficient_count(s.axes, s.degree), &xs, out);
+    copy_out(coefficient_count(t.shape.axes, t.shape.degree), &xs, out);
     tested
 }

@@ -1,6 +1,7 @@
 -- The two calls, one after the other: the corner records of a cell are permitted and have the coefficients that forward writes; the records
 -- that back writes, taken as the table of one cell, have the coefficients that back was lent.
 use mathlib.Core.Path.{_≡_, sym, subst, _∙_}
+use mathlib.Core.Bool.{Bool}
 use mathlib.Core.List.{List}
 use Prim.Native.Nat.{ℕ, _^_, _≤_, _<_}
 use lib.Dec.{leb, eqb}
@@ -8,13 +9,15 @@ use lib.IntN.{ℤ, natAbs}
 use lib.ListN.{length}
 use borrow.Author.Tests.{le-leb, eq-eqb}
 use Rattle.lattice.specs.declared.Shape.{Shape}
+use Rattle.lattice.specs.declared.FullShape.{FullShape}
 use Rattle.lattice.specs.Outcome.{done, refuseUnless, first}
 use Rattle.lattice.specs.Buffer.{at}
-use Rattle.lattice.specs.Shape.{ordersOf, orders, size, count, axesOutcome, degreeOutcome, countsOutcome, shapeOutcome, Shaped}
+use Rattle.lattice.specs.Shape.{ordersOf, orders, size, count, axesOutcome, degreeOutcome, countsOutcome, shapeOutcome, fullShape, stepsOn, stepNumbersOutcome, fullOutcome, Shaped}
 use Rattle.lattice.specs.Axes.{Place, origin}
 use Rattle.lattice.specs.Records.{recordsField, entryLimit}
 use Rattle.lattice.proofs.OutcomeLaws.{first-done, first-passed, passes}
 use Rattle.lattice.proofs.ShapeLaws.{axes-range, orders-range}
+use Rattle.lattice.proofs.StepLaws.{full-shape}
 use Rattle.cell.specs.Cell.{placeAt, cornerPlace, cornersOutcome, Accepted}
 use Rattle.cell.specs.Coefficients.{coefficientCount}
 use Rattle.cell.specs.Corners.{cornerNumbers, cornerRecords, oneCell}
@@ -28,23 +31,26 @@ use Rattle.corners.proofs.Possible.{entries-many, within, back-of-forwa
 use Rattle.corners.proofs.CallLaws.{Numbered, numbered}
 
 -- forward that is not refused
-module _ (s : Shape) (rs : List ℤ) (xs : List ℕ) (room : ℕ) (passed : coefficientsOutcome s rs (placeAt xs) room ≡ done tt) where
+module _ (t : FullShape) (rs : List ℤ) (xs : List ℕ) (room : ℕ) (passed : coefficientsOutcome t rs (placeAt xs) room ≡ done tt) where
+  abbrev s : Shape
+  s = t .shape
+
   range : (2 ≤ orders s) × (orders s ≤ 3)
   range = orders-range (s .degree)
 
-  parts : (requestOutcome s (length rs) (placeAt xs) room ≡ done tt) × (cornersOutcome s rs (placeAt xs) ≡ done tt)
+  parts : (requestOutcome t (length rs) (placeAt xs) room ≡ done tt) × (cornersOutcome s rs (placeAt xs) ≡ done tt)
   unfolding coefficientsOutcome
-  parts = first-done (requestOutcome s (length rs) (placeAt xs) room) (cornersOutcome s rs (placeAt xs)) tt passed
+  parts = first-done (requestOutcome t (length rs) (placeAt xs) room) (cornersOutcome s rs (placeAt xs)) tt passed
 
   kind : (axesOutcome (s .axes) ≡ done tt) × (degreeOutcome (s .degree) ≡ done tt)
   unfolding requestOutcome shapeOutcome
   kind =
       let a = first-done (axesOutcome (s .axes)) (first (degreeOutcome (s .degree)) (countsOutcome (s .axes) (count s))) tt
-      (first-done (shapeOutcome s) _ tt (parts .0) .0) in
+      (full-shape t (first-done (fullOutcome t) _ tt (parts .0) .0)) in
       (a .0, first-done (degreeOutcome (s .degree)) (countsOutcome (s .axes) (count s)) tt (a .1) .0)
 
   facts : Asked s (length rs) (placeAt xs) room
-  facts = asked s (length rs) xs room (parts .0)
+  facts = asked t (length rs) xs room (parts .0)
 
   -- what the forward call writes
   abbrev written : List ℤ
@@ -104,46 +110,51 @@ module _ (n degree : ℕ) (cs : List ℤ) (room : ℕ) (passed : backOutcome n d
   abbrev records : List ℤ
   records = entryList (ordersOf degree) n cs
 
-  -- forward of them is not refused and gives the coefficients
-  abbrev Forward : ℕ → Place → Type 0
-  Forward room′ cell =
-      (coefficientsOutcome (oneCell n degree) records cell room′ ≡ done tt)
-      × (coefficientList (ordersOf degree) n cell (recordsField (oneCell n degree) records) ≡ cs)
+  -- as the table of one cell, with any step numbers that are allowed: forward is not refused and gives the coefficients
+  module _ (steps : List ℕ) (e : Bool) (allowed : stepNumbersOutcome n (stepsOn (fullShape (oneCell n degree) steps e)) ≡ done tt) where
+    abbrev t : FullShape
+    t = fullShape (oneCell n degree) steps e
 
-  forward-of-records : (room′ : ℕ) → coefficientCount (ordersOf degree) n ≤ room′ → Forward room′ origin
-  unfolding oneCell coefficientsOutcome requestOutcome
-  forward-of-records room′ fits = (
-    first-passed (requestOutcome s (length records) origin room′) (cornersOutcome s records origin) asked-done
-        ∙ corners-accepted s ok origin here records (λ i l.
-        subst (λ z. natAbs z ≤ entryLimit (ordersOf degree) n (cornerNumbers (ordersOf degree) n i)) (sym (entry-is i l))
-        (back-permitted (ordersOf degree) n (range-back .0) (range-back .1) cs (numbers .many) (parts-back .1) .within i l)),
-    list-same s ok origin here records records entry-is
-        ∙ forward-of-back (ordersOf degree) n (range-back .0) (range-back .1) cs (numbers .many) (parts-back .1) .are,
-  )
-    where
-      s : Shape
-      s = oneCell n degree
+    abbrev Forward : ℕ → Place → Type 0
+    Forward room′ cell =
+        (coefficientsOutcome t records cell room′ ≡ done tt)
+        × (coefficientList (ordersOf degree) n cell (recordsField (oneCell n degree) records) ≡ cs)
 
-      ok : Shaped s
-      ok = one-shaped n degree (range-axes .0) (range-axes .1)
+    forward-of-records : (room′ : ℕ) → coefficientCount (ordersOf degree) n ≤ room′ → Forward room′ origin
+    unfolding oneCell coefficientsOutcome requestOutcome fullOutcome
+    forward-of-records room′ fits = (
+      first-passed (requestOutcome t (length records) origin room′) (cornersOutcome s records origin) asked-done
+          ∙ corners-accepted s ok origin here records (λ i l.
+          subst (λ z. natAbs z ≤ entryLimit (ordersOf degree) n (cornerNumbers (ordersOf degree) n i)) (sym (entry-is i l))
+          (back-permitted (ordersOf degree) n (range-back .0) (range-back .1) cs (numbers .many) (parts-back .1) .within i l)),
+      list-same s ok origin here records records entry-is
+          ∙ forward-of-back (ordersOf degree) n (range-back .0) (range-back .1) cs (numbers .many) (parts-back .1) .are,
+    )
+      where
+        s : Shape
+        s = oneCell n degree
 
-      here : Accepted s origin
-      here = one-accepted n degree (range-axes .0) (range-axes .1)
+        ok : Shaped s
+        ok = one-shaped n degree (range-axes .0) (range-axes .1)
 
-      entry-is : (i : ℕ) → i < coefficientCount (ordersOf degree) n → recordsField s records (cornerPlace s origin i) ≡ at records i
-      entry-is = one-entry n degree (range-axes .0) (range-axes .1) records
+        here : Accepted s origin
+        here = one-accepted n degree (range-axes .0) (range-axes .1)
 
-      many : length records ≡ size s
-      many = entries-many (ordersOf degree) n (range-back .0) (range-back .1) cs ∙ sym (one-size n degree (range-axes .0) (range-axes .1))
+        entry-is : (i : ℕ) → i < coefficientCount (ordersOf degree) n → recordsField s records (cornerPlace s origin i) ≡ at records i
+        entry-is = one-entry n degree (range-axes .0) (range-axes .1) records
 
-      asked-done : requestOutcome s (length records) origin room′ ≡ done tt
-      asked-done =
-          first-passed (shapeOutcome s) _ (one-shape n degree (range-axes .0) (range-axes .1) (numbers .degree-done))
-          ∙ first-passed (refuseUnless (eqb (length records) (size s)) 4 0) _
-          (passes (eqb (length records) (size s)) 4 0 (eq-eqb (length records) (size s) many))
-          ∙ first-passed (refuseUnless (leb (coefficientCount (ordersOf degree) n) room′) 9 0) _
-          (passes (leb (coefficientCount (ordersOf degree) n) room′) 9 0 (le-leb (coefficientCount (ordersOf degree) n) room′ fits))
-          ∙ one-cell n degree (range-axes .0) (range-axes .1)
+        many : length records ≡ size s
+        many = entries-many (ordersOf degree) n (range-back .0) (range-back .1) cs ∙ sym (one-size n degree (range-axes .0) (range-axes .1))
 
-  pub forward-of-written : (room′ : ℕ) → coefficientCount (ordersOf degree) n ≤ room′ → Forward room′ (placeAt onlyCell)
-  forward-of-written room′ fits = subst (Forward room′) (sym only-cell) (forward-of-records room′ fits)
+        asked-done : requestOutcome t (length records) origin room′ ≡ done tt
+        asked-done =
+            first-passed (fullOutcome t) _
+            (first-passed (shapeOutcome s) _ (one-shape n degree (range-axes .0) (range-axes .1) (numbers .degree-done)) ∙ allowed)
+            ∙ first-passed (refuseUnless (eqb (length records) (size s)) 4 0) _
+            (passes (eqb (length records) (size s)) 4 0 (eq-eqb (length records) (size s) many))
+            ∙ first-passed (refuseUnless (leb (coefficientCount (ordersOf degree) n) room′) 9 0) _
+            (passes (leb (coefficientCount (ordersOf degree) n) room′) 9 0 (le-leb (coefficientCount (ordersOf degree) n) room′ fits))
+            ∙ one-cell n degree (range-axes .0) (range-axes .1)
+
+    pub forward-of-written : (room′ : ℕ) → coefficientCount (ordersOf degree) n ≤ room′ → Forward room′ (placeAt onlyCell)
+    forward-of-written room′ fits = subst (Forward room′) (sym only-cell) (forward-of-records room′ fits)

@@ -1,14 +1,15 @@
 -- The second demand, for both degrees and 1, 2 or 3 axes.
 use mathlib.Core.Path.{_≡_, sym, ap, _∙_}
+use mathlib.Core.Bool.{Bool}
 use mathlib.Core.List.{List}
 use mathlib.Core.Logic.{_⊎_, ⊎-elim, _↔_}
 use Prim.Native.Nat.{ℕ, _^_, _≤_, _<_}
 use lib.IntN.{ℤ, natAbs}
 use lib.ListN.{length}
-use Rattle.lattice.specs.declared.Shape.{Shape}
+use Rattle.lattice.specs.declared.FullShape.{FullShape}
 use Rattle.lattice.specs.Outcome.{done, refused}
 use Rattle.lattice.specs.Buffer.{at, overwrite}
-use Rattle.lattice.specs.Shape.{ordersOf, orders, axesOutcome, degreeOutcome}
+use Rattle.lattice.specs.Shape.{fullShape, ordersOf, orders, stepsOn, axesOutcome, degreeOutcome, stepNumbersOutcome}
 use Rattle.lattice.specs.Records.{recordsField}
 use Rattle.lattice.proofs.ShapeLaws.{orders-range}
 use Rattle.lattice.proofs.OutcomeLaws.{when-done, done-refused}
@@ -90,22 +91,25 @@ module _ (n degree : ℕ) (axes-ok : axesOutcome n ≡ done tt) (degree-ok : deg
 -- ---- the two calls, one after the other
 
 -- what forward writes lies within ±2^30
-pub written-coefficients : (s : Shape) (rs : List ℤ) (cell : List ℕ) (room : ℕ) → coefficientsOutcome s rs (placeAt cell) room ≡ done tt
-    → (K : ℕ) → K < coefficientCount (orders s) (s .axes)
-    → natAbs (at (coefficientList (orders s) (s .axes) (placeAt cell) (recordsField s rs)) K) ≤ 2 ^ 30
+pub written-coefficients : (t : FullShape) (rs : List ℤ) (cell : List ℕ) (room : ℕ)
+    → coefficientsOutcome t rs (placeAt cell) room ≡ done tt → (K : ℕ) → K < coefficientCount (orders (t .shape)) (t .shape .axes)
+    → natAbs (at (coefficientList (orders (t .shape)) (t .shape .axes) (placeAt cell) (recordsField (t .shape) rs)) K) ≤ 2 ^ 30
 written-coefficients = written-within
 
 -- back of what forward writes is not refused and writes the cell's corner records
-pub forward-then-back : (s : Shape) (rs : List ℤ) (cell : List ℕ) (room : ℕ) → coefficientsOutcome s rs (placeAt cell) room ≡ done tt
-    → (room′ : ℕ) → coefficientCount (orders s) (s .axes) ≤ room′
+pub forward-then-back : (t : FullShape) (rs : List ℤ) (cell : List ℕ) (room : ℕ)
+    → coefficientsOutcome t rs (placeAt cell) room ≡ done tt
+    → (room′ : ℕ) → let s = t .shape in
+    coefficientCount (orders s) (s .axes) ≤ room′
     → (backOutcome (s .axes) (s .degree) (coefficientList (orders s) (s .axes) (placeAt cell) (recordsField s rs)) room′ ≡ done tt)
     × (entryList (orders s) (s .axes) (coefficientList (orders s) (s .axes) (placeAt cell) (recordsField s rs))
     ≡ cornerRecords s rs (placeAt cell))
 forward-then-back = back-of-written
 
--- forward of what back writes, as the table of one cell, is not refused and writes the coefficients
-pub back-then-forward : (n degree : ℕ) (cs : List ℤ) (room : ℕ) → backOutcome n degree cs room ≡ done tt → (room′ : ℕ)
+-- forward of what back writes, as the table of one cell with any step numbers that are allowed, is not refused and writes the coefficients
+pub back-then-forward : (n degree : ℕ) (cs : List ℤ) (room : ℕ) → backOutcome n degree cs room ≡ done tt
+    → (steps : List ℕ) (e : Bool) → stepNumbersOutcome n (stepsOn (fullShape (oneCell n degree) steps e)) ≡ done tt → (room′ : ℕ)
     → coefficientCount (ordersOf degree) n ≤ room′
-    → (coefficientsOutcome (oneCell n degree) (entryList (ordersOf degree) n cs) (placeAt onlyCell) room′ ≡ done tt)
+    → (coefficientsOutcome (fullShape (oneCell n degree) steps e) (entryList (ordersOf degree) n cs) (placeAt onlyCell) room′ ≡ done tt)
     × (coefficientList (ordersOf degree) n (placeAt onlyCell) (recordsField (oneCell n degree) (entryList (ordersOf degree) n cs)) ≡ cs)
 back-then-forward = forward-of-written

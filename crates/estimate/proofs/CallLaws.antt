@@ -8,13 +8,15 @@ use lib.IntN.{ℤ, pos, natAbs}
 use lib.ListN.{length}
 use borrow.Author.Tests.{leb-true, eqb-true}
 use Rattle.lattice.specs.declared.Shape.{Shape}
+use Rattle.lattice.specs.declared.FullShape.{FullShape}
 use Rattle.lattice.specs.Outcome.{Check, done, refuseUnless, first}
-use Rattle.lattice.specs.Shape.{count, orders, nodes, size, shapeOutcome}
+use Rattle.lattice.specs.Shape.{count, orders, nodes, size, fullOutcome}
 use Rattle.lattice.specs.Axes.{Place}
 use Rattle.lattice.specs.Records.{samplesField, recordsField, entryIndex, entryPlace, totalOrder, sampleLimit, entryLimit, limitOutcome}
 use Rattle.lattice.proofs.OutcomeLaws.{first-done, refuse-done}
 use Rattle.lattice.proofs.BufferLaws.{length-tabulate, getD-tabulate}
 use Rattle.lattice.proofs.ShapeLaws.{shaped, nodes-is}
+use Rattle.lattice.proofs.StepLaws.{full-shape}
 use Rattle.lattice.proofs.RecordsLaws.{InTable, index-below, place-back, limit-each}
 use Rattle.estimate.specs.Estimate.{tableRecords, recordsOf, estimateLimit, estimateOutcome, Estimable}
 use Rattle.estimate.specs.Passes.{gridOf, Samples}
@@ -23,21 +25,35 @@ use Rattle.estimate.proofs.RowsLaws.{grids}
 
 -- ---- a table that estimation takes
 
-pub estimated : (s : Shape) (xs : List ℤ) (room : ℕ) → estimateOutcome s xs room ≡ done tt → Estimable s xs room
-unfolding estimateOutcome
-estimated s xs room h =
-    let last : Check = limitOutcome 19 (estimateLimit (s .axes)) xs in
-    let fits : Check = first (refuseUnless (leb (size s) room) 9 0) last in
-    let a = first-done (shapeOutcome s) (first (refuseUnless (eqb (length xs) (nodes s)) 4 0) fits) tt h in
-    let b = first-done (refuseUnless (eqb (length xs) (nodes s)) 4 0) fits tt (a .1) in
-    let c = first-done (refuseUnless (leb (size s) room) 9 0) last tt (b .1) in
-    record {
-      passed = a .0;
-      shape = shaped s (a .0);
-      whole = eqb-true (length xs) (nodes s) (refuse-done (eqb (length xs) (nodes s)) 4 0 (b .0));
-      small = limit-each 19 (estimateLimit (s .axes)) xs (c .1);
-      fits = leb-true (size s) room (refuse-done (leb (size s) room) 9 0 (c .0));
-    }
+module _ (t : FullShape) (xs : List ℤ) (room : ℕ) (h : estimateOutcome t xs room ≡ done tt) where
+  abbrev s : Shape
+  s = t .shape
+
+  abbrev many : Check
+  many = refuseUnless (eqb (length xs) (nodes s)) 4 0
+
+  abbrev roomy : Check
+  roomy = refuseUnless (leb (size s) room) 9 0
+
+  abbrev small : Check
+  small = limitOutcome 19 (estimateLimit (s .axes)) xs
+
+  pub estimated-full : fullOutcome t ≡ done tt
+  unfolding estimateOutcome
+  estimated-full = first-done (fullOutcome t) (first many (first roomy small)) tt h .0
+
+  pub estimated : Estimable (t .shape) xs room
+  unfolding estimateOutcome
+  estimated =
+      let a = first-done (fullOutcome t) (first many (first roomy small)) tt h in
+      let b = first-done many (first roomy small) tt (a .1) in
+      let c = first-done roomy small tt (b .1) in
+      record {
+        shape = shaped s (full-shape t (a .0));
+        whole = eqb-true (length xs) (nodes s) (refuse-done (eqb (length xs) (nodes s)) 4 0 (b .0));
+        small = limit-each 19 (estimateLimit (s .axes)) xs (c .1);
+        fits = leb-true (size s) room (refuse-done (leb (size s) room) 9 0 (c .0));
+      }
 
 -- the limit, doubled once an axis, is within that of samples
 limit-doubled : (n : ℕ) → estimateLimit n * 2 ^ n ≤ sampleLimit

@@ -7,9 +7,10 @@ use lib.IntN.{ℤ, pos, _+ℤ_, _-ℤ_, _*ℤ_, natAbs}
 use lib.ListN.{length}
 use Rattle.arith.specs.Choice.{pick}
 use Rattle.lattice.specs.declared.Shape.{Shape}
-use Rattle.lattice.specs.Outcome.{Check, done, refuseUnless, first, whenDone}
+use Rattle.lattice.specs.declared.FullShape.{FullShape}
+use Rattle.lattice.specs.Outcome.{Check, refuseUnless, first, whenDone}
 use Rattle.lattice.specs.Buffer.{at, tabulate, overwrite}
-use Rattle.lattice.specs.Shape.{count, orders, nodes, size, shapeOutcome, Shaped}
+use Rattle.lattice.specs.Shape.{count, orders, nodes, size, fullOutcome, Shaped}
 use Rattle.lattice.specs.Axes.{Field, Rule, sweep, axes}
 use Rattle.lattice.specs.Records.{samplesField, entryPlace, sampleLimit, limitOutcome}
 
@@ -54,20 +55,19 @@ recordsOf s xs = tabulate (size s) (λ i. tableRecords s xs (entryPlace s i))
 unfoldable pub estimateLimit : ℕ → ℕ
 estimateLimit n = sampleLimit / 2 ^ n
 
--- 1, 2, 3, then 4, 9, 19
-unfoldable pub estimateOutcome : Shape → List ℤ → ℕ → Check
-estimateOutcome s xs room =
-    first (shapeOutcome s)
-    (first (refuseUnless (eqb (length xs) (nodes s)) 4 0)
-    (first (refuseUnless (leb (size s) room) 9 0) (limitOutcome 19 (estimateLimit (s .axes)) xs)))
+-- 1, 2, 3, 26, then 4, 9, 19
+unfoldable pub estimateOutcome : FullShape → List ℤ → ℕ → Check
+estimateOutcome t xs room =
+    first (fullOutcome t)
+    (first (refuseUnless (eqb (length xs) (nodes (t .shape))) 4 0)
+    (first (refuseUnless (leb (size (t .shape)) room) 9 0) (limitOutcome 19 (estimateLimit (t .shape .axes)) xs)))
 
 -- what the records slice holds afterwards
-unfoldable pub estimateWrites : Shape → List ℤ → List ℤ → List ℤ
-estimateWrites s xs old = whenDone (estimateOutcome s xs (length old)) (overwrite (recordsOf s xs) old) old
+unfoldable pub estimateWrites : FullShape → List ℤ → List ℤ → List ℤ
+estimateWrites t xs old = whenDone (estimateOutcome t xs (length old)) (overwrite (recordsOf (t .shape) xs) old) old
 
 -- the facts of a table that estimation takes
 pub record Estimable (s : Shape) (xs : List ℤ) (room : ℕ) : Type 0 where
-  pub passed : shapeOutcome s ≡ done tt
   pub shape : Shaped s
   pub whole : length xs ≡ nodes s
   pub small : (i : ℕ) → natAbs (at xs i) ≤ estimateLimit (s .axes)

@@ -10,6 +10,7 @@ ghost use Rattle.lattice.specs.Records.{limitOutcome};
 ghost use Rattle.estimate.specs.Estimate.{byOrder, recordsOf, estimateLimit, estimateOutcome, estimateWrites, Estimable};
 ghost use Rattle.estimate.specs.Passes.{passLimit, placed, since, before, behind, atBorder, passOf, ordersOn, gridOf, rowStart, rowZ, rowYZ, rowOf, planeSize, planeOf, planesOf, OrderCount, Read, Rows, Grids, Samples, Ring};
 use lattice::Check;
+use lattice::FullShape;
 use lattice::Shape;
 
 // The node counts, and the numbers that a record holds along each axis: 1 along an unused one.
@@ -359,17 +360,17 @@ fn check_samples(xs: &[i32], limit: u64) -> Check
     lattice::check_limit(xs, limit, 19)
 }
 
-// Every refusal of estimation: 1, 2, 3, then 4, 9, 19. No sample is read before the lengths are right.
-pub fn check_estimate(s: Shape, samples: &[i32], room: usize) -> Check
-    ensures { λ r. ⌜ outcomeOf r ≡ estimateOutcome s (now (samples .entry)) room ⌝ }
+// Every refusal of estimation: 1, 2, 3, 26, then 4, 9, 19. No sample is read before the lengths are right.
+pub fn check_estimate(t: FullShape, samples: &[i32], room: usize) -> Check
+    ensures { λ r. ⌜ outcomeOf r ≡ estimateOutcome t (now (samples .entry)) room ⌝ }
 {
-    let shape = lattice::check_shape(s);
+    let shape = lattice::check_full(t);
     if let Check::Refused(_) = shape {
         return shape;
     }
     let given = samples.len();
-    let nodes = lattice::node_count(s);
-    let entries = lattice::table_entries(s);
+    let nodes = lattice::node_count(t.shape);
+    let entries = lattice::table_entries(t.shape);
     let counted = lattice::refuse_unless(given == nodes, 4, 0);
     if let Check::Refused(_) = counted {
         return counted;
@@ -378,17 +379,17 @@ pub fn check_estimate(s: Shape, samples: &[i32], room: usize) -> Check
     if let Check::Refused(_) = roomy {
         return roomy;
     }
-    check_samples(samples, estimate_limit(s.axes))
+    check_samples(samples, estimate_limit(t.shape.axes))
 }
 
 // Estimation: all records of a table from its samples.
-pub fn estimate(s: Shape, samples: &[i32], records: &mut [i32]) -> Check
-    ensures answer { λ r. ⌜ outcomeOf r ≡ estimateOutcome s (now (samples .entry)) (length (now (records .entry))) ⌝ }
-    ensures written { λ r. ⌜ now (records .exit) ≡ estimateWrites s (now (samples .entry)) (now (records .entry)) ⌝ }
+pub fn estimate(t: FullShape, samples: &[i32], records: &mut [i32]) -> Check
+    ensures answer { λ r. ⌜ outcomeOf r ≡ estimateOutcome t (now (samples .entry)) (length (now (records .entry))) ⌝ }
+    ensures written { λ r. ⌜ now (records .exit) ≡ estimateWrites t (now (samples .entry)) (now (records .entry)) ⌝ }
 {
-    let answer = check_estimate(s, samples, records.len());
+    let answer = check_estimate(t, samples, records.len());
     if let Check::Done = answer {
-        fill_records(s, samples, records);
+        fill_records(t.shape, samples, records);
     }
     answer
 }

@@ -1,7 +1,6 @@
 -- The records that estimation wrote, as a query reads them at the corners of an accepted cell: they are those of the rules, within their
 -- limits, and the query gives the stages' number.
 use mathlib.Core.Path.{_≡_, sym, ap, _∙_}
-use mathlib.Core.Bool.{Bool}
 use mathlib.Core.List.{List}
 use Prim.Native.Nat.{ℕ, _+_, _/_, _≤_, _<_}
 use native.Mathlib.Nat.{le-trans, le-of-eq, zero-div}
@@ -9,13 +8,13 @@ use native.Mathlib.Omega.{arith}
 use lib.ListN.{length, take, drop, length-append}
 use lib.Seq.{take-at}
 use lib.IntN.{ℤ, natAbs}
-use Rattle.arith.specs.Int.{roundingOf}
 use Rattle.arith.proofs.Choices.{by-m}
 use Rattle.lattice.specs.declared.Shape.{Shape}
+use Rattle.lattice.specs.declared.FullShape.{FullShape}
 use Rattle.lattice.specs.Outcome.{done}
 use Rattle.lattice.specs.Buffer.{overwrite}
-use Rattle.lattice.specs.Shape.{fullShape, count, orders, size}
-use Rattle.lattice.specs.Axes.{Place}
+use Rattle.lattice.specs.Shape.{roundingIn, count, orders, size}
+use Rattle.lattice.specs.Axes.{Place, Field}
 use Rattle.lattice.specs.Records.{recordsField, entryLimit}
 use Rattle.lattice.proofs.OutcomeLaws.{first-passed, when-done}
 use Rattle.lattice.proofs.ShapeLaws.{orders-range}
@@ -24,21 +23,24 @@ use Rattle.cell.specs.Cell.{Accepted, AtEnds, InCorners, cornersOutcome}
 use Rattle.cell.proofs.CornerLaws.{corners-pass}
 use Rattle.estimate.specs.Estimate.{Estimable, tableRecords, recordsOf, estimateOutcome, estimateWrites}
 use Rattle.estimate.proofs.CallLaws.{records-length, read-back, entry-limit}
-use Rattle.evaluate.specs.Evaluate.{Want, lastAxis, answerBy, askAt}
+use Rattle.evaluate.specs.Evaluate.{Want, lastAxis, answerBy}
 use Rattle.evaluate.proofs.AnswerLaws.{answer-local}
-use Rattle.query.specs.Queries.{reading}
+use Rattle.query.specs.Queries.{reading, askIn}
 
 -- ---- the slice that the query is lent
 
-module _ (s : Shape) (xs old : List ℤ) (taken : estimateOutcome s xs (length old) ≡ done tt) where
-  written : estimateWrites s xs old ≡ overwrite (recordsOf s xs) old
+module _ (t : FullShape) (xs old : List ℤ) (taken : estimateOutcome t xs (length old) ≡ done tt) where
+  abbrev s : Shape
+  s = t .shape
+
+  written : estimateWrites t xs old ≡ overwrite (recordsOf s xs) old
   unfolding estimateWrites
   written = sym (when-done (overwrite (recordsOf s xs) old) old taken)
 
-  pub lent : take (size s) (estimateWrites s xs old) ≡ recordsOf s xs
+  pub lent : take (size s) (estimateWrites t xs old) ≡ recordsOf s xs
   lent = ap (take (size s)) written ∙ take-at (recordsOf s xs) (drop (length (recordsOf s xs)) old) (size s) (records-length s xs)
 
-  pub lent-room : size s ≤ length (estimateWrites s xs old)
+  pub lent-room : size s ≤ length (estimateWrites t xs old)
   lent-room = rw written (simp length-append (let e = records-length s xs in omega arith))
 
 -- ---- the corners of an accepted cell
@@ -71,13 +73,23 @@ module _ (s : Shape) (xs : List ℤ) (room : ℕ) (e : Estimable s xs room) (cel
   pub corners-done : cornersOutcome s (recordsOf s xs) cell ≡ done tt
   corners-done = corners-pass s (recordsOf s xs) cell field-within (e .shape) here
 
-  -- what a query reads there
-  pub reading-is : (even : Bool) (want : Want) (step : Place) → lastAxis (s .axes) want < s .axes
-      → reading (fullShape s even) (recordsOf s xs) want cell step
-      ≡ done (answerBy (roundingOf even) (askAt s want cell step) (tableRecords s xs))
-  unfolding reading askAt
-  reading-is even want step last =
-      first-passed (cornersOutcome s (recordsOf s xs) cell)
-      (done (answerBy (roundingOf even) (askAt s want cell step) (recordsField s (recordsOf s xs)))) corners-done
-      ∙ ap done (answer-local (roundingOf even) (askAt s want cell step) last (recordsField s (recordsOf s xs)) (tableRecords s xs)
-      field-same)
+-- what a query reads there
+module _ (t : FullShape) (xs : List ℤ) (room : ℕ) (e : Estimable (t .shape) xs room) (cell : Place) (here : Accepted (t .shape) cell) where
+  abbrev records : Field
+  records = recordsField (t .shape) (recordsOf (t .shape) xs)
+
+  pub answer-same : (want : Want) (step : Place) → lastAxis (t .shape .axes) want < t .shape .axes
+      → answerBy (roundingIn t) (askIn t want cell step) records
+      ≡ answerBy (roundingIn t) (askIn t want cell step) (tableRecords (t .shape) xs)
+  answer-same want step last =
+      answer-local (roundingIn t) (askIn t want cell step) last records (tableRecords (t .shape) xs)
+      (field-same (t .shape) xs room e cell here)
+
+  pub reading-is : (want : Want) (step : Place) → lastAxis (t .shape .axes) want < t .shape .axes
+      → reading t (recordsOf (t .shape) xs) want cell step
+      ≡ done (answerBy (roundingIn t) (askIn t want cell step) (tableRecords (t .shape) xs))
+  unfolding reading
+  reading-is want step last =
+      first-passed (cornersOutcome (t .shape) (recordsOf (t .shape) xs) cell)
+      (done (answerBy (roundingIn t) (askIn t want cell step) records)) (corners-done (t .shape) xs room e cell here)
+      ∙ ap done (answer-same want step last)

@@ -1,5 +1,6 @@
 pub mod Exact
 pub mod AnswerLaws
+pub mod Scaled
 pub mod EndLaws
 pub mod Parts
 pub mod Sizes

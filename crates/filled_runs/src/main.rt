@@ -3,6 +3,7 @@ ghost use mathlib.Core.Path.{_≡_};
 ghost use Prim.Native.Nat.{_<_, _≤_};
 ghost use lib.ListN.{length};
 use lattice::Check;
+use lattice::FullShape;
 use lattice::Shape;
 use libc::STDOUT_FILENO;
 
@@ -57,41 +58,41 @@ fn print_line(s: Shape, k: usize, xs: &[i32; 216]) {
 }
 
 // The line of k corners of the table of one cell.
-fn run(s: Shape, k: usize, records: &[i32]) {
+fn run(t: FullShape, k: usize, records: &[i32]) {
     let cell = [0u32; 3];
-    let asked = coefficients::check_request(s, records.len(), cell, 216);
+    let asked = coefficients::check_request(t, records.len(), cell, 216);
     if let Check::Refused(_) = asked {
         return;
     }
-    let l = cell::layout_of(s, cell);
-    let tested = cell::check_corners(s, records, cell, l);
+    let l = cell::layout_of(t.shape, cell);
+    let tested = cell::check_corners(t.shape, records, cell, l);
     if let Check::Refused(_) = tested {
         return;
     }
-    let n = s.axes as usize;
+    let n = t.shape.axes as usize;
     if k > coefficients::power(2, n) {
         return;
     }
-    print_line(s, k, &coefficients::filled(n, k, l, records));
+    print_line(t.shape, k, &coefficients::filled(n, k, l, records));
 }
 
 // The lines of a table of one cell, whose corner records have `size` entries.
-fn runs(s: Shape, corners: usize, size: usize)
+fn runs(t: FullShape, corners: usize, size: usize)
     requires { ⌜ (corners ≤ 8) × (size ≤ 216) ⌝ }
 {
     let records = entries();
     let mut k: usize = 0;
     while k <= corners {
-        run(s, k, &records[..size]);
+        run(t, k, &records[..size]);
         k += 1;
     }
 }
 
-fn one_cell(axes: u32, degree: u32, y: u32, z: u32) -> Shape {
-    Shape {
-        axes: axes,
-        degree: degree,
-        counts: [2, y, z],
+fn one_cell(axes: u32, degree: u32, y: u32, z: u32) -> FullShape {
+    FullShape {
+        shape: lattice::shape_of(axes, degree, [2, y, z]),
+        steps: lattice::finest_steps(axes),
+        second_edition: false,
     }
 }
 

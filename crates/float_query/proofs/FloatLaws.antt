@@ -3,6 +3,7 @@ use mathlib.Core.Path.{_≡_, refl, sym, ap, ap₂, subst, _∙_, fun-ext}
 use mathlib.Core.Bool.{Bool, true, false, not, _&&_, _||_}
 use mathlib.Core.List.{List, [], _∷_}
 use Prim.Native.Nat.{ℕ, _*_, _-_, _^_, _≤_, _<_}
+use native.Mathlib.Nat.{mul-le-mul}
 use native.Mathlib.Omega.{arith}
 use lib.Dec.{leb, ltb, eqb, lit<}
 use native.Mathlib.Decide.{decLt}
@@ -20,19 +21,19 @@ use Rattle.lattice.specs.declared.Shape.{Shape}
 use Rattle.lattice.specs.declared.FullShape.{FullShape}
 use Rattle.lattice.specs.Outcome.{Outcome, Check, done, refused, refuseUnless, first, firstOf}
 use Rattle.lattice.specs.Buffer.{at}
-use Rattle.lattice.specs.Shape.{count, Shaped}
+use Rattle.lattice.specs.Shape.{count, stepsOn, fullOutcome}
 use Rattle.lattice.proofs.ShapeLaws.{shaped}
+use Rattle.lattice.proofs.StepLaws.{by-step-number, step-range, full-shape, full-stepped}
 use Rattle.lattice.proofs.OutcomeLaws.{first-done, first-passed, first-after, refused-first, refuse-done, passes, firstOf-each}
-use Rattle.hermite.specs.Hermite.{steps}
 use Rattle.floats.specs.declared.FloatStep.{FloatStep}
-use Rattle.floats.specs.Step.{step, clamped}
+use Rattle.floats.specs.Step.{step, powerOf, clamped}
 use Rattle.floats.proofs.StepLaws.{within, clamped-within, clamped-zero, clamped-same}
 use Rattle.evaluate.specs.Evaluate.{Want}
 use Rattle.query.specs.Parts.{renumbered}
 use Rattle.query.specs.Queries.{Position, askedOutcome, reading, positionTest, positionAt, positionOutcome, positionCell, positionStep, byPosition}
-use Rattle.query.proofs.QueryLaws.{asked-parts, used-test, unused-test, test-known}
+use Rattle.query.proofs.QueryLaws.{asked-facts, used-test, unused-test, test-known}
 use Rattle.query.proofs.Renumbered.{ofPosition, renumbered-each, renumbered-query, kept-test, kept-first}
-use Rattle.float_query.specs.Floats.{stepsOf, floatOutcome, byFloat, heldStep, finiteOn, tenNumber}
+use Rattle.float_query.specs.Floats.{floatSteps, stepsOf, floatOutcome, byFloat, heldStep, finiteOn, tenNumber}
 
 -- ---- 10 for 22 and 23
 
@@ -51,9 +52,9 @@ module _ (fin : ℕ → Bool) where
 
 -- ---- the tests of 10, 23, 22 and 11
 
-pub steps-at : (x : ℕ → Float) (a : ℕ) → a < 3 → stepsOf x a ≡ step steps (x a)
+pub steps-at : (t : FullShape) (x : ℕ → Float) (a : ℕ) → a < 3 → stepsOf t x a ≡ step (floatSteps t a) (x a)
 unfolding stepsOf
-steps-at x a l = pick-true (ltb a 3) (step steps (x a)) (pos 0) (lt-ltb a 3 l)
+steps-at t x a l = pick-true (ltb a 3) (step (floatSteps t a) (x a)) (pos 0) (lt-ltb a 3 l)
 
 -- where no number is told by another, nothing changes
 kept-place : (told : ℕ → ℕ → ℕ) (a : ℕ) → ((n : ℕ) → told n a ≡ n) → (last : ℕ) (s : Shape) (z : ℤ)
@@ -91,111 +92,148 @@ below-ten fin s last a e = split (ltb a (s .axes))
     ten n h = ap (λ (k : ℕ). refused k a) (sym (ten-told fin n a h e))
 
 -- three floats as the code holds them: which are finite, and a position in 32 bits
-pub record HeldSteps (x : ℕ → Float) (fin : ℕ → Bool) (p : Position) : Type 0 where
+pub record HeldSteps (t : FullShape) (x : ℕ → Float) (fin : ℕ → Bool) (p : Position) : Type 0 where
   pub finite-is : (a : ℕ) → a < 3 → fin a ≡ finite (x a)
-  pub step-is : (a : ℕ) → a < 3 → p a ≡ pick (finite (x a)) (clamped (step steps (x a))) (negsuc 0)
+  pub step-is : fullOutcome t ≡ done tt → (a : ℕ) → a < 3
+      → p a ≡ pick (finite (x a)) (clamped (step (floatSteps t a) (x a))) (negsuc 0)
   pub none : (a : ℕ) → 3 ≤ a → p a ≡ pos 0
 
-module _ (s : Shape) (ok : Shaped s) (x : ℕ → Float) (fin : ℕ → Bool) (p : Position) (h : HeldSteps x fin p) where
+module _ (t : FullShape) (full : fullOutcome t ≡ done tt) (x : ℕ → Float) (fin : ℕ → Bool) (p : Position) (h : HeldSteps t x fin p) where
+  abbrev s : Shape
+  s = t .shape
+
   abbrev last : ℕ → ℕ
-  last a = steps * (count s a - 1)
+  last a = stepsOn t a * (count s a - 1)
+
+  abbrev own : ℕ → ℤ
+  own a = step (floatSteps t a) (x a)
 
   last-low : (a : ℕ) → a < 3 → last a < 2147483647
-  last-low a l = let h = ok .high a l in omega arith
+  last-low a l =
+      let h = shaped s (full-shape t full) .high a l in
+      let p = mul-le-mul (few (decLt a (s .axes))) (less h) in
+      omega arith
+    where
+      few : Dec (a < s .axes) → stepsOn t a ≤ 256
+      few (yes k) = step-range (stepsOn t a) (full-stepped t full .used a l k) .1
+      few (no k) = let e = full-stepped t full .unused a l (omega (arith, k)) in omega arith
+
+      less : count s a ≤ 64 → count s a - 1 ≤ 63
+      less h = omega arith
 
   -- the tests of the held step, with 10, are those of the float
-  one : (a : ℕ) → a < 3 → renumbered (tenNumber fin) (positionOutcome s p a) ≡ floatOutcome s x a
+  one : (a : ℕ) → a < 3 → renumbered (tenNumber fin) (positionOutcome t p a) ≡ floatOutcome t x a
   unfolding floatOutcome positionOutcome
   one a l = split (finite (x a)) held-finite not-finite
     where
-      held-finite : finite (x a) ≡ true → renumbered (tenNumber fin) (positionOutcome s p a) ≡ floatOutcome s x a
+      held-finite : finite (x a) ≡ true → renumbered (tenNumber fin) (positionOutcome t p a) ≡ floatOutcome t x a
       held-finite e =
           kept-place (tenNumber fin) a (λ n. ten-kept fin n a (λ f. h .finite-is a l ∙ e)) (last a) s (p a)
           ∙ ap (λ (z : ℤ). positionTest s (last a) z a)
-          (h .step-is a l ∙ pick-true (finite (x a)) (clamped (step steps (x a))) (negsuc 0) e)
-          ∙ clamped-tested s (last a) (step steps (x a)) a (last-low a l)
-          ∙ ap (λ (z : ℤ). positionTest s (last a) z a) (sym (steps-at x a l))
-          ∙ sym (first-passed (refuseUnless (finite (x a)) 10 a) (positionOutcome s (stepsOf x) a) (passes (finite (x a)) 10 a e))
+          (h .step-is full a l ∙ pick-true (finite (x a)) (clamped (own a)) (negsuc 0) e)
+          ∙ clamped-tested s (last a) (own a) a (last-low a l)
+          ∙ ap (λ (z : ℤ). positionTest s (last a) z a) (sym (steps-at t x a l))
+          ∙ sym (first-passed (refuseUnless (finite (x a)) 10 a) (positionOutcome t (stepsOf t x) a) (passes (finite (x a)) 10 a e))
 
-      not-finite : finite (x a) ≡ false → renumbered (tenNumber fin) (positionOutcome s p a) ≡ floatOutcome s x a
+      not-finite : finite (x a) ≡ false → renumbered (tenNumber fin) (positionOutcome t p a) ≡ floatOutcome t x a
       not-finite e =
           ap (λ (z : ℤ). renumbered (tenNumber fin) (positionTest s (last a) z a))
-          (h .step-is a l ∙ pick-false (finite (x a)) (clamped (step steps (x a))) (negsuc 0) e)
+          (h .step-is full a l ∙ pick-false (finite (x a)) (clamped (own a)) (negsuc 0) e)
           ∙ below-ten fin s (last a) a (h .finite-is a l ∙ e)
-          ∙ sym (refused-first (positionOutcome s (stepsOf x) a) (ap (λ (t : Bool). refuseUnless t 10 a) e))
+          ∙ sym (refused-first (positionOutcome t (stepsOf t x) a) (ap (λ (b : Bool). refuseUnless b 10 a) e))
 
-  tests : renumbered (tenNumber fin) (firstOf 3 (positionOutcome s p)) ≡ firstOf 3 (floatOutcome s x)
-  tests = renumbered-each (tenNumber fin) 3 (positionOutcome s p) (floatOutcome s x) one
+  tests : renumbered (tenNumber fin) (firstOf 3 (positionOutcome t p)) ≡ firstOf 3 (floatOutcome t x)
+  tests = renumbered-each (tenNumber fin) 3 (positionOutcome t p) (floatOutcome t x) one
 
   -- floats that pass stand for their steps
-  held-is : firstOf 3 (floatOutcome s x) ≡ done tt → p ≡ stepsOf x
+  held-is : firstOf 3 (floatOutcome t x) ≡ done tt → p ≡ stepsOf t x
   unfolding floatOutcome positionOutcome stepsOf
   held-is e = fun-ext (λ a. go a (decLt a 3))
     where
-      go : (a : ℕ) → Dec (a < 3) → p a ≡ stepsOf x a
+      go : (a : ℕ) → Dec (a < 3) → p a ≡ stepsOf t x a
       go a (yes l) =
-          let f = first-done (refuseUnless (finite (x a)) 10 a) (positionOutcome s (stepsOf x) a) tt
-          (firstOf-each 3 (floatOutcome s x) e a l) in
-          h .step-is a l ∙ pick-true (finite (x a)) (clamped (step steps (x a))) (negsuc 0) (refuse-done (finite (x a)) 10 a (f .0))
-          ∙ clamped-same (step steps (x a)) (last a) (last-low a l)
-          (within-known s (last a) (step steps (x a)) a
-          (subst (λ (z : ℤ). positionTest s (last a) z a ≡ done tt) (steps-at x a l) (f .1)))
-          ∙ sym (steps-at x a l)
-      go a (no k) = h .none a (omega arith) ∙ sym (pick-false (ltb a 3) (step steps (x a)) (pos 0) (le-ltb a 3 (omega arith)))
+          let f = first-done (refuseUnless (finite (x a)) 10 a) (positionOutcome t (stepsOf t x) a) tt
+          (firstOf-each 3 (floatOutcome t x) e a l) in
+          h .step-is full a l ∙ pick-true (finite (x a)) (clamped (own a)) (negsuc 0) (refuse-done (finite (x a)) 10 a (f .0))
+          ∙ clamped-same (own a) (last a) (last-low a l)
+          (within-known s (last a) (own a) a
+          (subst (λ (z : ℤ). positionTest s (last a) z a ≡ done tt) (steps-at t x a l) (f .1)))
+          ∙ sym (steps-at t x a l)
+      go a (no k) = h .none a (omega arith) ∙ sym (pick-false (ltb a 3) (own a) (pos 0) (le-ltb a 3 (omega arith)))
 
 -- ---- a whole query
 
-pub by-float : (t : FullShape) (rs : List ℤ) (want : Want) (x : ℕ → Float) (fin : ℕ → Bool) (p : Position) → HeldSteps x fin p
+pub by-float : (t : FullShape) (rs : List ℤ) (want : Want) (x : ℕ → Float) (fin : ℕ → Bool) (p : Position) → HeldSteps t x fin p
     → renumbered (tenNumber fin) (byPosition t rs want p) ≡ byFloat t rs want x
 unfolding byFloat byPosition
 by-float t rs want x fin p h =
-    let s = t .shape in
-    renumbered-query (tenNumber fin) (ten-keeps fin) t rs want tested (positionCell s p) (positionStep s p)
-    ∙ first-after (askedOutcome s rs want) (first (renumbered (tenNumber fin) tested) (read p))
-    (first (firstOf 3 (floatOutcome s x)) (read (stepsOf x)))
-    (λ a. let ok = shaped s (asked-parts s rs want a .0) in
-    ap (λ (c : Check). first c (read p)) (tests s ok x fin p h)
-    ∙ first-after (firstOf 3 (floatOutcome s x)) (read p) (read (stepsOf x)) (λ e. ap read (held-is s ok x fin p h e)))
+    renumbered-query (tenNumber fin) (ten-keeps fin) t rs want tested (positionCell t p) (positionStep t p)
+    ∙ first-after (askedOutcome t rs want) (first (renumbered (tenNumber fin) tested) (read p))
+    (first (firstOf 3 (floatOutcome t x)) (read (stepsOf t x)))
+    (λ a. let full = asked-facts t rs want a .full in
+    ap (λ (c : Check). first c (read p)) (tests t full x fin p h)
+    ∙ first-after (firstOf 3 (floatOutcome t x)) (read p) (read (stepsOf t x)) (λ e. ap read (held-is t full x fin p h e)))
   where
     tested : Check
-    tested = firstOf 3 (positionOutcome (t .shape) p)
+    tested = firstOf 3 (positionOutcome t p)
 
     read : Position → Outcome ℤ
-    read p = reading t rs want (positionCell (t .shape) p) (positionStep (t .shape) p)
+    read p = reading t rs want (positionCell t p) (positionStep t p)
 
 -- ---- floats in the code
 
--- a float as the code holds it: whether it is finite, and its step in 32 bits
-pub record Holds (f : FloatStep) (x : Float) : Type 0 where
+-- 2^powerOf is the number of steps that a float's cell is
+power-is : (t : FullShape) → fullOutcome t ≡ done tt → (a : ℕ) → a < 3 → 2 ^ powerOf (stepsOn t a) ≡ floatSteps t a
+unfolding floatSteps powerOf pick
+power-is t full a l = go (decLt a (t .shape .axes))
+  where
+    go : Dec (a < t .shape .axes) → 2 ^ powerOf (stepsOn t a) ≡ pick (ltb a (t .shape .axes)) (stepsOn t a) 256
+    go (yes k) =
+        by-step-number (λ N. 2 ^ powerOf N ≡ N) refl refl refl refl refl (stepsOn t a) (full-stepped t full .used a l k)
+        ∙ sym (pick-true (ltb a (t .shape .axes)) (stepsOn t a) 256 (lt-ltb a (t .shape .axes) k))
+    go (no k) =
+        let u : t .shape .axes ≤ a = omega (arith, k) in
+        ap (λ (N : ℕ). 2 ^ powerOf N) (full-stepped t full .unused a l u)
+        ∙ sym (pick-false (ltb a (t .shape .axes)) (stepsOn t a) 256 (le-ltb a (t .shape .axes) u))
+
+-- a float as the code holds it: whether it is finite, and its step in 32 bits of an axis of N steps
+pub record Holds (N : ℕ) (f : FloatStep) (x : Float) : Type 0 where
   pub finite-is : f .finite ≡ finite x
-  pub step-is : f .step ≡ clamped (step steps x)
+  pub step-is : f .step ≡ clamped (step (2 ^ powerOf N) x)
 
 clamped-mag : (z : ℤ) → mag (clamped z) < 2 ^ 31
 unfolding clamped
 clamped-mag (pos n) = omega arith
 clamped-mag (negsuc n) = omega arith
 
-held-step : (f : FloatStep) (x : Float) → Holds f x → (p : ℤ) → p ≡ heldStep f
-    → toZ w32 (ofZ w32 p) ≡ pick (finite x) (clamped (step steps x)) (negsuc 0)
+held-step : (N : ℕ) (f : FloatStep) (x : Float) → Holds N f x → (p : ℤ) → p ≡ heldStep f
+    → toZ w32 (ofZ w32 p) ≡ pick (finite x) (clamped (step (2 ^ powerOf N) x)) (negsuc 0)
 unfolding heldStep
-held-step f x h p e =
+held-step N f x h p e =
     let is = e ∙ ap₂ (λ (b : Bool) (z : ℤ). pick b z (negsuc 0)) (h .finite-is) (h .step-is) in
     element p (subst (λ (z : ℤ). mag z < 2 ^ 31) (sym is)
-    (on-pick (λ (z : ℤ). mag z < 2 ^ 31) (finite x) (clamped (step steps x)) (negsuc 0) (λ b. clamped-mag (step steps x))
-    (λ b. lit< tt))) ∙ is
+    (on-pick (λ (z : ℤ). mag z < 2 ^ 31) (finite x) (clamped (step (2 ^ powerOf N) x)) (negsuc 0)
+    (λ b. clamped-mag (step (2 ^ powerOf N) x)) (λ b. lit< tt))) ∙ is
 
 -- three steps as the code holds them
 abbrev pub held : ℤ → ℤ → ℤ → List ℤ
 held p q r = toZ w32 (ofZ w32 p) ∷ toZ w32 (ofZ w32 q) ∷ toZ w32 (ofZ w32 r) ∷ []
 
-pub three-held : (x : ℕ → Float) (f g h : FloatStep) → Holds f (x 0) → Holds g (x 1) → Holds h (x 2) → (p q r : ℤ) → p ≡ heldStep f
-    → q ≡ heldStep g → r ≡ heldStep h
-    → HeldSteps x (finiteOn f g h) (positionAt (held p q r))
+pub three-held : (t : FullShape) (x : ℕ → Float) (f g h : FloatStep) → Holds (stepsOn t 0) f (x 0) → Holds (stepsOn t 1) g (x 1)
+    → Holds (stepsOn t 2) h (x 2) → (p q r : ℤ) → p ≡ heldStep f → q ≡ heldStep g → r ≡ heldStep h
+    → HeldSteps t x (finiteOn f g h) (positionAt (held p q r))
 unfolding positionAt finiteOn pick
-three-held x f g h i j k p q r u v w =
+three-held t x f g h i j k p q r u v w =
     record {
       finite-is = by-3 (λ (a : ℕ). finiteOn f g h a ≡ finite (x a)) (i .finite-is) (j .finite-is) (k .finite-is);
-      step-is = by-3 (λ (a : ℕ). positionAt (held p q r) a ≡ pick (finite (x a)) (clamped (step steps (x a))) (negsuc 0))
-          (held-step f (x 0) i p u) (held-step g (x 1) j q v) (held-step h (x 2) k r w);
+      step-is = λ full. by-3 (λ (a : ℕ). positionAt (held p q r) a ≡ pick (finite (x a)) (clamped (step (floatSteps t a) (x a))) (negsuc 0))
+          (held-step (stepsOn t 0) f (x 0) i p u ∙ by-own full 0 (omega arith))
+          (held-step (stepsOn t 1) g (x 1) j q v ∙ by-own full 1 (omega arith))
+          (held-step (stepsOn t 2) h (x 2) k r w ∙ by-own full 2 (omega arith));
       none = λ a l. pick-false (ltb a 3) (at (held p q r) a) (pos 0) (le-ltb a 3 l);
     }
+  where
+    by-own : fullOutcome t ≡ done tt → (a : ℕ) → a < 3
+        → pick (finite (x a)) (clamped (step (2 ^ powerOf (stepsOn t a)) (x a))) (negsuc 0)
+        ≡ pick (finite (x a)) (clamped (step (floatSteps t a) (x a))) (negsuc 0)
+    by-own full a l = ap (λ (N : ℕ). pick (finite (x a)) (clamped (step N (x a))) (negsuc 0)) (power-is t full a l)

@@ -103,13 +103,19 @@ pub fn at_float(
 ) -> FloatReading
     ensures { λ r. ⌜ outcomeOfFloat r ≡ inFloat (wanted derivative) (byFloat t (now (records .entry)) (wanted derivative) (floatsAt p)) ⌝ }
 {
-    let x = floats::step_of(p.x);
-    let y = floats::step_of(p.y);
-    let z = floats::step_of(p.z);
+    let x = floats::step_of(t.steps[0], p.x);
+    let y = floats::step_of(t.steps[1], p.y);
+    let z = floats::step_of(t.steps[2], p.z);
     let q = Query {
         position: [held_step(x), held_step(y), held_step(z)],
         derivative: derivative,
     };
-    let a = query::at_position(t, records, q);
+    // Fields taken one by one are read as they are stored.
+    let again = FullShape {
+        shape: t.shape,
+        steps: t.steps,
+        second_edition: t.second_edition,
+    };
+    let a = query::at_position(again, records, q);
     in_float(with_ten(a, x, y, z), derivative.order)
 }

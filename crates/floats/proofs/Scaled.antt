@@ -1,15 +1,15 @@
--- 256 times a finite float, as the machine multiplies: exact, or an infinity where the product is 2^128 or more. So the product has the
+-- 2^p times a finite float, as the machine multiplies: exact, or an infinity where the product is 2^128 or more. So the product has the
 -- step of the float (`scaled`).
-use mathlib.Core.Path.{_≡_, refl, sym, ap, _∙_, subst}
+use mathlib.Core.Path.{_≡_, refl, sym, ap, ap₂, _∙_, subst}
 use mathlib.Core.Logic.{_⊎_, inl, inr}
 use Prim.Native.Nat.{ℕ, zero, suc, _+_, _-_, _*_, _%_, _^_, _≤_, _<_}
-use native.Mathlib.Nat.{le-trans, le-of-eq, lt-of-lt-of-le, lt-of-le-of-lt, not-le-of-lt, le-of-suc-le-suc, lt-of-not-le, zero-lt-suc, mul-one, mul-comm, mul-assoc, mul-right-comm, mul-lt-mul-of-pos-right, mul-le-mul-right, lt-of-mul-lt-mul-right}
+use native.Mathlib.Nat.{le-trans, le-of-eq, lt-of-lt-of-le, lt-of-le-of-lt, not-le-of-lt, le-of-suc-le-suc, lt-of-not-le, zero-lt-suc, mul-one, one-mul, mul-comm, mul-assoc, mul-right-comm, mul-lt-mul-of-pos-right, mul-le-mul-right, lt-of-mul-lt-mul-right}
 use native.Mathlib.Omega.{arith}
 use mathlib.Core.Bool.{Bool, true, false, not, cond, _&&_}
 use lib.IntN.{ℤ, pos, negsuc}
 use lib.Dec.{T, leb, ltb, eqb, ltb→lt, nltb→le, leb→le, eqb→eq, lit<, lit≤}
 use lib.Pow.{pow-add, pow-pos, pow-lt}
-use lib.Ieee.{Float, nan, inf, fin, binary32, up, down, odd, units, round, mul, fits, isNan, le, ofBits}
+use lib.Ieee.{Float, nan, inf, fin, binary32, up, down, odd, units, round, mul, fits, isNan, le}
 use lib.Ieee.Fits.{down-pos, and-l, and-r, round-is}
 use lib.Ieee.Exact.{HasValue, odd-sign, round-exact}
 use lib.Ieee.Order.{drop, kept, round-mono}
@@ -18,19 +18,15 @@ use Rattle.floats.specs.Step.{signed, step, clamped}
 use Rattle.floats.specs.Bits.{nearestHeld}
 use Rattle.floats.proofs.StepLaws.{mul-signed, clamped-far, held-value}
 
--- 256, as the code writes it
-abbrev pub scale : Float
-scale = ofBits binary32 1132462080
+-- 2^p as a float
+abbrev pub scale : ℕ → Float
+scale p = fin false 1 (pos p)
 
 -- ---- the product as a rounded fraction
-scale-is : scale ≡ fin false 1 (pos 8)
-unfolding ofBits
-scale-is = refl
-
-product-is : (s : Bool) (m : ℕ) (e : ℤ) → mul binary32 (fin s m e) (fin false 1 (pos 8)) ≡ round binary32 s (m * up e * 256) (down e)
+product-is : (s : Bool) (m : ℕ) (e : ℤ) (p : ℕ) → mul binary32 (fin s m e) (scale p) ≡ round binary32 s (m * up e * 2 ^ p) (down e)
 unfolding mul
-product-is true m e = ap (λ (d : ℕ). round binary32 true (m * up e * 256) d) (mul-one (down e))
-product-is false m e = ap (λ (d : ℕ). round binary32 false (m * up e * 256) d) (mul-one (down e))
+product-is true m e p = ap₂ (round binary32 true) (ap (λ (k : ℕ). m * up e * k) (one-mul (2 ^ p))) (mul-one (down e))
+product-is false m e p = ap₂ (round binary32 false) (ap (λ (k : ℕ). m * up e * k) (one-mul (2 ^ p))) (mul-one (down e))
 
 -- ---- what a finite float has: 24 digits, and no bit below 2^-149
 zero-down : (e : ℤ) → up e * down e ≡ 1 → down e ≤ 2 ^ 149
@@ -62,22 +58,24 @@ exact-at s n d q j D Q N e =
 pow-back : (a b : ℕ) → 2 ^ a ≤ 2 ^ b → a ≤ b
 pow-back a b h = le-of-suc-le-suc (lt-of-not-le (λ (g : suc b ≤ a). not-le-of-lt (pow-lt g) h))
 
-exact : (s : Bool) (m : ℕ) (e : ℤ) → m < 2 ^ 24 → down e ≤ 2 ^ 149 → m * up e * 256 < 2 ^ 128 * down e
-    → HasValue (round binary32 s (m * up e * 256) (down e)) s (m * up e * 256) (down e)
-exact s m (pos k) M L N =
-    exact-at s (m * 2 ^ k * 256) 1 m (k + 157) (zero-lt-suc 0) M N
-    (mul-assoc (m * 2 ^ k) 256 (2 ^ 149) ∙ mul-assoc m (2 ^ k) (2 ^ 157) ∙ ap (λ (x : ℕ). m * x) (sym (pow-add 2 k 157))
-    ∙ sym (mul-one (m * 2 ^ (k + 157))))
-exact s m (negsuc k) M L N =
-    let j = 157 - suc k in
-    exact-at s (m * 1 * 256) (2 ^ suc k) m j (pow-pos (suc k)) M N
-    (ap (λ (x : ℕ). x * 256 * 2 ^ 149) (mul-one m)
-    ∙ mul-assoc m 256 (2 ^ 149)
-    ∙ ap (λ (x : ℕ). m * x) (ap (λ (x : ℕ). 2 ^ x) (sym (join k (pow-back (suc k) 149 L))) ∙ pow-add 2 j (suc k))
+exact : (s : Bool) (m : ℕ) (e : ℤ) (p : ℕ) → m < 2 ^ 24 → down e ≤ 2 ^ 149 → m * up e * 2 ^ p < 2 ^ 128 * down e
+    → HasValue (round binary32 s (m * up e * 2 ^ p) (down e)) s (m * up e * 2 ^ p) (down e)
+exact s m (pos k) p M L N =
+    exact-at s (m * 2 ^ k * 2 ^ p) 1 m (k + (p + 149)) (zero-lt-suc 0) M N
+    (mul-assoc (m * 2 ^ k) (2 ^ p) (2 ^ 149) ∙ ap (λ (x : ℕ). m * 2 ^ k * x) (sym (pow-add 2 p 149)) ∙ mul-assoc m (2 ^ k) (2 ^ (p + 149))
+    ∙ ap (λ (x : ℕ). m * x) (sym (pow-add 2 k (p + 149)))
+    ∙ sym (mul-one (m * 2 ^ (k + (p + 149)))))
+exact s m (negsuc k) p M L N =
+    let j = p + 149 - suc k in
+    exact-at s (m * 1 * 2 ^ p) (2 ^ suc k) m j (pow-pos (suc k)) M N
+    (ap (λ (x : ℕ). x * 2 ^ p * 2 ^ 149) (mul-one m)
+    ∙ mul-assoc m (2 ^ p) (2 ^ 149)
+    ∙ ap (λ (x : ℕ). m * x)
+    (sym (pow-add 2 p 149) ∙ ap (λ (x : ℕ). 2 ^ x) (sym (join k p (pow-back (suc k) 149 L))) ∙ pow-add 2 j (suc k))
     ∙ sym (mul-assoc m (2 ^ j) (2 ^ suc k)))
   where
-    join : (k : ℕ) → suc k ≤ 149 → 157 - suc k + suc k ≡ 157
-    join k h = omega arith
+    join : (k p : ℕ) → suc k ≤ 149 → p + 149 - suc k + suc k ≡ p + 149
+    join k p h = omega arith
 
 -- ---- an infinity from 2^128 on
 top-is : round binary32 false (2 ^ 128) 1 ≡ inf false
@@ -109,31 +107,32 @@ over s n d D N =
 abbrev Product : Float → Bool → ℕ → ℕ → Type 0
 Product v s n d = HasValue v s n d ⊎ ((v ≡ inf s) × (2 ^ 31 * d ≤ n))
 
-product : (s : Bool) (m : ℕ) (e : ℤ) → T (fits binary32 (fin s m e)) → Product (mul binary32 (fin s m e) scale) s (m * up e * 256) (down e)
-product s m e t =
-    let n = m * up e * 256 in
+product : (s : Bool) (m : ℕ) (e : ℤ) (p : ℕ) → T (fits binary32 (fin s m e))
+    → Product (mul binary32 (fin s m e) (scale p)) s (m * up e * 2 ^ p) (down e)
+product s m e p t =
+    let n = m * up e * 2 ^ p in
     let d = down e in
     let f = fits-says s m e t in
-    subst (λ (v : Float). Product v s n d) (sym (ap (mul binary32 (fin s m e)) scale-is ∙ product-is s m e))
+    subst (λ (v : Float). Product v s n d) (sym (product-is s m e p))
     (go (f .0) (f .1) (ltb n (2 ^ 128 * d)) (ltb→lt n (2 ^ 128 * d)) (nltb→le n (2 ^ 128 * d)))
   where
-    go : m < 2 ^ 24 → down e ≤ 2 ^ 149 → (b : Bool) → (T b → m * up e * 256 < 2 ^ 128 * down e)
-        → (T (not b) → 2 ^ 128 * down e ≤ m * up e * 256)
-        → Product (round binary32 s (m * up e * 256) (down e)) s (m * up e * 256) (down e)
-    go M L true h k = inl (exact s m e M L (h tt))
-    go M L false h k = inr (over s (m * up e * 256) (down e) (down-pos e) (k tt), le-trans (mul-le-mul-right (down e) (lit≤ tt)) (k tt))
+    go : m < 2 ^ 24 → down e ≤ 2 ^ 149 → (b : Bool) → (T b → m * up e * 2 ^ p < 2 ^ 128 * down e)
+        → (T (not b) → 2 ^ 128 * down e ≤ m * up e * 2 ^ p)
+        → Product (round binary32 s (m * up e * 2 ^ p) (down e)) s (m * up e * 2 ^ p) (down e)
+    go M L true h k = inl (exact s m e p M L (h tt))
+    go M L false h k = inr (over s (m * up e * 2 ^ p) (down e) (down-pos e) (k tt), le-trans (mul-le-mul-right (down e) (lit≤ tt)) (k tt))
 
 -- ---- the step of a float is the nearest whole number to its product
 of-product : (v : Float) (s : Bool) (n d : ℕ) → 0 < d → Product v s n d → nearestHeld v ≡ clamped (roundHalfUp (signed s n) d)
 of-product v s n d D (inl h) = held-value v s n d D h
 of-product v s n d D (inr h) = ap nearestHeld (h .0) ∙ sym (clamped-far s n d D (h .1))
 
-pub scaled : (s : Bool) (m : ℕ) (e : ℤ) → T (fits binary32 (fin s m e))
-    → nearestHeld (mul binary32 (fin s m e) scale) ≡ clamped (step 256 (fin s m e))
+pub scaled : (s : Bool) (m : ℕ) (e : ℤ) (p : ℕ) → T (fits binary32 (fin s m e))
+    → nearestHeld (mul binary32 (fin s m e) (scale p)) ≡ clamped (step (2 ^ p) (fin s m e))
 unfolding step
-scaled s m e t =
-    of-product (mul binary32 (fin s m e) scale) s (m * up e * 256) (down e) (down-pos e) (product s m e t)
-    ∙ ap (λ z. clamped (roundHalfUp z (down e))) (ap (signed s) (mul-comm (m * up e) 256) ∙ sym (mul-signed 256 s (m * up e)))
+scaled s m e p t =
+    of-product (mul binary32 (fin s m e) (scale p)) s (m * up e * 2 ^ p) (down e) (down-pos e) (product s m e p t)
+    ∙ ap (λ z. clamped (roundHalfUp z (down e))) (ap (signed s) (mul-comm (m * up e) (2 ^ p)) ∙ sym (mul-signed (2 ^ p) s (m * up e)))
 
 not-nan : (v : Float) (s : Bool) (n d : ℕ) → Product v s n d → T (not (isNan v))
 unfolding isNan
@@ -142,5 +141,6 @@ not-nan nan s n d (inr h) = absurd (subst (λ (v : Float). T (isNan v)) (h .0) t
 not-nan (inf t) s n d h = tt
 not-nan (fin t m e) s n d h = tt
 
-pub scaled-not-nan : (s : Bool) (m : ℕ) (e : ℤ) → T (fits binary32 (fin s m e)) → T (not (isNan (mul binary32 (fin s m e) scale)))
-scaled-not-nan s m e t = not-nan (mul binary32 (fin s m e) scale) s (m * up e * 256) (down e) (product s m e t)
+pub scaled-not-nan : (s : Bool) (m : ℕ) (e : ℤ) (p : ℕ) → T (fits binary32 (fin s m e))
+    → T (not (isNan (mul binary32 (fin s m e) (scale p))))
+scaled-not-nan s m e p t = not-nan (mul binary32 (fin s m e) (scale p)) s (m * up e * 2 ^ p) (down e) (product s m e p t)

@@ -1,13 +1,13 @@
 // Float positions as steps, and whole numbers as floats.
 ghost use mathlib.Core.Path.{_≡_};
-ghost use mathlib.Core.Bool.{not};
+ghost use mathlib.Core.Bool.{false, not};
 ghost use mathlib.Core.Option.{some};
 ghost use Prim.Native.Nat.{_<_, _^_};
 ghost use lib.Dec.{T};
-ghost use lib.IntN.{natAbs};
-ghost use lib.Ieee.{isNan};
+ghost use lib.IntN.{pos, natAbs};
+ghost use lib.Ieee.{fin, isNan};
 ghost use lib.Ieee.Scale.{finite};
-ghost use Rattle.floats.specs.Step.{step, clamped};
+ghost use Rattle.floats.specs.Step.{step, powerOf, clamped};
 ghost use Rattle.floats.specs.Whole.{wholeOf};
 ghost use Rattle.floats.specs.Bits.{significandOf, nearestHeld};
 
@@ -45,16 +45,38 @@ fn nearest(y: f32) -> i32
     }
 }
 
-// Whether x is finite, and the step that it becomes, at most as far as an i32 goes.
-pub fn step_of(x: f32) -> FloatStep
-    ensures { λ r. ⌜ (r .finite ≡ finite x) × (r .step ≡ clamped (step 256 x)) ⌝ }
+// The number of steps of an axis as a float.
+fn scale_of(steps: u32) -> f32
+    ensures { λ r. ⌜ r ≡ fin false 1 (pos (powerOf steps)) ⌝ }
+{
+    if steps < 16 {
+        return 256.0;
+    }
+    if 128 < steps {
+        return 256.0;
+    }
+    if steps < 64 {
+        if steps == 16 {
+            return 16.0;
+        }
+        return if steps == 32 { 32.0 } else { 256.0 };
+    }
+    if steps == 64 {
+        return 64.0;
+    }
+    if steps == 128 { 128.0 } else { 256.0 }
+}
+
+// Whether x is finite, and the step of an axis that it becomes, at most as far as an i32 goes.
+pub fn step_of(steps: u32, x: f32) -> FloatStep
+    ensures { λ r. ⌜ (r .finite ≡ finite x) × (r .step ≡ clamped (step (2 ^ powerOf steps) x)) ⌝ }
 {
     let infinity: f32 = 1.0 / 0.0;
     if x < infinity {
         if x > -infinity {
             return FloatStep {
                 finite: true,
-                step: nearest(x * 256.0),
+                step: nearest(x * scale_of(steps)),
             };
         }
     }

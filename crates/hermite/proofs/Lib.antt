@@ -1,6 +1,7 @@
 -- Laws of the definitions, for the crates above.
 pub mod HermiteLaws
 pub mod StagePoint
+pub mod Scaled
 pub mod Straight
 pub mod BackLaws
 pub mod Reach

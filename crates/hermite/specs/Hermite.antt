@@ -63,7 +63,7 @@ endRule back m x k = pick back (solved m x k) (sum m (λ o. multiplier m k o *�
 
 -- ---- weights and stages
 
--- a cell has 256 steps an axis
+-- the number of steps of a cell on each axis that the stages work on
 abbrev pub steps : ℕ
 steps = 256
 

@@ -11,8 +11,9 @@ use lib.ListN.{length}
 use Rattle.arith.proofs.Abs.{abs-neg}
 use Rattle.arith.proofs.Choices.{on-pick}
 use Rattle.lattice.specs.declared.Shape.{Shape}
+use Rattle.lattice.specs.declared.FullShape.{FullShape}
 use Rattle.lattice.specs.Outcome.{Check, done, refused, refuseUnless, first, firstOf}
-use Rattle.lattice.specs.Shape.{nodes, shapeOutcome}
+use Rattle.lattice.specs.Shape.{nodes, fullOutcome}
 use Rattle.lattice.specs.Records.{sampleLimit}
 use Rattle.lattice.proofs.OutcomeLaws.{first-done, first-passed, refused-first, refuse-done, firstOf-each}
 use Rattle.import.specs.declared.Sum.{Sum}
@@ -113,15 +114,18 @@ roomy s room = refuseUnless (leb (nodes s) room) 9 0
 abbrev tokens : List ℕ → Check
 tokens text = firstOf (tokenCount text) (sampleOutcome text)
 
-module _ (s : Shape) (text : List ℕ) (room : ℕ) where
-  pub import-is : importOutcome s text room ≡ first (shapeOutcome s) (first (counted s text) (first (roomy s room) (tokens text)))
+module _ (t : FullShape) (text : List ℕ) (room : ℕ) where
+  abbrev s : Shape
+  s = t .shape
+
+  pub import-is : importOutcome t text room ≡ first (fullOutcome t) (first (counted s text) (first (roomy s room) (tokens text)))
   unfolding importOutcome
   import-is = refl
 
   -- what a text that is taken has
-  pub import-facts : importOutcome s text room ≡ done tt → (tokenCount text ≤ room) × (tokens text ≡ done tt)
+  pub import-facts : importOutcome t text room ≡ done tt → (tokenCount text ≤ room) × (tokens text ≡ done tt)
   import-facts e =
-      let f = first-done (shapeOutcome s) (first (counted s text) (first (roomy s room) (tokens text))) tt (sym import-is ∙ e) in
+      let f = first-done (fullOutcome t) (first (counted s text) (first (roomy s room) (tokens text))) tt (sym import-is ∙ e) in
       let g = first-done (counted s text) (first (roomy s room) (tokens text)) tt (f .1) in
       let h = first-done (roomy s room) (tokens text) tt (g .1) in
       let m = eqb-true (tokenCount text) (nodes s) (refuse-done (eqb (tokenCount text) (nodes s)) 4 0 (g .0)) in

@@ -13,7 +13,7 @@ use lib.ListN.{length, getD, drop, length-drop}
 use lib.Seq.{getD-drop}
 use Rattle.arith.specs.Choice.{pick}
 use Rattle.arith.proofs.Choices.{split, clash, and-true}
-use Rattle.lattice.specs.declared.Shape.{Shape}
+use Rattle.lattice.specs.declared.FullShape.{FullShape}
 use Rattle.lattice.specs.Outcome.{done}
 use Rattle.lattice.specs.Buffer.{at}
 use Rattle.lattice.proofs.BufferLaws.{getD-tabulate}
@@ -169,13 +169,13 @@ unfolding sampleOf
 sample-signed n = refl
 
 -- where nothing is refused, each sample is that of its token
-pub samples-right : (s : Shape) (text : List ℕ) (room : ℕ) → importOutcome s text room ≡ done tt
+pub samples-right : (t : FullShape) (text : List ℕ) (room : ℕ) → importOutcome t text room ≡ done tt
     → (k : ℕ) → k < tokenCount text → IsSample (tokenAt text (tokenStart text k)) (at (samplesOf text) k)
 unfolding samplesOf sampleOutcome
-samples-right s text room e k l =
+samples-right t text room e k l =
     let token = tokenAt text (tokenStart text k) in
     subst (IsSample token) (sym (getD-tabulate (tokenCount text) (λ k. sampleIn (tokenAt text (tokenStart text k))) k (pos 0) l))
-    (sample-right token (tokenStart text k) k (firstOf-each (tokenCount text) (sampleOutcome text) (import-facts s text room e .1) k l))
+    (sample-right token (tokenStart text k) k (firstOf-each (tokenCount text) (sampleOutcome text) (import-facts t text room e .1) k l))
   where
     sample-right : (token : List ℕ) (start k : ℕ) → tokenOutcome token start k ≡ done tt → IsSample token (sampleIn token)
     sample-right token start k d =

@@ -1,12 +1,13 @@
 -- Examples, one table: what texts give as samples of a table on one axis.
 use mathlib.Core.Path.{_≡_}
+use mathlib.Core.Bool.{false}
 use mathlib.Core.List.{List, [], _∷_, map}
 use Prim.Native.Char.{code}
 use Prim.Native.Nat.{ℕ}
 use Prim.Native.String.{String, [] as none, _∷_ as _then_}
 use lib.IntN.{ℤ, pos, negsuc}
 use Rattle.lattice.specs.Outcome.{Outcome, done, refused, first}
-use Rattle.lattice.specs.Shape.{shapeOf}
+use Rattle.lattice.specs.Shape.{shapeOf, fullShape}
 use Rattle.import.specs.Import.{importOutcome, samplesOf}
 
 -- the bytes of a text in ASCII
@@ -14,9 +15,11 @@ unfoldable pub ascii : String → List ℕ
 ascii none = []
 ascii (c then s) = code c ∷ ascii s
 
--- the samples of a table of `count` nodes, into a slice of `room`
-unfoldable pub imported : ℕ → ℕ → String → Outcome (List ℤ)
-imported count room text = first (importOutcome (shapeOf 1 3 (count ∷ 1 ∷ 1 ∷ [])) (ascii text) room) (done (samplesOf (ascii text)))
+-- the samples of a table of `count` nodes and `steps` steps, into a slice of `room`
+unfoldable pub imported : ℕ → ℕ → ℕ → String → Outcome (List ℤ)
+imported count steps room text =
+    first (importOutcome (fullShape (shapeOf 1 3 (count ∷ 1 ∷ 1 ∷ [])) (steps ∷ 1 ∷ 1 ∷ []) false) (ascii text) room)
+    (done (samplesOf (ascii text)))
 
 -- ---- rows
 
@@ -27,11 +30,11 @@ pub record Row : Type 0 where
 -- of two nodes
 infix 3 _gives_
 abbrev pub _gives_ : String → List ℤ → Row
-text gives xs = record { computed = imported 2 2 text; printed = done xs }
+text gives xs = record { computed = imported 2 256 2 text; printed = done xs }
 
 infix 3 _refusedAs_atPlace_
 abbrev pub _refusedAs_atPlace_ : String → ℕ → ℕ → Row
-text refusedAs number atPlace place = record { computed = imported 2 2 text; printed = refused number place }
+text refusedAs number atPlace place = record { computed = imported 2 256 2 text; printed = refused number place }
 
 -- every row computes what is printed
 abbrev pub AllRows : List Row → Type 0
@@ -70,5 +73,9 @@ table =
     ∷ ("327.69 01" refusedAs 5 atPlace 0)
     ∷ ("" refusedAs 4 atPlace 0)
     ∷ ("01 0 0" refusedAs 4 atPlace 0)
-    ∷ record { computed = imported 2 1 "01 0"; printed = refused 9 0 }
+    ∷ record { computed = imported 2 256 1 "01 0"; printed = refused 9 0 }
+    -- 26 after 3 and before 4
+    ∷ record { computed = imported 1 24 2 ""; printed = refused 3 0 }
+    ∷ record { computed = imported 2 24 2 ""; printed = refused 26 0 }
+    ∷ record { computed = imported 2 16 2 "1 2"; printed = done (pos 100 ∷ pos 200 ∷ []) }
     ∷ []

@@ -6,10 +6,10 @@ use lib.Dec.{leb, eqb}
 use lib.IntN.{ℤ, pos, negℤ, natAbs}
 use lib.ListN.{length}
 use Rattle.arith.specs.Choice.{pick}
-use Rattle.lattice.specs.declared.Shape.{Shape}
+use Rattle.lattice.specs.declared.FullShape.{FullShape}
 use Rattle.lattice.specs.Outcome.{Check, refuseUnless, first, firstOf, whenDone}
 use Rattle.lattice.specs.Buffer.{tabulate, overwrite}
-use Rattle.lattice.specs.Shape.{nodes, shapeOutcome}
+use Rattle.lattice.specs.Shape.{nodes, fullOutcome}
 use Rattle.lattice.specs.Records.{sampleLimit}
 use Rattle.import.specs.Tokens.{tokenCount, tokenStart, tokenAt}
 use Rattle.import.specs.Grammar.{Number, Grammar, numberIn, fits}
@@ -30,20 +30,20 @@ tokenOutcome token start k =
 unfoldable pub sampleOutcome : List ℕ → ℕ → Check
 sampleOutcome text k = tokenOutcome (tokenAt text (tokenStart text k)) (tokenStart text k) k
 
--- 1, 2, 3, then 4, 9, then token by token
-unfoldable pub importOutcome : Shape → List ℕ → ℕ → Check
-importOutcome s text room =
-    first (shapeOutcome s)
-    (first (refuseUnless (eqb (tokenCount text) (nodes s)) 4 0)
-    (first (refuseUnless (leb (nodes s) room) 9 0) (firstOf (tokenCount text) (sampleOutcome text))))
+-- 1, 2, 3, 26, then 4, 9, then token by token
+unfoldable pub importOutcome : FullShape → List ℕ → ℕ → Check
+importOutcome t text room =
+    first (fullOutcome t)
+    (first (refuseUnless (eqb (tokenCount text) (nodes (t .shape))) 4 0)
+    (first (refuseUnless (leb (nodes (t .shape)) room) 9 0) (firstOf (tokenCount text) (sampleOutcome text))))
 
 -- the samples of all tokens, in order
 unfoldable pub samplesOf : List ℕ → List ℤ
 samplesOf text = tabulate (tokenCount text) (λ k. sampleIn (tokenAt text (tokenStart text k)))
 
 -- what the samples slice holds afterwards
-unfoldable pub importWrites : Shape → List ℕ → List ℤ → List ℤ
-importWrites s text old = whenDone (importOutcome s text (length old)) (overwrite (samplesOf text) old) old
+unfoldable pub importWrites : FullShape → List ℕ → List ℤ → List ℤ
+importWrites t text old = whenDone (importOutcome t text (length old)) (overwrite (samplesOf text) old) old
 
 -- ---- what a sample is
 

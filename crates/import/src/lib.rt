@@ -15,7 +15,7 @@ ghost use Rattle.import.specs.Value.{units};
 ghost use Rattle.import.specs.Import.{sampleIn, tokenOutcome, sampleOutcome, samplesOf, importOutcome, importWrites};
 ghost use Rattle.import.specs.Parts.{runKind, capped, addDigit, addDigits, kept, keptOf, Measured, Taken};
 use lattice::Check;
-use lattice::Shape;
+use lattice::FullShape;
 
 // The longest token that is read.
 const LONGEST: usize = 64;
@@ -374,15 +374,15 @@ fn fill(text: &[u8], samples: &mut [i32])
     }
 }
 
-// 1, 2, 3, then 4 and 9, then 16, 17, 18 and 5 token by token.
-fn check_import(s: Shape, text: &[u8], room: usize) -> Check
-    ensures { λ r. ⌜ outcomeOf r ≡ importOutcome s (now (text .entry)) room ⌝ }
+// 1, 2, 3, 26, then 4 and 9, then 16, 17, 18 and 5 token by token.
+fn check_import(t: FullShape, text: &[u8], room: usize) -> Check
+    ensures { λ r. ⌜ outcomeOf r ≡ importOutcome t (now (text .entry)) room ⌝ }
 {
-    let shape = lattice::check_shape(s);
+    let shape = lattice::check_full(t);
     if let Check::Refused(_) = shape {
         return shape;
     }
-    let nodes = lattice::node_count(s);
+    let nodes = lattice::node_count(t.shape);
     let counted = lattice::refuse_unless(count_tokens(text) == nodes, 4, 0);
     if let Check::Refused(_) = counted {
         return counted;
@@ -395,7 +395,7 @@ fn check_import(s: Shape, text: &[u8], room: usize) -> Check
 }
 
 // Reads the numbers of `text`, as many as a table of that shape has nodes, to the front of `samples`.
-pub fn import(shape: Shape, text: &[u8], samples: &mut [i32]) -> Check
+pub fn import(shape: FullShape, text: &[u8], samples: &mut [i32]) -> Check
     ensures answer { λ r. ⌜ outcomeOf r ≡ importOutcome shape (now (text .entry)) (length (now (samples .entry))) ⌝ }
     ensures written { λ _. ⌜ now (samples .exit) ≡ importWrites shape (now (text .entry)) (now (samples .entry)) ⌝ }
 {

@@ -3,6 +3,7 @@ pub mod OutcomeLaws
 pub mod BufferLaws
 pub mod DigitsLaws
 pub mod ShapeLaws
+pub mod StepLaws
 pub mod Along
 pub mod Local
 pub mod Straight

@@ -49,7 +49,7 @@ module _ {A : Type 0} where
 pub done-refused : (a : Check) (n p : ℕ) → a ≡ done tt → a ≡ refused n p → ⊥
 done-refused a n p e f = clash (cc)
 
-last-first : (a : Check) → first a (done tt) ≡ a
+pub last-first : (a : Check) → first a (done tt) ≡ a
 last-first (done tt) = refl
 last-first (refused n p) = refl
 

@@ -1,8 +1,8 @@
--- A table's shape: its axis number n, its degree d, three node counts and its edition; refusals 1, 2 and 3.
+-- A table's shape: its axis number n, its degree d, three node counts, three step numbers and its edition; refusals 1, 2, 3 and 26.
 use mathlib.Core.Path.{_≡_}
 use Prim.Native.Nat.{ℕ, _*_, _^_, _≤_, _<_}
 use mathlib.Core.Bool.{Bool, _&&_, _||_}
-use mathlib.Core.List.{List}
+use mathlib.Core.List.{List, [], _∷_}
 use lib.Dec.{leb, ltb, eqb}
 use lib.ListN.{getD}
 use Rattle.arith.specs.Choice.{pick}
@@ -16,9 +16,9 @@ use Rattle.lattice.specs.Digits.{span}
 abbrev pub shapeOf : ℕ → ℕ → List ℕ → Shape
 shapeOf n degree counts = record { axes = n; degree = degree; counts = counts }
 
--- and its edition
-abbrev pub fullShape : Shape → (secondEdition : Bool) → FullShape
-fullShape s secondEdition = record { shape = s; «second_edition» = secondEdition }
+-- its step numbers and its edition
+abbrev pub fullShape : Shape → (steps : List ℕ) → (secondEdition : Bool) → FullShape
+fullShape s steps secondEdition = record { shape = s; steps = steps; «second_edition» = secondEdition }
 
 -- the rounding of its stages
 abbrev pub roundingIn : FullShape → Rounding
@@ -27,6 +27,10 @@ roundingIn t = roundingOf (t .«second_edition»)
 -- the node count of axis a
 unfoldable pub count : Shape → ℕ → ℕ
 count s a = getD (s .counts) a 0
+
+-- the number of steps of axis a
+unfoldable pub stepsOn : FullShape → ℕ → ℕ
+stepsOn t a = getD (t .steps) a 0
 
 -- m: 2 for degree 3, 3 for degree 5
 unfoldable pub ordersOf : ℕ → ℕ
@@ -66,6 +70,29 @@ countsOutcome n counts = onAxes 3 (λ a. countAllowed n (counts a) a)
 -- 1, 2, 3
 unfoldable pub shapeOutcome : Shape → Check
 shapeOutcome s = first (axesOutcome (s .axes)) (first (degreeOutcome (s .degree)) (countsOutcome (s .axes) (count s)))
+
+-- 16, 32, 64, 128 or 256
+unfoldable pub stepNumber : ℕ → Bool
+stepNumber k = (((eqb k 16 || eqb k 32) || eqb k 64) || eqb k 128) || eqb k 256
+
+-- one of these on a used axis, 1 on an unused one
+unfoldable pub stepsAllowed : ℕ → ℕ → ℕ → Bool
+stepsAllowed n k a = pick (ltb a n) (stepNumber k) (eqb k 1)
+
+-- 26: a step number not allowed; place is the axis
+unfoldable pub stepNumbersOutcome : ℕ → (ℕ → ℕ) → Check
+stepNumbersOutcome n steps = onAxes 26 (λ a. stepsAllowed n (steps a) a)
+
+-- 1, 2, 3, 26
+unfoldable pub fullOutcome : FullShape → Check
+fullOutcome t = first (shapeOutcome (t .shape)) (stepNumbersOutcome (t .shape .axes) (stepsOn t))
+
+-- the step numbers of a table of n axes that is read from a file
+unfoldable pub finestOn : ℕ → ℕ → ℕ
+finestOn n a = pick (ltb a n) 256 1
+
+abbrev pub finestSteps : ℕ → List ℕ
+finestSteps n = finestOn n 0 ∷ finestOn n 1 ∷ finestOn n 2 ∷ []
 
 -- the facts of a shape that is not refused
 pub record Shaped (s : Shape) : Type 0 where

@@ -7,7 +7,7 @@ ghost use lib.ListN.{getD};
 ghost use Rattle.arith.specs.Choice.{pick};
 ghost use Rattle.lattice.specs.Outcome.{refuseUnless, first};
 ghost use Rattle.lattice.specs.Answers.{outcomeOf};
-ghost use Rattle.lattice.specs.Shape.{shapeOf, count, axesOutcome, degreeOutcome, countAllowed, countsOutcome, shapeOutcome, ordersOf, entries, nodes, size, Shaped};
+ghost use Rattle.lattice.specs.Shape.{shapeOf, count, axesOutcome, degreeOutcome, countAllowed, countsOutcome, shapeOutcome, stepNumber, stepsAllowed, stepNumbersOutcome, fullOutcome, finestOn, finestSteps, ordersOf, entries, nodes, size, Shaped};
 ghost use Rattle.lattice.specs.Records.{limitOutcome};
 
 // Samples lie within this limit.
@@ -31,10 +31,11 @@ pub struct Shape {
     pub counts: [u32; 3],
 }
 
-// The shape of document 02: that of document 01 and the edition.
+// The shape of document 02: that of document 01, the step numbers and the edition.
 #[repr(C)]
 pub struct FullShape {
     pub shape: Shape,
+    pub steps: [u32; 3],
     pub second_edition: bool,
 }
 
@@ -145,6 +146,52 @@ pub fn check_shape(s: Shape) -> Check
         return axes;
     }
     check_table(s.axes, s)
+}
+
+// One of the five numbers of steps.
+pub fn step_number(steps: u32) -> bool
+    ensures { λ r. ⌜ r ≡ stepNumber steps ⌝ }
+{
+    steps == 16 || steps == 32 || steps == 64 || steps == 128 || steps == 256
+}
+
+pub fn steps_allowed(n: u32, steps: u32, axis: u32) -> bool
+    ensures { λ r. ⌜ r ≡ stepsAllowed n steps axis ⌝ }
+{
+    by_use(n, axis, step_number(steps), steps == 1)
+}
+
+// Refusal 26.
+pub fn check_step_numbers(n: u32, x: u32, y: u32, z: u32) -> Check
+    ensures { λ r. ⌜ outcomeOf r ≡ stepNumbersOutcome n (λ a. getD (x ∷ y ∷ z ∷ []) a 0) ⌝ }
+{
+    let on_x = refuse_unless(steps_allowed(n, x, 0), 26, 0);
+    let on_y = refuse_after(on_x, steps_allowed(n, y, 1), 26, 1);
+    refuse_after(on_y, steps_allowed(n, z, 2), 26, 2)
+}
+
+// Refusals 1, 2, 3 and 26.
+pub fn check_full(t: FullShape) -> Check
+    ensures { λ r. ⌜ outcomeOf r ≡ fullOutcome t ⌝ }
+{
+    let shape = check_shape(t.shape);
+    if let Check::Refused(_) = shape {
+        return shape;
+    }
+    check_step_numbers(t.shape.axes, t.steps[0], t.steps[1], t.steps[2])
+}
+
+// The step number of an axis of a table of n axes that is read from a file.
+pub fn finest_on(n: u32, axis: u32) -> u32
+    ensures { λ r. ⌜ r ≡ finestOn n axis ⌝ }
+{
+    if axis < n { 256 } else { 1 }
+}
+
+pub fn finest_steps(n: u32) -> [u32; 3]
+    ensures { λ r. ⌜ r ≡ finestSteps n ⌝ }
+{
+    [finest_on(n, 0), finest_on(n, 1), finest_on(n, 2)]
 }
 
 // m, the numbers that a record holds along one axis.

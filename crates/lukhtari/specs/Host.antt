@@ -49,8 +49,22 @@ realOf (done (asSlope w)) = record { number = 0; place = 0; value = w }
 realOf (refused n p) = record { number = n; place = p; value = some (pos 0) }
 
 abbrev pub tableFrom : Outcome Header → Table
-tableFrom (done h) = record { number = 0; place = 0; axes = h .axes; counts = h .counts; «second_edition» = h .second }
-tableFrom (refused n p) = record { number = n; place = p; axes = 0; counts = 0 ∷ 0 ∷ 0 ∷ []; «second_edition» = false }
+tableFrom (done h) = record {
+  number = 0;
+  place = 0;
+  axes = h .axes;
+  counts = h .counts;
+  steps = h .steps;
+  «second_edition» = h .second;
+}
+tableFrom (refused n p) = record {
+  number = n;
+  place = p;
+  axes = 0;
+  counts = 0 ∷ 0 ∷ 0 ∷ [];
+  steps = 0 ∷ 0 ∷ 0 ∷ [];
+  «second_edition» = false;
+}
 
 abbrev pub rampedFrom : Outcome ℕ → Ramped
 rampedFrom (done k) = record { number = 0; place = 0; fetches = k }

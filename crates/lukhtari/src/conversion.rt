@@ -19,11 +19,11 @@ pub extern "C" fn lukhtari_coefficients(
     cell: Index,
     out: &mut [i32],
 ) -> Done
-    ensures { λ r. ⌜ r ≡ doneOf (coefficientsOutcome (shape .shape) (now (records .entry)) (placeAt (cell .at)) (length (now (out .entry)))) ⌝ }
-    ensures { λ _. ⌜ now (out .exit) ≡ coefficientsWrites (shape .shape) (now (records .entry)) (placeAt (cell .at)) (now (out .entry)) ⌝ }
+    ensures { λ r. ⌜ r ≡ doneOf (coefficientsOutcome shape (now (records .entry)) (placeAt (cell .at)) (length (now (out .entry)))) ⌝ }
+    ensures { λ _. ⌜ now (out .exit) ≡ coefficientsWrites shape (now (records .entry)) (placeAt (cell .at)) (now (out .entry)) ⌝ }
 {
     let at = cell.at;
-    done_of(coefficients::coefficients(shape.shape, records, at, out))
+    done_of(coefficients::coefficients(shape, records, at, out))
 }
 
 // The corner records that have these coefficients.
@@ -48,9 +48,9 @@ pub extern "C" fn lukhtari_powers(
     cell: Index,
     out: &mut [i32],
 ) -> Done
-    ensures { λ r. ⌜ r ≡ doneOf (powersOutcome (shape .shape) (now (records .entry)) (placeAt (cell .at)) (length (now (out .entry)))) ⌝ }
-    ensures { λ _. ⌜ now (out .exit) ≡ powersWrites (shape .shape) (now (records .entry)) (placeAt (cell .at)) (now (out .entry)) ⌝ }
+    ensures { λ r. ⌜ r ≡ doneOf (powersOutcome shape (now (records .entry)) (placeAt (cell .at)) (length (now (out .entry)))) ⌝ }
+    ensures { λ _. ⌜ now (out .exit) ≡ powersWrites shape (now (records .entry)) (placeAt (cell .at)) (now (out .entry)) ⌝ }
 {
     let at = cell.at;
-    done_of(powers::powers(shape.shape, records, at, out))
+    done_of(powers::powers(shape, records, at, out))
 }

@@ -10,8 +10,8 @@ use lattice::FullShape;
 // All records from the samples.
 #[no_mangle]
 pub extern "C" fn lukhtari_estimate(shape: FullShape, samples: &[i32], records: &mut [i32]) -> Done
-    ensures { λ r. ⌜ r ≡ doneOf (estimateOutcome (shape .shape) (now (samples .entry)) (length (now (records .entry)))) ⌝ }
-    ensures { λ _. ⌜ now (records .exit) ≡ estimateWrites (shape .shape) (now (samples .entry)) (now (records .entry)) ⌝ }
+    ensures { λ r. ⌜ r ≡ doneOf (estimateOutcome shape (now (samples .entry)) (length (now (records .entry)))) ⌝ }
+    ensures { λ _. ⌜ now (records .exit) ≡ estimateWrites shape (now (samples .entry)) (now (records .entry)) ⌝ }
 {
-    done_of(estimate::estimate(shape.shape, samples, records))
+    done_of(estimate::estimate(shape, samples, records))
 }

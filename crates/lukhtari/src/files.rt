@@ -27,6 +27,7 @@ fn table_of(a: TableAnswer) -> Table
             place: 0,
             axes: axes,
             counts: [x, y, z],
+            steps: lattice::finest_steps(axes),
             second_edition: second,
         },
         TableAnswer::Refused(r) => Table {
@@ -34,6 +35,7 @@ fn table_of(a: TableAnswer) -> Table
             place: r.place,
             axes: 0,
             counts: [0, 0, 0],
+            steps: [0, 0, 0],
             second_edition: false,
         },
     }
@@ -70,13 +72,15 @@ pub extern "C" fn lukhtari_read(bytes: &[u8], samples: &mut [i32]) -> Table
 pub extern "C" fn lukhtari_write(
     axes: u32,
     counts: Index,
+    steps: Index,
     second_edition: bool,
     samples: &[i32],
     bytes: &mut [u8],
 ) -> Written
-    ensures { λ r. ⌜ r ≡ writtenFrom (writeOutcome (header axes (counts .at) «second_edition») (now (samples .entry)) (length (now (bytes .entry)))) ⌝ }
-    ensures { λ _. ⌜ now (bytes .exit) ≡ whenDone (writeOutcome (header axes (counts .at) «second_edition») (now (samples .entry)) (length (now (bytes .entry)))) (overwrite (fileOf (header axes (counts .at) «second_edition») (now (samples .entry))) (now (bytes .entry))) (now (bytes .entry)) ⌝ }
+    ensures { λ r. ⌜ r ≡ writtenFrom (writeOutcome (header axes (counts .at) (steps .at) «second_edition») (now (samples .entry)) (length (now (bytes .entry)))) ⌝ }
+    ensures { λ _. ⌜ now (bytes .exit) ≡ whenDone (writeOutcome (header axes (counts .at) (steps .at) «second_edition») (now (samples .entry)) (length (now (bytes .entry)))) (overwrite (fileOf (header axes (counts .at) (steps .at) «second_edition») (now (samples .entry))) (now (bytes .entry))) (now (bytes .entry)) ⌝ }
 {
     let given = counts.at;
-    written_of(table_file::write(axes, given, second_edition, samples, bytes))
+    let fine = steps.at;
+    written_of(table_file::write(axes, given, fine, second_edition, samples, bytes))
 }

@@ -56,6 +56,7 @@ pub struct Table {
     pub place: usize,
     pub axes: u32,
     pub counts: [u32; 3],
+    pub steps: [u32; 3],
     pub second_edition: bool,
 }
 

@@ -10,8 +10,8 @@ use lattice::FullShape;
 // The samples of a text.
 #[no_mangle]
 pub extern "C" fn lukhtari_import(shape: FullShape, text: &[u8], samples: &mut [i32]) -> Done
-    ensures { λ r. ⌜ r ≡ doneOf (importOutcome (shape .shape) (now (text .entry)) (length (now (samples .entry)))) ⌝ }
-    ensures { λ _. ⌜ now (samples .exit) ≡ importWrites (shape .shape) (now (text .entry)) (now (samples .entry)) ⌝ }
+    ensures { λ r. ⌜ r ≡ doneOf (importOutcome shape (now (text .entry)) (length (now (samples .entry)))) ⌝ }
+    ensures { λ _. ⌜ now (samples .exit) ≡ importWrites shape (now (text .entry)) (now (samples .entry)) ⌝ }
 {
-    done_of(import::import(shape.shape, text, samples))
+    done_of(import::import(shape, text, samples))
 }

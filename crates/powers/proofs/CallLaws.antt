@@ -11,13 +11,15 @@ use Rattle.arith.specs.Choice.{pick}
 use Rattle.arith.proofs.Choices.{and-true}
 use Rattle.arith.proofs.Sums.{sum-ext}
 use Rattle.lattice.specs.declared.Shape.{Shape}
+use Rattle.lattice.specs.declared.FullShape.{FullShape}
 use Rattle.lattice.specs.Outcome.{done, refuseUnless, first}
 use Rattle.lattice.specs.Buffer.{at, tabulate}
-use Rattle.lattice.specs.Shape.{ordersOf, orders, entries, size, shapeOutcome, Shaped}
+use Rattle.lattice.specs.Shape.{ordersOf, orders, entries, size, fullOutcome, Shaped}
 use Rattle.lattice.specs.Axes.{Place}
 use Rattle.lattice.specs.Records.{recordsField, entryLimit}
 use Rattle.lattice.proofs.OutcomeLaws.{first-done, refuse-done}
 use Rattle.lattice.proofs.ShapeLaws.{shaped}
+use Rattle.lattice.proofs.StepLaws.{full-shape}
 use Rattle.lattice.proofs.BufferLaws.{tabulate-same}
 use Rattle.cell.specs.declared.Layout.{Layout}
 use Rattle.cell.specs.Cell.{placeAt, cellOutcome, cornerPlace, cornersOutcome, Accepted, Laid}
@@ -44,18 +46,19 @@ two-orders : (d : ℕ) → d ≡ 3 → ordersOf d ≡ 2
 unfolding ordersOf pick
 two-orders d e = rw e refl
 
-pub asked : (s : Shape) (given : ℕ) (xs : List ℕ) (room : ℕ) → requestOutcome s given (placeAt xs) room ≡ done tt
-    → Asked s given (placeAt xs) room
+pub asked : (t : FullShape) (given : ℕ) (xs : List ℕ) (room : ℕ) → requestOutcome t given (placeAt xs) room ≡ done tt
+    → Asked (t .shape) given (placeAt xs) room
 unfolding requestOutcome
-asked s given xs room h =
+asked t given xs room h =
+    let s = t .shape in
     let kind = eqb (s .axes) 2 && eqb (s .degree) 3 in
     let last = first (refuseUnless (leb 16 room) 9 0) (cellOutcome s (placeAt xs)) in
-    let a = first-done (shapeOutcome s) (first (refuseUnless kind 24 0) (first (refuseUnless (eqb given (size s)) 4 0) last)) tt h in
+    let a = first-done (fullOutcome t) (first (refuseUnless kind 24 0) (first (refuseUnless (eqb given (size s)) 4 0) last)) tt h in
     let b = first-done (refuseUnless kind 24 0) (first (refuseUnless (eqb given (size s)) 4 0) last) tt (a .1) in
     let c = first-done (refuseUnless (eqb given (size s)) 4 0) last tt (b .1) in
     let d = first-done (refuseUnless (leb 16 room) 9 0) (cellOutcome s (placeAt xs)) tt (c .1) in
     let k = and-true (eqb (s .axes) 2) (eqb (s .degree) 3) (refuse-done kind 24 0 (b .0)) in
-    let ok = shaped s (a .0) in
+    let ok = shaped s (full-shape t (a .0)) in
     record {
       shape = ok;
       two = eqb-true (s .axes) 2 (k .0);

@@ -10,6 +10,7 @@ use lib.ListN.{length, drop, List·getD-append}
 use Rattle.arith.specs.Sum.{sum}
 use Rattle.arith.proofs.Sums.{sum-ext}
 use Rattle.lattice.specs.declared.Shape.{Shape}
+use Rattle.lattice.specs.declared.FullShape.{FullShape}
 use Rattle.lattice.specs.Outcome.{done}
 use Rattle.lattice.specs.Buffer.{at, overwrite}
 use Rattle.lattice.specs.Shape.{orders}
@@ -29,16 +30,19 @@ pub entry-product : (i j K : ℕ) → i < 4 → j < 4 → K < 16
 entry-product i j K p q h = matrix-at (i + 4 * j) K (omega arith) h ∙ matrix-product i j K p
 
 -- of a call that is not refused
-module _ (s : Shape) (rs out : List ℤ) (cell : List ℕ) (passed : powersOutcome s rs (placeAt cell) (length out) ≡ done tt) where
-  tests : (requestOutcome s (length rs) (placeAt cell) (length out) ≡ done tt) × (cornersOutcome s rs (placeAt cell) ≡ done tt)
+module _ (t : FullShape) (rs out : List ℤ) (cell : List ℕ) (passed : powersOutcome t rs (placeAt cell) (length out) ≡ done tt) where
+  abbrev s : Shape
+  s = t .shape
+
+  tests : (requestOutcome t (length rs) (placeAt cell) (length out) ≡ done tt) × (cornersOutcome s rs (placeAt cell) ≡ done tt)
   unfolding powersOutcome
-  tests = first-done (requestOutcome s (length rs) (placeAt cell) (length out)) (cornersOutcome s rs (placeAt cell)) tt passed
+  tests = first-done (requestOutcome t (length rs) (placeAt cell) (length out)) (cornersOutcome s rs (placeAt cell)) tt passed
 
   facts : Asked s (length rs) (placeAt cell) (length out)
-  facts = asked s (length rs) cell (length out) (tests .0)
+  facts = asked t (length rs) cell (length out) (tests .0)
 
   -- number R of the slice
-  number-is : (R : ℕ) → R < 16 → at (powersWrites s rs (placeAt cell) out) R ≡ powerCoefficient (placeAt cell) (recordsField s rs) R
+  number-is : (R : ℕ) → R < 16 → at (powersWrites t rs (placeAt cell) out) R ≡ powerCoefficient (placeAt cell) (recordsField s rs) R
   unfolding powersWrites powerList
   number-is R h =
       let cs = powerList (placeAt cell) (recordsField s rs) in
@@ -47,7 +51,7 @@ module _ (s : Shape) (rs out : List ℤ) (cell : List ℕ) (passed : powersOutco
       ∙ List·getD-append cs (drop (length cs) out) (pos 0) R (omega arith)
       ∙ getD-tabulate 16 (powerCoefficient (placeAt cell) (recordsField s rs)) R (pos 0) h
 
-  pub exported-within : (R : ℕ) → R < 16 → natAbs (at (powersWrites s rs (placeAt cell) out) R) ≤ 10616832
+  pub exported-within : (R : ℕ) → R < 16 → natAbs (at (powersWrites t rs (placeAt cell) out) R) ≤ 10616832
   unfolding powerCoefficient
   exported-within R h =
       le-trans (le-of-eq (ap natAbs (number-is R h)))
@@ -56,7 +60,7 @@ module _ (s : Shape) (rs out : List ℤ) (cell : List ℕ) (passed : powersOutco
 
   module _ (N u : Place) (x : u 0 ≤ N 0) (y : u 1 ≤ N 1) where
     polynomial : ℤ
-    polynomial = polynomialAt (powersWrites s rs (placeAt cell) out) N u
+    polynomial = polynomialAt (powersWrites t rs (placeAt cell) out) N u
 
     polynomial-is : polynomial
         ≡ sum 4 (λ j. sum 4 (λ i. powerCoefficient (placeAt cell) (recordsField s rs) (i + 4 * j)
@@ -85,4 +89,4 @@ module _ (s : Shape) (rs out : List ℤ) (cell : List ℕ) (passed : powersOutco
 
 pub exactly-exported : ExactlyExported
 unfolding Exactly polynomial
-exactly-exported s rs out cell N u passed x y = exact s rs out cell passed N u x y
+exactly-exported t rs out cell N u passed x y = exact t rs out cell passed N u x y

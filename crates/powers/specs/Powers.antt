@@ -10,10 +10,10 @@ use lib.IntN.{ℤ, pos, negsuc, _*ℤ_}
 use lib.ListN.{length, getD}
 use Rattle.arith.specs.Int.{_^ℤ_}
 use Rattle.arith.specs.Sum.{sum}
-use Rattle.lattice.specs.declared.Shape.{Shape}
+use Rattle.lattice.specs.declared.FullShape.{FullShape}
 use Rattle.lattice.specs.Outcome.{Check, done, refuseUnless, first, whenDone}
 use Rattle.lattice.specs.Buffer.{at, tabulate, overwrite}
-use Rattle.lattice.specs.Shape.{size, shapeOutcome}
+use Rattle.lattice.specs.Shape.{size, fullOutcome}
 use Rattle.lattice.specs.Axes.{Place, Field}
 use Rattle.lattice.specs.Records.{recordsField}
 use Rattle.cell.specs.Cell.{placeAt, cellOutcome, cornersOutcome}
@@ -68,21 +68,21 @@ powerList cell g = tabulate 16 (powerCoefficient cell g)
 
 -- ---- the call
 
--- 1, 2, 3, then 24: the table is not two-axis cubic; 4, 9, 14
-unfoldable pub requestOutcome : Shape → ℕ → Place → ℕ → Check
-requestOutcome s given cell room =
-    first (shapeOutcome s)
-    (first (refuseUnless (eqb (s .axes) 2 && eqb (s .degree) 3) 24 0)
-    (first (refuseUnless (eqb given (size s)) 4 0) (first (refuseUnless (leb 16 room) 9 0) (cellOutcome s cell))))
+-- 1, 2, 3, 26, then 24: the table is not two-axis cubic; 4, 9, 14
+unfoldable pub requestOutcome : FullShape → ℕ → Place → ℕ → Check
+requestOutcome t given cell room =
+    first (fullOutcome t)
+    (first (refuseUnless (eqb (t .shape .axes) 2 && eqb (t .shape .degree) 3) 24 0)
+    (first (refuseUnless (eqb given (size (t .shape))) 4 0) (first (refuseUnless (leb 16 room) 9 0) (cellOutcome (t .shape) cell))))
 
 -- and then 5
-unfoldable pub powersOutcome : Shape → List ℤ → Place → ℕ → Check
-powersOutcome s rs cell room = first (requestOutcome s (length rs) cell room) (cornersOutcome s rs cell)
+unfoldable pub powersOutcome : FullShape → List ℤ → Place → ℕ → Check
+powersOutcome t rs cell room = first (requestOutcome t (length rs) cell room) (cornersOutcome (t .shape) rs cell)
 
 -- what the lent slice holds afterwards
-unfoldable pub powersWrites : Shape → List ℤ → Place → List ℤ → List ℤ
-powersWrites s rs cell out =
-    whenDone (powersOutcome s rs cell (length out)) (overwrite (powerList cell (recordsField s rs)) out) out
+unfoldable pub powersWrites : FullShape → List ℤ → Place → List ℤ → List ℤ
+powersWrites t rs cell out =
+    whenDone (powersOutcome t rs cell (length out)) (overwrite (powerList cell (recordsField (t .shape) rs)) out) out
 
 -- ---- the exported polynomial over 4 is the exact value
 
@@ -97,7 +97,8 @@ polynomialAt cs N u = sum 4 (λ j. sum 4 (λ i. at cs (i + 4 * j) *ℤ (powerOf 
 -- at every step pair of every cell that the call exports, for every number of steps
 abbrev pub ExactlyExported : Type 0
 ExactlyExported =
-    (s : Shape) (rs out : List ℤ) (cell : List ℕ) (N u : Place)
-    → powersOutcome s rs (placeAt cell) (length out) ≡ done tt → u 0 ≤ N 0 → u 1 ≤ N 1
-    → (exactSum (askOf s dose N (placeAt cell) u) (recordsField s rs) ≡ polynomialAt (powersWrites s rs (placeAt cell) out) N u)
-    × (exactDivisor (askOf s dose N (placeAt cell) u) ≡ 4 * (N 0 ^ 3 * N 1 ^ 3))
+    (t : FullShape) (rs out : List ℤ) (cell : List ℕ) (N u : Place)
+    → powersOutcome t rs (placeAt cell) (length out) ≡ done tt → u 0 ≤ N 0 → u 1 ≤ N 1
+    → (exactSum (askOf (t .shape) dose N (placeAt cell) u) (recordsField (t .shape) rs)
+    ≡ polynomialAt (powersWrites t rs (placeAt cell) out) N u)
+    × (exactDivisor (askOf (t .shape) dose N (placeAt cell) u) ≡ 4 * (N 0 ^ 3 * N 1 ^ 3))

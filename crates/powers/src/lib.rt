@@ -9,39 +9,39 @@ ghost use lib.ListN.{length};
 ghost use Rattle.lattice.specs.Outcome.{refuseUnless, first};
 ghost use Rattle.lattice.specs.Answers.{outcomeOf};
 ghost use Rattle.lattice.specs.Buffer.{at, tabulate, overwrite};
-ghost use Rattle.lattice.specs.Shape.{shapeOutcome};
+ghost use Rattle.lattice.specs.Shape.{fullOutcome};
 ghost use Rattle.cell.specs.Cell.{placeAt};
 ghost use Rattle.coefficients.specs.Blocks.{Gathered};
 ghost use Rattle.powers.specs.Powers.{requestOutcome, powersOutcome, powersWrites};
 ghost use Rattle.powers.specs.Parts.{columnAt, rowSum, rowLoad};
 use cell::Layout;
 use lattice::Check;
-use lattice::Shape;
+use lattice::FullShape;
 
 // By entry of a record: f, D along x, D along y, D along both.
 const FACTORS: [i32; 4] = [4, 2, 2, 1];
 
-// 1, 2, 3, 24.
-fn check_kind(s: Shape) -> Check
-    ensures { λ r. ⌜ outcomeOf r ≡ first (shapeOutcome s) (refuseUnless (eqb (s .axes) 2 && eqb (s .degree) 3) 24 0) ⌝ }
+// 1, 2, 3, 26, 24.
+fn check_kind(t: FullShape) -> Check
+    ensures { λ r. ⌜ outcomeOf r ≡ first (fullOutcome t) (refuseUnless (eqb (t .shape .axes) 2 && eqb (t .shape .degree) 3) 24 0) ⌝ }
 {
-    let shape = lattice::check_shape(s);
-    lattice::refuse_after(shape, s.axes == 2 && s.degree == 3, 24, 0)
+    let shape = lattice::check_full(t);
+    lattice::refuse_after(shape, t.shape.axes == 2 && t.shape.degree == 3, 24, 0)
 }
 
-// 1, 2, 3, 24, 4, 9, 14.
-fn check_request(s: Shape, given: usize, cell: [u32; 3], room: usize) -> Check
-    ensures { λ r. ⌜ outcomeOf r ≡ requestOutcome s given (placeAt cell) room ⌝ }
+// 1, 2, 3, 26, 24, 4, 9, 14.
+fn check_request(t: FullShape, given: usize, cell: [u32; 3], room: usize) -> Check
+    ensures { λ r. ⌜ outcomeOf r ≡ requestOutcome t given (placeAt cell) room ⌝ }
 {
-    let kind = check_kind(s);
+    let kind = check_kind(t);
     if let Check::Refused(_) = kind {
         return kind;
     }
-    let long = lattice::refuse_unless(given == lattice::table_entries(s), 4, 0);
+    let long = lattice::refuse_unless(given == lattice::table_entries(t.shape), 4, 0);
     let roomy = lattice::refuse_after(long, 16 <= room, 9, 0);
     lattice::earlier(
         roomy,
-        cell::check_cell(s.axes, s, cell[0], cell[1], cell[2]),
+        cell::check_cell(t.shape.axes, t.shape, cell[0], cell[1], cell[2]),
     )
 }
 
@@ -88,16 +88,16 @@ fn by_rows(matrix: &[i32; 256], xs: &[i32; 16], out: &mut [i32])
 }
 
 // The power coefficients of a cell to the front of `out`.
-pub fn powers(s: Shape, records: &[i32], cell: [u32; 3], out: &mut [i32]) -> Check
-    ensures { λ r. ⌜ outcomeOf r ≡ powersOutcome s (now (records .entry)) (placeAt cell) (length (now (out .entry))) ⌝ }
-    ensures { λ _. ⌜ now (out .exit) ≡ powersWrites s (now (records .entry)) (placeAt cell) (now (out .entry)) ⌝ }
+pub fn powers(t: FullShape, records: &[i32], cell: [u32; 3], out: &mut [i32]) -> Check
+    ensures { λ r. ⌜ outcomeOf r ≡ powersOutcome t (now (records .entry)) (placeAt cell) (length (now (out .entry))) ⌝ }
+    ensures { λ _. ⌜ now (out .exit) ≡ powersWrites t (now (records .entry)) (placeAt cell) (now (out .entry)) ⌝ }
 {
-    let asked = check_request(s, records.len(), cell, out.len());
+    let asked = check_request(t, records.len(), cell, out.len());
     if let Check::Refused(_) = asked {
         return asked;
     }
-    let l = cell::layout_of(s, cell);
-    let tested = cell::check_corners(s, records, cell, l);
+    let l = cell::layout_of(t.shape, cell);
+    let tested = cell::check_corners(t.shape, records, cell, l);
     if let Check::Refused(_) = tested {
         return tested;
     }

@@ -12,7 +12,7 @@ use lib.IntN.{ℤ}
 use Rattle.arith.specs.Int.{Rounding, roundingOf}
 use Rattle.lattice.specs.declared.Shape.{Shape}
 use Rattle.lattice.specs.Outcome.{done, passed}
-use Rattle.lattice.specs.Shape.{fullShape, orders, Shaped}
+use Rattle.lattice.specs.Shape.{fullShape, stepsOn, orders, Shaped}
 use Rattle.lattice.specs.Axes.{Place, origin}
 use Rattle.lattice.specs.Records.{recordsField}
 use Rattle.lattice.proofs.DigitsLaws.{Digits}
@@ -21,7 +21,7 @@ use Rattle.cell.specs.Cell.{cornersOutcome, Accepted}
 use Rattle.cell.specs.Corners.{cornerRecords, oneCell}
 use Rattle.cell.proofs.CellLaws.{placed}
 use Rattle.cell.proofs.OneCell.{number-same, corners-same}
-use Rattle.evaluate.specs.Evaluate.{Want, lastAxis, askAt, answerBy}
+use Rattle.evaluate.specs.Evaluate.{Want, lastAxis, askOf, answerBy}
 use Rattle.evaluate.proofs.AnswerLaws.{Alike, answer-moved}
 use Rattle.query.specs.Queries.{reading}
 use Rattle.query.proofs.QueryLaws.{reading-parts, reading-passes}
@@ -69,29 +69,30 @@ module _ (s : Shape) (ok : Shaped s) (cell : Place) (here : Accepted s cell) (rs
         ap (recordsField s rs) here-placed ∙ number-same s ok cell here rs r numbers-in ∙ ap (recordsField one records) there-placed
 
   module _ (want : Want) (step : Place) (last : lastAxis (s .axes) want < s .axes) where
-    pub answer-one-cell : (round : Rounding)
-        → answerBy round (askAt s want cell step) (recordsField s rs)
-        ≡ answerBy round (askAt (oneCell (s .axes) (s .degree)) want origin step)
+    pub answer-one-cell : (N : Place) (round : Rounding)
+        → answerBy round (askOf s want N cell step) (recordsField s rs)
+        ≡ answerBy round (askOf (oneCell (s .axes) (s .degree)) want N origin step)
         (recordsField (oneCell (s .axes) (s .degree)) (cornerRecords s rs cell))
-    unfolding askAt oneCell
-    answer-one-cell round =
-        answer-moved round (askAt s want cell step) origin last (recordsField s rs) (recordsField one records) field-same
+    unfolding oneCell
+    answer-one-cell N round =
+        answer-moved round (askOf s want N cell step) origin last (recordsField s rs) (recordsField one records) field-same
 
     -- with refusal 5
-    pub reading-one-cell : (even : Bool) (v : ℤ)
-        → (reading (fullShape s even) rs want cell step ≡ done v) ↔
-        (reading (fullShape (oneCell (s .axes) (s .degree)) even) (cornerRecords s rs cell) want origin step ≡ done v)
-    reading-one-cell even v = (
+    pub reading-one-cell : (numbers : List ℕ) (even : Bool) (v : ℤ)
+        → (reading (fullShape s numbers even) rs want cell step ≡ done v) ↔
+        (reading (fullShape (oneCell (s .axes) (s .degree)) numbers even) (cornerRecords s rs cell) want origin step ≡ done v)
+    unfolding stepsOn
+    reading-one-cell numbers even v = (
       λ e.
-          let f = reading-parts (fullShape s even) rs want cell step v e in
-          reading-passes (fullShape one even) records want origin step
+          let f = reading-parts (fullShape s numbers even) rs want cell step v e in
+          reading-passes (fullShape one numbers even) records want origin step
           (passed-done (cornersOutcome one records origin) (sym passes-same ∙ ap passed (f .0)))
-          ∙ ap done (sym (answer-one-cell (roundingOf even)) ∙ f .1),
+          ∙ ap done (sym (answer-one-cell (stepsOn (fullShape s numbers even)) (roundingOf even)) ∙ f .1),
       λ e.
-          let f = reading-parts (fullShape one even) records want origin step v e in
-          reading-passes (fullShape s even) rs want cell step
+          let f = reading-parts (fullShape one numbers even) records want origin step v e in
+          reading-passes (fullShape s numbers even) rs want cell step
           (passed-done (cornersOutcome s rs cell) (passes-same ∙ ap passed (f .0)))
-          ∙ ap done (answer-one-cell (roundingOf even) ∙ f .1),
+          ∙ ap done (answer-one-cell (stepsOn (fullShape s numbers even)) (roundingOf even) ∙ f .1),
     )
       where
         passes-same : passed (cornersOutcome s rs cell) ≡ passed (cornersOutcome one records origin)

@@ -1,12 +1,12 @@
--- Refusals under another number: a query's tests one after the other, those whose numbers stay, 22 for 11 by position, 11 again by cell.
+-- Refusals under another number: a query's tests one after the other, those whose numbers stay, 22 for 11 by position.
 use mathlib.Core.Path.{_≡_, refl, sym, ap, ap₂, _∙_}
 use mathlib.Core.Bool.{Bool, true, false, _&&_, _||_}
 use mathlib.Core.List.{List}
 use mathlib.Core.Logic.{_⊎_, inl, inr}
-use Prim.Native.Nat.{ℕ, zero, suc, _+_, _<_}
+use Prim.Native.Nat.{ℕ, zero, suc, _<_}
 use native.Mathlib.Omega.{arith}
 use lib.Dec.{leb, ltb, eqb}
-use lib.IntN.{ℤ, pos, natAbs}
+use lib.IntN.{ℤ, natAbs}
 use lib.ListN.{length}
 use borrow.Author.Tests.{eqb-true}
 use Rattle.arith.specs.Choice.{pick}
@@ -14,15 +14,13 @@ use Rattle.arith.proofs.Choices.{clash, split, pick-true, pick-false}
 use Rattle.lattice.specs.declared.Shape.{Shape}
 use Rattle.lattice.specs.declared.FullShape.{FullShape}
 use Rattle.lattice.specs.Outcome.{Outcome, Check, done, refused, refuseUnless, first, firstOf}
-use Rattle.lattice.specs.Shape.{count, orders, size, shapeOutcome, axesOutcome, degreeOutcome, countsOutcome, countAllowed}
+use Rattle.lattice.specs.Shape.{count, stepsOn, orders, size, shapeOutcome, axesOutcome, degreeOutcome, countsOutcome, countAllowed, stepsAllowed, stepNumbersOutcome, fullOutcome}
 use Rattle.lattice.specs.Axes.{Place}
 use Rattle.lattice.specs.Records.{recordsField, entryIndex, entryLimit}
-use Rattle.hermite.specs.Hermite.{steps}
-use Rattle.cell.specs.Cell.{cellOutcome, cornerEntries, cornerPlace, entryOutcome, cornersOutcome}
+use Rattle.cell.specs.Cell.{cornerEntries, cornerPlace, entryOutcome, cornersOutcome}
 use Rattle.evaluate.specs.Evaluate.{Want, dose, derivativeAlong}
-use Rattle.query.specs.Parts.{renumbered, below, positionNumber, cellNumber}
-use Rattle.query.specs.Queries.{wantOutcome, askedOutcome, reading, stepsOutcome, byCell}
-use Rattle.query.proofs.QueryLaws.{used-test, unused-test, by-cell-is}
+use Rattle.query.specs.Parts.{renumbered, below, positionNumber, numberBy}
+use Rattle.query.specs.Queries.{wantOutcome, askedOutcome, reading, byCell}
 
 -- the numbers of a position's test
 abbrev pub ofPosition : ℕ → Bool
@@ -67,14 +65,21 @@ module _ (told : ℕ → ℕ → ℕ) where
     kept-want s (derivativeAlong order l) =
         kept-first _ _ (kept-test (ltb l (s .axes)) 12 0 (keeps 12 0 refl)) (kept-test (ltb order (orders s)) 21 0 (keeps 21 0 refl))
 
-    -- 1, 2, 3, 4, 12 and 21 stay
-    pub kept-asked : (s : Shape) (rs : List ℤ) (want : Want) → renumbered told (askedOutcome s rs want) ≡ askedOutcome s rs want
-    unfolding askedOutcome shapeOutcome axesOutcome degreeOutcome countsOutcome
-    kept-asked s rs want =
-        kept-first _ _
-        (kept-first _ _ (kept-test (leb 1 (s .axes) && leb (s .axes) 3) 1 0 (keeps 1 0 refl))
+    kept-shape : (s : Shape) → renumbered told (shapeOutcome s) ≡ shapeOutcome s
+    unfolding shapeOutcome axesOutcome degreeOutcome countsOutcome
+    kept-shape s =
+        kept-first _ _ (kept-test (leb 1 (s .axes) && leb (s .axes) 3) 1 0 (keeps 1 0 refl))
         (kept-first _ _ (kept-test (eqb (s .degree) 3 || eqb (s .degree) 5) 2 0 (keeps 2 0 refl))
-        (renumbered-each 3 _ _ (λ a l. kept-test (countAllowed (s .axes) (count s a) a) 3 a (keeps 3 a refl)))))
+        (renumbered-each 3 _ _ (λ a l. kept-test (countAllowed (s .axes) (count s a) a) 3 a (keeps 3 a refl))))
+
+    -- 1, 2, 3, 26, 4, 12 and 21 stay
+    pub kept-asked : (t : FullShape) (rs : List ℤ) (want : Want) → renumbered told (askedOutcome t rs want) ≡ askedOutcome t rs want
+    unfolding askedOutcome fullOutcome stepNumbersOutcome
+    kept-asked t rs want =
+        let s = t .shape in
+        kept-first _ _
+        (kept-first _ _ (kept-shape s)
+        (renumbered-each 3 _ _ (λ a l. kept-test (stepsAllowed (s .axes) (stepsOn t a) a) 26 a (keeps 26 a refl))))
         (kept-first _ _ (kept-test (eqb (length rs) (size s)) 4 0 (keeps 4 0 refl)) (kept-want s want))
 
     -- and 5
@@ -90,11 +95,11 @@ module _ (told : ℕ → ℕ → ℕ) where
 
     -- a query: the common tests, the tests of its position, and what is read
     pub renumbered-query : (t : FullShape) (rs : List ℤ) (want : Want) (tests : Check) (cell u : Place)
-        → renumbered told (first (askedOutcome (t .shape) rs want) (first tests (reading t rs want cell u)))
-        ≡ first (askedOutcome (t .shape) rs want) (first (renumbered told tests) (reading t rs want cell u))
+        → renumbered told (first (askedOutcome t rs want) (first tests (reading t rs want cell u)))
+        ≡ first (askedOutcome t rs want) (first (renumbered told tests) (reading t rs want cell u))
     renumbered-query t rs want tests cell u =
-        renumbered-first (askedOutcome (t .shape) rs want) (first tests (reading t rs want cell u))
-        ∙ ap₂ (λ (c : Check) (o : Outcome ℤ). first c o) (kept-asked (t .shape) rs want)
+        renumbered-first (askedOutcome t rs want) (first tests (reading t rs want cell u))
+        ∙ ap₂ (λ (c : Check) (o : Outcome ℤ). first c o) (kept-asked t rs want)
         (renumbered-first tests (reading t rs want cell u)
         ∙ ap (λ (o : Outcome ℤ). first (renumbered told tests) o) (kept-reading t rs want cell u))
 
@@ -128,51 +133,26 @@ module _ (cell step : Place) where
       (λ g. inl (ap (λ (k : ℕ). refused k p) (sym (position-kept n p (λ h. g))) ∙ e)))
       (λ f. inl (ap (λ (k : ℕ). refused k p) (sym (position-kept n p (λ h. clash (cc)))) ∙ e))
 
-  -- ---- by cell: 11 again
+-- ---- by cell the number stays
 
-  abbrev again : ℕ → ℕ → ℕ
-  again n p = cellNumber (positionNumber cell step n p) p
+module _ (cell step : Place) where
+  pub number-by-cell : (n p : ℕ) → numberBy true cell step n p ≡ n
+  unfolding numberBy pick
+  number-by-cell n p = refl
 
-  again-keeps : (n p : ℕ) → eqb n 22 ≡ false → again n p ≡ n
-  unfolding cellNumber pick
-  again-keeps n p e =
-      split (eqb n 11)
-      (λ f.
-      split (below cell step p)
-      (λ g. ap (λ (k : ℕ). cellNumber k p) (sym (position-below n p f g)) ∙ sym (eqb-true n 11 f)) (λ g. kept (λ h. g)))
-      (λ f. kept (λ h. clash (cc)))
-    where
-      kept : (eqb n 11 ≡ true → below cell step p ≡ false) → again n p ≡ n
-      kept h = ap (λ (k : ℕ). cellNumber k p) (position-kept n p h) ∙ pick-false (eqb n 22) 11 n e
+  pub number-by-position : (n p : ℕ) → numberBy false cell step n p ≡ positionNumber cell step n p
+  unfolding numberBy pick
+  number-by-position n p = refl
 
-  again-is : {A : Type 0} (o : Outcome A) → renumbered cellNumber (renumbered (positionNumber cell step) o) ≡ renumbered again o
-  again-is (done v) = refl
-  again-is (refused n p) = refl
+  pub by-cell-stays : {A : Type 0} (o : Outcome A) → renumbered (numberBy true cell step) o ≡ o
+  by-cell-stays (done v) = refl
+  by-cell-stays (refused n p) = ap (λ (k : ℕ). refused k p) (number-by-cell n p)
 
-  again-cell : (s : Shape) → renumbered again (cellOutcome s cell) ≡ cellOutcome s cell
-  unfolding cellOutcome
-  again-cell s = renumbered-each again 3 _ _ (λ a l.
-      kept-test again (pick (ltb a (s .axes)) (leb (cell a + 2) (count s a)) (eqb (cell a) 0)) 14 a (again-keeps 14 a refl))
+  pub by-position-told : {A : Type 0} (o : Outcome A)
+      → renumbered (numberBy false cell step) o ≡ renumbered (positionNumber cell step) o
+  by-position-told (done v) = refl
+  by-position-told (refused n p) = ap (λ (k : ℕ). refused k p) (number-by-position n p)
 
-  again-steps : (s : Shape) → renumbered again (stepsOutcome s step) ≡ stepsOutcome s step
-  unfolding stepsOutcome
-  again-steps s = renumbered-each again 3 _ _ (λ a l.
-      split (ltb a (s .axes))
-      (λ e. let f = used-test s steps (pos (step a)) a e in
-      ap (renumbered again) f ∙ kept-test again (leb (step a) steps) 11 a (again-keeps 11 a refl) ∙ sym f)
-      (λ e. let f = unused-test s steps (pos (step a)) a e in
-      ap (renumbered again) f ∙ kept-test again (eqb (step a) 0) 23 a (again-keeps 23 a refl) ∙ sym f))
-
-  -- no in-cell step is below 0
-  pub by-cell-again : (t : FullShape) (rs : List ℤ) (want : Want)
-      → renumbered cellNumber (renumbered (positionNumber cell step) (byCell t rs want cell step)) ≡ byCell t rs want cell step
-  by-cell-again t rs want =
-      let s = t .shape in
-      again-is (byCell t rs want cell step) ∙ ap (renumbered again) (by-cell-is t rs want cell step)
-      ∙ renumbered-query again (λ n p e. again-keeps n p (other n e)) t rs want (first (cellOutcome s cell) (stepsOutcome s step)) cell step
-      ∙ ap (λ (c : Check). first (askedOutcome s rs want) (first c (reading t rs want cell step)))
-      (kept-first again (cellOutcome s cell) (stepsOutcome s step) (again-cell s) (again-steps s))
-      ∙ sym (by-cell-is t rs want cell step)
-    where
-      other : (n : ℕ) → ofPosition n ≡ false → eqb n 22 ≡ false
-      other n e = split (eqb n 22) (λ f. split (eqb n 11) (λ g. clash (cc)) (λ g. clash (cc))) (λ f. f)
+  pub number-keeps : (byCell : Bool) (n p : ℕ) → ofPosition n ≡ false → numberBy byCell cell step n p ≡ n
+  number-keeps true n p e = number-by-cell n p
+  number-keeps false n p e = number-by-position n p ∙ position-keeps cell step n p e

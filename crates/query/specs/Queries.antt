@@ -11,28 +11,31 @@ use Rattle.lattice.specs.declared.Shape.{Shape}
 use Rattle.lattice.specs.declared.FullShape.{FullShape}
 use Rattle.lattice.specs.Outcome.{Outcome, Check, done, refuseUnless, first, firstOf}
 use Rattle.lattice.specs.Buffer.{at}
-use Rattle.lattice.specs.Shape.{roundingIn, count, orders, size, shapeOutcome}
+use Rattle.lattice.specs.Shape.{roundingIn, count, stepsOn, orders, size, fullOutcome}
 use Rattle.lattice.specs.Axes.{Place}
 use Rattle.lattice.specs.Records.{recordsField}
-use Rattle.hermite.specs.Hermite.{steps}
 use Rattle.cell.specs.Cell.{cellOutcome, cornersOutcome}
-use Rattle.evaluate.specs.Evaluate.{Want, dose, derivativeAlong, askAt, answerBy, exactBy}
+use Rattle.evaluate.specs.Evaluate.{Want, dose, derivativeAlong, Ask, askOf, answerBy, exactBy}
 
 -- 12: the derivative's axis is not used; then 21: its order is m or more, which order 2 is in degree 3
 unfoldable pub wantOutcome : Shape → Want → Check
 wantOutcome s dose = done tt
 wantOutcome s (derivativeAlong order l) = first (refuseUnless (ltb l (s .axes)) 12 0) (refuseUnless (ltb order (orders s)) 21 0)
 
--- 1, 2, 3, 4, 12, 21, common to all queries
-unfoldable pub askedOutcome : Shape → List ℤ → Want → Check
-askedOutcome s rs want =
-    first (shapeOutcome s) (first (refuseUnless (eqb (length rs) (size s)) 4 0) (wantOutcome s want))
+-- 1, 2, 3, 26, 4, 12, 21, common to all queries
+unfoldable pub askedOutcome : FullShape → List ℤ → Want → Check
+askedOutcome t rs want =
+    first (fullOutcome t) (first (refuseUnless (eqb (length rs) (size (t .shape))) 4 0) (wantOutcome (t .shape) want))
+
+-- what is asked of a table, each axis having its own number of steps
+abbrev pub askIn : FullShape → Want → Place → Place → Ask
+askIn t want cell step = askOf (t .shape) want (stepsOn t) cell step
 
 -- 5 on the corners, then the dose or derivative
 unfoldable pub reading : FullShape → List ℤ → Want → Place → Place → Outcome ℤ
 reading t rs want cell step =
     first (cornersOutcome (t .shape) rs cell)
-    (done (answerBy (roundingIn t) (askAt (t .shape) want cell step) (recordsField (t .shape) rs)))
+    (done (answerBy (roundingIn t) (askIn t want cell step) (recordsField (t .shape) rs)))
 
 -- ---- a position on an axis
 
@@ -44,17 +47,17 @@ positionTest s last p a =
 
 -- ---- by cell and in-cell step
 
--- u on each axis, the last being 256; never below 0
-unfoldable pub stepsOutcome : Shape → Place → Check
-stepsOutcome s step = firstOf 3 (λ a. positionTest s steps (pos (step a)) a)
+-- u on each axis, the last being the number of its steps; never below 0
+unfoldable pub stepsOutcome : FullShape → Place → Check
+stepsOutcome t step = firstOf 3 (λ a. positionTest (t .shape) (stepsOn t a) (pos (step a)) a)
 
 -- then 14; then on each axis 23, 11
-unfoldable pub testedOutcome : Shape → List ℤ → Want → Place → Place → Check
-testedOutcome s rs want cell step = first (askedOutcome s rs want) (first (cellOutcome s cell) (stepsOutcome s step))
+unfoldable pub testedOutcome : FullShape → List ℤ → Want → Place → Place → Check
+testedOutcome t rs want cell step = first (askedOutcome t rs want) (first (cellOutcome (t .shape) cell) (stepsOutcome t step))
 
 -- then 5
 unfoldable pub byCell : FullShape → List ℤ → Want → Place → Place → Outcome ℤ
-byCell t rs want cell step = first (testedOutcome (t .shape) rs want cell step) (reading t rs want cell step)
+byCell t rs want cell step = first (testedOutcome t rs want cell step) (reading t rs want cell step)
 
 -- ---- by table position
 
@@ -67,30 +70,29 @@ unfoldable pub positionAt : List ℤ → Position
 positionAt xs a = pick (ltb a 3) (at xs a) (pos 0)
 
 -- on one axis, the last being that of the last node
-unfoldable pub positionOutcome : Shape → Position → ℕ → Check
-positionOutcome s p a = positionTest s (steps * (count s a - 1)) (p a) a
+unfoldable pub positionOutcome : FullShape → Position → ℕ → Check
+positionOutcome t p a = positionTest (t .shape) (stepsOn t a * (count (t .shape) a - 1)) (p a) a
 
--- the smaller of p/256 rounded down and count − 2; the last node belongs to the last cell
+-- of an axis of N steps a cell: the smaller of p/N rounded down and count − 2; the last node belongs to the last cell
 unfoldable pub cellOf : ℕ → ℕ → ℕ → ℕ
 cellOf N count p = min (p / N) (count - 2)
 
-unfoldable pub positionCell : Shape → Position → Place
-positionCell s p a = cellOf steps (count s a) (natAbs (p a))
+unfoldable pub positionCell : FullShape → Position → Place
+positionCell t p a = cellOf (stepsOn t a) (count (t .shape) a) (natAbs (p a))
 
--- p less 256 times the cell
-unfoldable pub positionStep : Shape → Position → Place
-positionStep s p a = natAbs (p a) - steps * positionCell s p a
+-- p less N times the cell
+unfoldable pub positionStep : FullShape → Position → Place
+positionStep t p a = natAbs (p a) - stepsOn t a * positionCell t p a
 
 -- then on each axis 23, 22, 11; then 5
 unfoldable pub byPosition : FullShape → List ℤ → Want → Position → Outcome ℤ
 byPosition t rs want p =
-    first (askedOutcome (t .shape) rs want)
-    (first (firstOf 3 (positionOutcome (t .shape) p)) (reading t rs want (positionCell (t .shape) p) (positionStep (t .shape) p)))
+    first (askedOutcome t rs want) (first (firstOf 3 (positionOutcome t p)) (reading t rs want (positionCell t p) (positionStep t p)))
 
 -- ---- the mark of an answer that is not refused
 
 unfoldable pub cellMark : FullShape → List ℤ → Want → Place → Place → Bool
-cellMark t rs want cell step = exactBy (roundingIn t) (askAt (t .shape) want cell step) (recordsField (t .shape) rs)
+cellMark t rs want cell step = exactBy (roundingIn t) (askIn t want cell step) (recordsField (t .shape) rs)
 
 unfoldable pub positionMark : FullShape → List ℤ → Want → Position → Bool
-positionMark t rs want p = cellMark t rs want (positionCell (t .shape) p) (positionStep (t .shape) p)
+positionMark t rs want p = cellMark t rs want (positionCell t p) (positionStep t p)

@@ -1,21 +1,21 @@
 // Doses, slopes and curvatures by cell and in-cell step, and by table position.
 ghost use mathlib.Core.Path.{_≡_};
-ghost use mathlib.Core.Bool.{Bool, false};
+ghost use mathlib.Core.Bool.{Bool, true, false};
 ghost use mathlib.Core.List.{List, [], _∷_};
-ghost use Prim.Native.Nat.{ℕ, _+_, _*_, _^_, _≤_};
+ghost use Prim.Native.Nat.{ℕ, _+_, _*_, _-_, _/_, _^_, _≤_, _<_};
 ghost use lib.Dec.{leb, ltb, eqb};
 ghost use lib.IntN.{ℤ};
-ghost use lib.ListN.{length};
+ghost use lib.ListN.{length, getD};
 ghost use Rattle.arith.specs.Choice.{pick};
 ghost use Rattle.lattice.specs.Outcome.{done, first, passed};
 ghost use Rattle.lattice.specs.Answers.{outcomeOf};
-ghost use Rattle.lattice.specs.Shape.{fullShape, size, Shaped};
+ghost use Rattle.lattice.specs.Shape.{count, stepsOn, stepNumber, stepsAllowed, finestOn, size, Shaped};
 ghost use Rattle.hermite.specs.Hermite.{steps};
 ghost use Rattle.cell.specs.Cell.{placeAt, cornersOutcome, Accepted, Laid};
 ghost use Rattle.evaluate.specs.Evaluate.{derivativeAlong};
 ghost use Rattle.evaluate.specs.Wants.{wanted, wantOf};
-ghost use Rattle.query.specs.Answers.{outcomeOfReading, isExact, Marks};
-ghost use Rattle.query.specs.Parts.{renumbered, below, positionNumber, cellNumber};
+ghost use Rattle.query.specs.Answers.{outcomeOfReading, isExact, Marks, InFinest};
+ghost use Rattle.query.specs.Parts.{below, positionNumber, numberBy, finest, factorFor, scaled, scaledPosition, cellOn, Stand};
 ghost use Rattle.query.specs.Queries.{wantOutcome, askedOutcome, testedOutcome, reading, stepsOutcome, byCell, positionAt, cellOf, byPosition, cellMark, positionMark};
 use cell::Layout;
 use evaluate::Derivative;
@@ -36,6 +36,18 @@ pub struct CellQuery {
     pub derivative: Derivative,
 }
 
+// Numbers of steps on three axes.
+pub struct Steps {
+    pub x: u32,
+    pub y: u32,
+    pub z: u32,
+}
+
+pub enum Finer {
+    At(Steps),
+    Refused(Refusal),
+}
+
 pub enum Reading {
     Exact(i32),
     Near(i32),
@@ -52,10 +64,10 @@ fn check_derivative(n: u32, s: Shape, order: u32, axis: u32) -> Check
     lattice::refuse_after(used, (order as usize) < m, 21, 0)
 }
 
-// Refusals 2, 3, 4, 12 and 21 on n axes, of `given` records' entries.
+// Refusals 2, 3, 4, 12 and 21 on n axes, of `given` records' entries; here and below every used axis has 256 steps.
 fn check_asked(n: u32, s: Shape, given: usize, order: u32, axis: u32) -> Check
     requires { ⌜ (1 ≤ n) × (n ≤ 3) × (n ≡ s .axes) ⌝ }
-    ensures { λ r. ⌜ ((rs : List ℤ) → length rs ≡ given → outcomeOf r ≡ askedOutcome s rs (wantOf order axis)) ⌝ }
+    ensures { λ r. ⌜ ((even : Bool) (rs : List ℤ) → length rs ≡ given → outcomeOf r ≡ askedOutcome (finest s even) rs (wantOf order axis)) ⌝ }
 {
     let table = lattice::check_table(n, s);
     if let Check::Refused(_) = table {
@@ -91,7 +103,7 @@ fn step_number(n: u32, axis: u32) -> u32
 // Refusals 23 and 11 of an in-cell step.
 pub fn check_steps(n: u32, s: Shape, u: u32, v: u32, w: u32) -> Check
     requires { ⌜ n ≡ s .axes ⌝ }
-    ensures { λ r. ⌜ outcomeOf r ≡ stepsOutcome s (placeAt (u ∷ v ∷ w ∷ [])) ⌝ }
+    ensures { λ r. ⌜ ((even : Bool) → outcomeOf r ≡ stepsOutcome (finest s even) (placeAt (u ∷ v ∷ w ∷ []))) ⌝ }
 {
     let on_x = lattice::refuse_unless(step_allowed(n, u, 0), step_number(n, 0), 0);
     let on_y = lattice::refuse_after(on_x, step_allowed(n, v, 1), step_number(n, 1), 1);
@@ -143,7 +155,7 @@ fn check_query(
     axis: u32,
 ) -> Check
     requires { ⌜ (1 ≤ n) × (n ≤ 3) × (n ≡ s .axes) ⌝ }
-    ensures { λ r. ⌜ ((rs : List ℤ) → length rs ≡ given → outcomeOf r ≡ testedOutcome s rs (wantOf order axis) (placeAt (i ∷ j ∷ k ∷ [])) (placeAt (u ∷ v ∷ w ∷ []))) ⌝ }
+    ensures { λ r. ⌜ ((even : Bool) (rs : List ℤ) → length rs ≡ given → outcomeOf r ≡ testedOutcome (finest s even) rs (wantOf order axis) (placeAt (i ∷ j ∷ k ∷ [])) (placeAt (u ∷ v ∷ w ∷ []))) ⌝ }
 {
     let asked = check_asked(n, s, given, order, axis);
     if let Check::Refused(_) = asked {
@@ -169,7 +181,7 @@ fn check_by_axes(
     order: u32,
     axis: u32,
 ) -> Check
-    ensures { λ r. ⌜ ((rs : List ℤ) → length rs ≡ given → outcomeOf r ≡ testedOutcome s rs (wantOf order axis) (placeAt (i ∷ j ∷ k ∷ [])) (placeAt (u ∷ v ∷ w ∷ []))) ⌝ }
+    ensures { λ r. ⌜ ((even : Bool) (rs : List ℤ) → length rs ≡ given → outcomeOf r ≡ testedOutcome (finest s even) rs (wantOf order axis) (placeAt (i ∷ j ∷ k ∷ [])) (placeAt (u ∷ v ∷ w ∷ []))) ⌝ }
 {
     let n = s.axes;
     if n == 1 {
@@ -218,10 +230,10 @@ fn read_line(
     order: u32,
     axis: u32,
 ) -> Reading
-    requires { ⌜ testedOutcome s (now records) (wantOf order axis) (placeAt cell) (placeAt step) ≡ done tt ⌝ }
+    requires { ⌜ testedOutcome (finest s even) (now records) (wantOf order axis) (placeAt cell) (placeAt step) ≡ done tt ⌝ }
     requires { ⌜ s .axes ≡ 1 ⌝ }
-    ensures { λ r. ⌜ outcomeOfReading r ≡ reading (fullShape s even) (now (records .entry)) (wantOf order axis) (placeAt cell) (placeAt step) ⌝ }
-    ensures { λ r. ⌜ Marks r (cellMark (fullShape s even) (now (records .entry)) (wantOf order axis) (placeAt cell) (placeAt step)) ⌝ }
+    ensures { λ r. ⌜ outcomeOfReading r ≡ reading (finest s even) (now (records .entry)) (wantOf order axis) (placeAt cell) (placeAt step) ⌝ }
+    ensures { λ r. ⌜ Marks r (cellMark (finest s even) (now (records .entry)) (wantOf order axis) (placeAt cell) (placeAt step)) ⌝ }
 {
     let l = cell::layout_of(s, cell);
     if cell::line_within(s, records, cell, l) {
@@ -240,10 +252,10 @@ fn read_lattice(
     order: u32,
     axis: u32,
 ) -> Reading
-    requires { ⌜ testedOutcome s (now records) (wantOf order axis) (placeAt cell) (placeAt step) ≡ done tt ⌝ }
+    requires { ⌜ testedOutcome (finest s even) (now records) (wantOf order axis) (placeAt cell) (placeAt step) ≡ done tt ⌝ }
     requires { ⌜ 2 ≤ s .axes ⌝ }
-    ensures { λ r. ⌜ outcomeOfReading r ≡ reading (fullShape s even) (now (records .entry)) (wantOf order axis) (placeAt cell) (placeAt step) ⌝ }
-    ensures { λ r. ⌜ Marks r (cellMark (fullShape s even) (now (records .entry)) (wantOf order axis) (placeAt cell) (placeAt step)) ⌝ }
+    ensures { λ r. ⌜ outcomeOfReading r ≡ reading (finest s even) (now (records .entry)) (wantOf order axis) (placeAt cell) (placeAt step) ⌝ }
+    ensures { λ r. ⌜ Marks r (cellMark (finest s even) (now (records .entry)) (wantOf order axis) (placeAt cell) (placeAt step)) ⌝ }
 {
     let n = s.axes;
     let l = cell::layout_of(s, cell);
@@ -253,28 +265,179 @@ fn read_lattice(
     beyond(s, records, cell, l)
 }
 
-// The dose or derivative at step (u, v, w) of cell (i, j, k), those of a position.
-fn read(
-    s: Shape,
-    records: &[i32],
-    i: u32,
-    u: u32,
-    j: u32,
-    v: u32,
-    k: u32,
-    w: u32,
-    order: u32,
-    axis: u32,
-    even: bool,
-) -> Reading
-    ensures { λ r. ⌜ outcomeOfReading r ≡ renumbered (positionNumber (placeAt (i ∷ j ∷ k ∷ [])) (placeAt (u ∷ v ∷ w ∷ []))) (byCell (fullShape s even) (now (records .entry)) (wantOf order axis) (placeAt (i ∷ j ∷ k ∷ [])) (placeAt (u ∷ v ∷ w ∷ []))) ⌝ }
-    ensures { λ r. ⌜ Marks r (cellMark (fullShape s even) (now (records .entry)) (wantOf order axis) (placeAt (i ∷ j ∷ k ∷ [])) (placeAt (u ∷ v ∷ w ∷ []))) ⌝ }
+// Whether every used axis has 256 steps; nothing is told of a table without axes.
+pub fn is_finest(t: FullShape) -> bool
+    ensures { λ r. ⌜ (r ≡ true → 1 ≤ t .shape .axes → (a : ℕ) → a < 3 → stepsOn t a ≡ finestOn (t .shape .axes) a) ⌝ }
 {
+    let n = t.shape.axes;
+    if t.steps[0] != 256 {
+        return false;
+    }
+    if t.steps[1] != lattice::finest_on(n, 1) {
+        return false;
+    }
+    t.steps[2] == lattice::finest_on(n, 2)
+}
+
+// How many of 256 steps a step is; 0 where the step number is none of the five.
+fn factor_of(steps: u32) -> u32
+    ensures { λ r. ⌜ (stepNumber steps ≡ true → r ≡ 256 / steps) × (stepNumber steps ≡ false → r ≡ 0) × (r ≤ 16) ⌝ }
+{
+    // Two groups are told apart by comparisons, which no table of jumps replaces.
+    if steps < 64 {
+        if steps == 16 {
+            return 16;
+        }
+        return if steps == 32 { 8 } else { 0 };
+    }
+    if steps == 64 {
+        return 4;
+    }
+    if steps == 128 {
+        return 2;
+    }
+    if steps == 256 { 1 } else { 0 }
+}
+
+// The same on an axis of a table of n axes: 1 on an unused axis; 0 where the step number is not allowed.
+pub fn factor_on(n: u32, steps: u32, axis: u32) -> u32
+    ensures { λ r. ⌜ (stepsAllowed n steps axis ≡ true → r ≡ factorFor n steps axis) × (stepsAllowed n steps axis ≡ false → r ≡ 0) × (r ≤ 16) ⌝ }
+{
+    if axis < n {
+        return factor_of(steps);
+    }
+    if steps == 1 { 1 } else { 0 }
+}
+
+// A number of steps in steps of 256; what lies beyond every table stays there.
+pub fn scaled(factor: u32, v: u32) -> u32
+    requires { ⌜ factor ≤ 16 ⌝ }
+    ensures { λ r. ⌜ r ≡ scaled factor v ⌝ }
+{
+    if v <= 16128 { factor * v } else { v }
+}
+
+// A position in steps of 256.
+pub fn scaled_position(factor: u32, p: i32) -> i32
+    requires { ⌜ factor ≤ 16 ⌝ }
+    ensures { λ r. ⌜ r ≡ scaledPosition factor p ⌝ }
+{
+    let v = arith::unsigned(p);
+    if v <= 16128 {
+        return (factor * v) as i32;
+    }
+    p
+}
+
+// The cell of a position on an axis of `count` nodes.
+pub fn cell_of(count: u32, p: u32) -> u32
+    ensures { λ r. ⌜ r ≡ cellOf steps count p ⌝ }
+{
+    let c = p / 256;
+    let last = if 2 <= count { count - 2 } else { 0 };
+    if c < last { c } else { last }
+}
+
+// The number of a refusal: by position 22 for 11 where the position is below 0.
+fn number_by(cellwise: bool, number: u32, axis: usize, cell: [u32; 3], step: [u32; 3]) -> u32
+    ensures { λ r. ⌜ r ≡ numberBy cellwise (placeAt cell) (placeAt step) number axis ⌝ }
+{
+    if cellwise {
+        return number;
+    }
+    position_number(number, axis, cell, step)
+}
+
+// A cell and an in-cell step, on three axes.
+pub struct Spot {
+    pub i: u32,
+    pub u: u32,
+    pub j: u32,
+    pub v: u32,
+    pub k: u32,
+    pub w: u32,
+}
+
+// What a position has beyond the start of its cell.
+fn rest_of(p: u32, cell: u32) -> u32
+    requires { ⌜ 256 * cell ≤ p ⌝ }
+    ensures { λ r. ⌜ r ≡ p - 256 * cell ⌝ }
+{
+    p - 256 * cell
+}
+
+// The cell and in-cell step of three positions; the cell on an unused axis is 0.
+fn located(s: Shape, at: [u32; 3]) -> Spot
+    ensures { λ r. ⌜ (r .i ≡ cellOf steps (count s 0) (getD at 0 0)) × (r .u ≡ getD at 0 0 - 256 * r .i) × (r .j ≡ cellOn s 1 (getD at 1 0)) × (r .v ≡ getD at 1 0 - 256 * r .j) × (r .k ≡ cellOn s 2 (getD at 2 0)) × (r .w ≡ getD at 2 0 - 256 * r .k) ⌝ }
+{
+    let n = s.axes;
+    let x = at[0];
+    let y = at[1];
+    let z = at[2];
+    let i = cell_of(s.counts[0], x);
+    let mut j = 0;
+    let mut v = y;
+    if 1 < n {
+        j = cell_of(s.counts[1], y);
+        v = rest_of(y, j);
+    }
+    let mut k = 0;
+    let mut w = z;
+    if 2 < n {
+        k = cell_of(s.counts[2], z);
+        w = rest_of(z, k);
+    }
+    Spot {
+        i: i,
+        u: rest_of(x, i),
+        j: j,
+        v: v,
+        k: k,
+        w: w,
+    }
+}
+
+// The cell and in-cell step of a query: its own by cell, else those of its position.
+fn spot_of(cellwise: bool, s: Shape, cell: [u32; 3], step: [u32; 3]) -> Spot
+    ensures { λ r. ⌜ (cellwise ≡ true → (r .i ≡ getD cell 0 0) × (r .u ≡ getD step 0 0) × (r .j ≡ getD cell 1 0) × (r .v ≡ getD step 1 0) × (r .k ≡ getD cell 2 0) × (r .w ≡ getD step 2 0)) ⌝ }
+    ensures { λ r. ⌜ (cellwise ≡ false → (r .i ≡ cellOf steps (count s 0) (getD step 0 0)) × (r .u ≡ getD step 0 0 - 256 * r .i) × (r .j ≡ cellOn s 1 (getD step 1 0)) × (r .v ≡ getD step 1 0 - 256 * r .j) × (r .k ≡ cellOn s 2 (getD step 2 0)) × (r .w ≡ getD step 2 0 - 256 * r .k)) ⌝ }
+{
+    if cellwise {
+        return Spot {
+            i: cell[0],
+            u: step[0],
+            j: cell[1],
+            v: step[1],
+            k: cell[2],
+            w: step[2],
+        };
+    }
+    located(s, step)
+}
+
+// The dose or derivative on 256 steps: at the step of the cell, or at the position that stands in the step's place, in two's complement.
+fn read(t: FullShape, records: &[i32], q: CellQuery, cellwise: bool) -> Reading
+    ensures { λ r. ⌜ (cellwise ≡ true → (outcomeOfReading r ≡ byCell (finest (t .shape) (t .«second_edition»)) (now (records .entry)) (wanted (q .derivative)) (placeAt (q .cell)) (placeAt (q .step))) × Marks r (cellMark (finest (t .shape) (t .«second_edition»)) (now (records .entry)) (wanted (q .derivative)) (placeAt (q .cell)) (placeAt (q .step)))) ⌝ }
+    ensures { λ r. ⌜ (cellwise ≡ false → (p : List ℤ) → Stand p (q .step) → (outcomeOfReading r ≡ byPosition (finest (t .shape) (t .«second_edition»)) (now (records .entry)) (wanted (q .derivative)) (positionAt p)) × Marks r (positionMark (finest (t .shape) (t .«second_edition»)) (now (records .entry)) (wanted (q .derivative)) (positionAt p))) ⌝ }
+{
+    let s = t.shape;
+    let even = t.second_edition;
+    let order = q.derivative.order;
+    let axis = q.derivative.axis;
+    let cell = q.cell;
+    let step = q.step;
+    let p = spot_of(cellwise, s, cell, step);
+    let i = p.i;
+    let j = p.j;
+    let k = p.k;
+    let u = p.u;
+    let v = p.v;
+    let w = p.w;
     let long = records.len();
     let tested = check_by_axes(s, long, i, j, k, u, v, w, order, axis);
     match tested {
         Check::Refused(r) => Reading::Refused(Refusal {
-            number: position_number(r.number, r.place, [i, j, k], [u, v, w]),
+            number: number_by(cellwise, r.number, r.place, [i, j, k], [u, v, w]),
             place: r.place,
         }),
         Check::Done => {
@@ -287,26 +450,24 @@ fn read(
     }
 }
 
-// The number of a refusal by cell, where nothing is below 0: 11 for 22.
-fn cell_number(number: u32) -> u32
-    ensures { λ r. ⌜ ((place : ℕ) → r ≡ cellNumber number place) ⌝ }
+// Numbers of steps on three axes in steps of 256, or the refusal of the shape.
+fn finer_of(t: FullShape, x: u32, y: u32, z: u32) -> Finer
+    ensures { λ r. ⌜ InFinest t (x ∷ y ∷ z ∷ []) r ⌝ }
 {
-    if number == 22 { 11 } else { number }
-}
-
-// A reading at the cell and step of a position, told by cell.
-fn by_cell(a: Reading) -> Reading
-    ensures { λ r. ⌜ outcomeOfReading r ≡ renumbered cellNumber (outcomeOfReading a) ⌝ }
-    ensures { λ r. ⌜ ((mark : Bool) → Marks a mark → Marks r mark) ⌝ }
-{
-    match a {
-        Reading::Exact(_) => a,
-        Reading::Near(_) => a,
-        Reading::Refused(r) => Reading::Refused(Refusal {
-            number: cell_number(r.number),
-            place: r.place,
-        }),
+    let n = t.shape.axes;
+    let f = factor_on(n, t.steps[0], 0);
+    let g = factor_on(n, t.steps[1], 1);
+    let h = factor_on(n, t.steps[2], 2);
+    if f == 0 || g == 0 || h == 0 {
+        if let Check::Refused(r) = lattice::check_full(t) {
+            return Finer::Refused(r);
+        }
     }
+    Finer::At(Steps {
+        x: scaled(f, x),
+        y: scaled(g, y),
+        z: scaled(h, z),
+    })
 }
 
 // The dose or derivative at a step of a cell.
@@ -314,33 +475,28 @@ pub fn in_cell(t: FullShape, records: &[i32], q: CellQuery) -> Reading
     ensures { λ r. ⌜ outcomeOfReading r ≡ byCell t (now (records .entry)) (wanted (q .derivative)) (placeAt (q .cell)) (placeAt (q .step)) ⌝ }
     ensures { λ r. ⌜ Marks r (cellMark t (now (records .entry)) (wanted (q .derivative)) (placeAt (q .cell)) (placeAt (q .step))) ⌝ }
 {
-    let order = q.derivative.order;
-    let axis = q.derivative.axis;
-    let cell = q.cell;
-    let step = q.step;
-    let a = read(
-        t.shape,
-        records,
-        cell[0],
-        step[0],
-        cell[1],
-        step[1],
-        cell[2],
-        step[2],
-        order,
-        axis,
-        t.second_edition,
-    );
-    by_cell(a)
-}
-
-// The cell of a position on an axis of `count` nodes.
-pub fn cell_of(count: u32, p: u32) -> u32
-    ensures { λ r. ⌜ r ≡ cellOf steps count p ⌝ }
-{
-    let c = p / 256;
-    let last = if 2 <= count { count - 2 } else { 0 };
-    if c < last { c } else { last }
+    let mut x = q.step[0];
+    let mut y = q.step[1];
+    let mut z = q.step[2];
+    if !is_finest(t) {
+        match finer_of(t, x, y, z) {
+            Finer::Refused(r) => {
+                return Reading::Refused(r);
+            }
+            Finer::At(p) => {
+                x = p.x;
+                y = p.y;
+                z = p.z;
+            }
+        }
+    }
+    // Numbers taken one by one are stored once.
+    let there = CellQuery {
+        cell: [q.cell[0], q.cell[1], q.cell[2]],
+        step: [x, y, z],
+        derivative: q.derivative,
+    };
+    read(t, records, there, true)
 }
 
 // The dose or derivative at a position; one below 0 stands in two's complement beyond every table.
@@ -348,26 +504,25 @@ pub fn at_position(t: FullShape, records: &[i32], q: Query) -> Reading
     ensures { λ r. ⌜ outcomeOfReading r ≡ byPosition t (now (records .entry)) (wanted (q .derivative)) (positionAt (q .position)) ⌝ }
     ensures { λ r. ⌜ Marks r (positionMark t (now (records .entry)) (wanted (q .derivative)) (positionAt (q .position))) ⌝ }
 {
-    let s = t.shape;
-    let order = q.derivative.order;
-    let axis = q.derivative.axis;
-    let x = arith::unsigned(q.position[0]);
-    let y = arith::unsigned(q.position[1]);
-    let z = arith::unsigned(q.position[2]);
-    let i = cell_of(s.counts[0], x);
-    let j = cell_of(s.counts[1], y);
-    let k = cell_of(s.counts[2], z);
-    read(
-        s,
-        records,
-        i,
-        x - 256 * i,
-        j,
-        y - 256 * j,
-        k,
-        z - 256 * k,
-        order,
-        axis,
-        t.second_edition,
-    )
+    let mut x = arith::unsigned(q.position[0]);
+    let mut y = arith::unsigned(q.position[1]);
+    let mut z = arith::unsigned(q.position[2]);
+    if !is_finest(t) {
+        match finer_of(t, x, y, z) {
+            Finer::Refused(r) => {
+                return Reading::Refused(r);
+            }
+            Finer::At(p) => {
+                x = p.x;
+                y = p.y;
+                z = p.z;
+            }
+        }
+    }
+    let there = CellQuery {
+        cell: [0, 0, 0],
+        step: [x, y, z],
+        derivative: q.derivative,
+    };
+    read(t, records, there, false)
 }

@@ -4,5 +4,6 @@ pub mod FetchLaws
 pub mod DoseLaws
 pub mod QueryLaws
 pub mod LoopLaws
+pub mod CoarseLaws
 pub mod ListLaws
 pub mod Theorems

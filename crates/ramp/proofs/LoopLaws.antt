@@ -15,13 +15,13 @@ use lib.Seq.{getD-set-same, getD-set-other}
 use Rattle.arith.specs.Choice.{pick}
 use Rattle.arith.proofs.Choices.{clash, from-3}
 use Rattle.lattice.specs.declared.Shape.{Shape}
-use Rattle.lattice.specs.Shape.{fullShape}
 use Rattle.lattice.specs.Outcome.{Outcome, Check, done, refused, firstOf}
 use Rattle.lattice.specs.Buffer.{at}
 use Rattle.lattice.specs.Axes.{Place}
 use Rattle.lattice.proofs.OutcomeLaws.{first-passed, refused-first, firstOf-passes, firstOf-stops}
 use Rattle.cell.specs.Cell.{placeAt, cornersOutcome}
 use Rattle.cell.proofs.CellLaws.{place-beyond}
+use Rattle.query.specs.Parts.{finest}
 use Rattle.query.specs.Queries.{positionCell}
 use Rattle.ramp.specs.Ramp.{queries, queryAt, ownCall, inList, answerOf, differ, fetches, queriesOutcome}
 use Rattle.ramp.specs.Parts.{Held}
@@ -35,10 +35,10 @@ place-same c d h =
 
 module _ (s : Shape) (even : Bool) (rs ps : List ℤ) where
   abbrev own : ℕ → Outcome ℤ
-  own = ownCall (fullShape s even) rs ps
+  own = ownCall (finest s even) rs ps
 
   abbrev cell : ℕ → Place
-  cell i = positionCell s (queryAt ps i)
+  cell i = positionCell (finest s even) (queryAt ps i)
 
   abbrev test : ℕ → Check
   test i = inList i (own i)
@@ -68,7 +68,7 @@ module _ (s : Shape) (even : Bool) (rs ps : List ℤ) where
     passed-before = firstOf-passes i test (λ j l. ap (inList j) (b .answers j l))
 
     -- a refused query refuses the list
-    pub stops : i < queries ps → {n p : ℕ} → own i ≡ refused n p → refused n i ≡ queriesOutcome (fullShape s even) rs ps
+    pub stops : i < queries ps → {n p : ℕ} → own i ≡ refused n p → refused n i ≡ queriesOutcome (finest s even) rs ps
     unfolding queriesOutcome
     stops l {n} e =
         sym (refused-first _ (firstOf-stops (queries ps) i test n i l passed-before (ap (inList i) e)))
@@ -128,7 +128,7 @@ module _ (s : Shape) (even : Bool) (rs ps : List ℤ) where
 
   -- at the end
   pub ends : (i : ℕ) (found held : List ℤ) (last : List ℕ) (fetched : ℕ) → Before i found held last fetched → i ≡ queries ps
-      → (done fetched ≡ queriesOutcome (fullShape s even) rs ps)
+      → (done fetched ≡ queriesOutcome (finest s even) rs ps)
       × ((k : ℕ) → Outcome.done fetched ≡ done k → (j : ℕ) → j < queries ps → at found j ≡ answerOf (own j))
   unfolding queriesOutcome
   ends i found held last fetched b e = (

@@ -1,13 +1,14 @@
 -- Cells that differ, and the number of fetches from query to query.
 use mathlib.Core.Path.{_≡_, refl, sym, ap, ap₂}
 use mathlib.Core.Bool.{Bool, true, false, not, _&&_}
-use Prim.Native.Nat.{ℕ, zero, suc, _+_, _≤_}
+use Prim.Native.Nat.{ℕ, zero, suc, _+_, _≤_, _<_}
 use native.Mathlib.Omega.{arith}
 use lib.Dec.{eqb}
 use borrow.Author.Tests.{eqb-true, eq-eqb, ne-eqb}
 use Rattle.arith.specs.Choice.{pick}
 use Rattle.arith.proofs.Choices.{and-true, pick-true, pick-false}
 use Rattle.lattice.specs.Axes.{Place}
+use Rattle.query.proofs.CoarseCalls.{back}
 use Rattle.ramp.specs.Ramp.{differ, changes, fetches}
 
 -- whether a cell is new after so many fetches
@@ -39,10 +40,6 @@ module _ (c d : Place) where
       let f = and-true (eqb (c 0) (d 0)) (eqb (c 1) (d 1) && eqb (c 2) (d 2)) (back _ h) in
       let g = and-true (eqb (c 1) (d 1)) (eqb (c 2) (d 2)) (f .1) in
       (eqb-true (c 0) (d 0) (f .0), eqb-true (c 1) (d 1) (g .0), eqb-true (c 2) (d 2) (g .1))
-    where
-      back : (b : Bool) → not b ≡ false → b ≡ true
-      back true h = refl
-      back false h = sym h
 
 -- one query more
 module _ (cell : ℕ → Place) where
@@ -75,3 +72,15 @@ module _ (cell : ℕ → Place) where
       few : (n : ℕ) → 1 + changes cell n ≤ suc n
       few zero = omega arith
       few (suc n) = let h = few n in let k = bit (differ (cell n) (cell (suc n))) in omega arith
+
+-- of cells that are the same
+pub fetches-same : (c d : ℕ → Place) (n : ℕ) → ((i : ℕ) → i < n → c i ≡ d i) → fetches c n ≡ fetches d n
+unfolding fetches changes
+fetches-same c d zero h = refl
+fetches-same c d (suc n) h = ap (λ (k : ℕ). 1 + k) (changes-same n (λ i l. h i (omega arith)))
+  where
+    changes-same : (n : ℕ) → ((i : ℕ) → i ≤ n → c i ≡ d i) → changes c n ≡ changes d n
+    changes-same zero h = refl
+    changes-same (suc n) h =
+        ap₂ (λ (k : ℕ) (b : Bool). k + pick b 1 0) (changes-same n (λ i l. h i (omega arith)))
+        (ap₂ differ (h n (omega arith)) (h (suc n) (omega arith)))

@@ -12,19 +12,21 @@ use Rattle.arith.proofs.Choices.{clash}
 use Rattle.lattice.specs.declared.Shape.{Shape}
 use Rattle.lattice.specs.declared.FullShape.{FullShape}
 use Rattle.lattice.specs.Outcome.{Outcome, Check, done, refused, refuseUnless, first, firstOf, passed}
-use Rattle.lattice.specs.Shape.{fullShape, orders, size, Shaped}
+use Rattle.lattice.specs.Shape.{orders, size, Shaped}
 use Rattle.lattice.specs.Axes.{Place, origin}
 use Rattle.lattice.specs.Records.{entryIndex, recordsField, entryLimit}
 use Rattle.lattice.proofs.OutcomeLaws.{first-passed, refused-first, passed-done}
 use Rattle.lattice.proofs.ShapeLaws.{shaped}
+use Rattle.lattice.proofs.StepLaws.{finest-outcome}
+use Rattle.hermite.specs.Hermite.{steps}
 use Rattle.cell.specs.Cell.{placeAt, cornerPlace, cornerEntries, entryOutcome, cornersOutcome}
 use Rattle.cell.specs.Corners.{cornerRecords}
 use Rattle.cell.proofs.CornerRecords.{records-length}
 use Rattle.cell.proofs.OneCell.{one-size, corners-same}
 use Rattle.evaluate.specs.Evaluate.{dose, lastAxis, askAt, answerBy}
-use Rattle.query.specs.Parts.{positionNumber}
+use Rattle.query.specs.Parts.{positionNumber, finest}
 use Rattle.query.specs.Queries.{wantOutcome, askedOutcome, reading, stepsOutcome, positionOutcome, positionCell, positionStep, byPosition}
-use Rattle.query.proofs.QueryLaws.{asked-passes, reading-passes, step-inside}
+use Rattle.query.proofs.QueryLaws.{asked-facts, asked-passes, reading-passes, step-inside, finest-used, finest-answer}
 use Rattle.query.proofs.Renumbered.{renumbered-done}
 use Rattle.query.proofs.OneCell.{answer-one-cell}
 use Rattle.ramp.specs.declared.Spot.{Spot}
@@ -59,31 +61,31 @@ corners-five s rs cell =
     (λ i. entryIndex s (cornerPlace s cell i)) (cornerEntries s)
 
 -- the step of a position that is not refused is not refused
-spot-passes : (s : Shape) (cell step : Place) → spotOutcome s cell step ≡ done tt → stepsOutcome s step ≡ done tt
+spot-passes : (t : FullShape) (cell step : Place) → spotOutcome t cell step ≡ done tt → stepsOutcome t step ≡ done tt
 unfolding spotOutcome
-spot-passes s cell step = renumbered-done (positionNumber cell step) (stepsOutcome s step) tt
+spot-passes t cell step = renumbered-done (positionNumber cell step) (stepsOutcome t step) tt
 
 module _ (s : Shape) (even : Bool) (rs ps : List ℤ) (listed : Listed s rs ps) (i : ℕ) where
   abbrev full : FullShape
-  full = fullShape s even
+  full = finest s even
 
   ok : Shaped s
   ok = shaped s (listed .shape)
 
-  asked : askedOutcome s rs dose ≡ done tt
+  asked : askedOutcome full rs dose ≡ done tt
   unfolding wantOutcome
-  asked = asked-passes s rs dose (listed .long) (listed .shape) refl
+  asked = asked-passes full rs dose (listed .long) (finest-outcome s even ∙ listed .shape) refl
 
   -- whether 23, 22 or 11 arises
   abbrev pub tested : Check
-  tested = firstOf 3 (positionOutcome s (queryAt ps i))
+  tested = firstOf 3 (positionOutcome full (queryAt ps i))
 
   abbrev read : Outcome ℤ
-  read = reading full rs dose (positionCell s (queryAt ps i)) (positionStep s (queryAt ps i))
+  read = reading full rs dose (positionCell full (queryAt ps i)) (positionStep full (queryAt ps i))
 
   own-is : ownCall full rs ps i ≡ first tested read
   unfolding byPosition
-  own-is = first-passed (askedOutcome s rs dose) (first tested read) asked
+  own-is = first-passed (askedOutcome full rs dose) (first tested read) asked
 
   pub own-stops : {n p : ℕ} → tested ≡ refused n p → ownCall full rs ps i ≡ refused n p
   own-stops e = own-is ∙ refused-first read e
@@ -93,7 +95,7 @@ module _ (s : Shape) (even : Bool) (rs ps : List ℤ) (listed : Listed s rs ps) 
     own-reads : ownCall full rs ps i ≡ read
     own-reads = own-is ∙ first-passed tested read passes
 
-    pub own-five : (cell : Place) → cell ≡ positionCell s (queryAt ps i) → passed (cornersOutcome s rs cell) ≡ false
+    pub own-five : (cell : Place) → cell ≡ positionCell full (queryAt ps i) → passed (cornersOutcome s rs cell) ≡ false
         → Refuses 5 (ownCall full rs ps i)
     unfolding reading
     own-five cell e h =
@@ -104,7 +106,7 @@ module _ (s : Shape) (even : Bool) (rs ps : List ℤ) (listed : Listed s rs ps) 
         }
 
     -- the corner records of its cell are held, and are within their limits
-    module _ (spot : Spot) (st : Stands s (queryAt ps i) spot) (held : List ℤ) (h : Held s rs (placeAt (spot .cell)) held)
+    module _ (spot : Spot) (st : Stands full (queryAt ps i) spot) (held : List ℤ) (h : Held s rs (placeAt (spot .cell)) held)
         (within : cornersOutcome s rs (placeAt (spot .cell)) ≡ done tt) where
       abbrev cell : Place
       cell = placeAt (spot .cell)
@@ -127,14 +129,17 @@ module _ (s : Shape) (even : Bool) (rs ps : List ℤ) (listed : Listed s rs ps) 
         shape = ok;
         long = ap length (h .is) ∙ records-length s rs cell ∙ sym (one-size (s .axes) (s .degree) (ok .axes-low) (ok .axes-high));
         within = corners;
-        steps-low = step-inside s step ok (spot-passes s cell step (st .tests ∙ passes));
+        steps-low = λ a l. rw (← finest-used s even a (let h = ok .axes-high in omega arith) l)
+            (step-inside full step ok (spot-passes full cell step (st .tests ∙ passes)) a l);
       }
 
       pub own-answers : (v : ℤ) → v ≡ answerBy (roundingOf even) (askAt (one s) dose origin step)
           (recordsField (one s) (take (size (one s)) held))
           → ownCall full rs ps i ≡ done v
+      unfolding askAt
       own-answers v e =
-          own-reads ∙ ap (λ (c : Place). reading full rs dose c (positionStep s (queryAt ps i))) (sym (st .cell-is passes))
+          own-reads ∙ ap (λ (c : Place). reading full rs dose c (positionStep full (queryAt ps i))) (sym (st .cell-is passes))
           ∙ ap (reading full rs dose cell) (sym (st .step-is passes)) ∙ reading-passes full rs dose cell step within
-          ∙ ap done (answer-one-cell s ok cell (st .here) rs dose step last (roundingOf even)
+          ∙ ap done (sym (finest-answer s even dose cell step (asked-facts full rs dose asked) (recordsField s rs))
+          ∙ answer-one-cell s ok cell (st .here) rs dose step last (λ a. steps) (roundingOf even)
           ∙ ap (λ (l : List ℤ). answerBy (roundingOf even) (askAt (one s) dose origin step) (recordsField (one s) l)) (sym (h .is)) ∙ sym e)

@@ -39,7 +39,7 @@ module _ (t : FullShape) (rs ps : List ℤ) where
   test i = inList i (own i)
 
   abbrev told : Outcome ℕ
-  told = done (fetches (λ i. positionCell (t .shape) (queryAt ps i)) (queries ps))
+  told = done (fetches (λ i. positionCell t (queryAt ps i)) (queries ps))
 
   -- a refusal of the first m queries
   record At (m n p : ℕ) : Type 0 where
@@ -76,7 +76,7 @@ module _ (t : FullShape) (rs ps : List ℤ) where
       → ownCall t rs ps i ≡ done (at (rampWrites t rs ps old) i)
   unfolding rampOutcome queriesOutcome rampWrites
   each-answer old k h i l =
-      let f = first-done (listOutcome (t .shape) (length rs) (length ps) (length old)) (queriesOutcome t rs ps) k h in
+      let f = first-done (listOutcome t (length rs) (length ps) (length old)) (queriesOutcome t rs ps) k h in
       let g = first-done (firstOf (queries ps) test) told k (f .1) in
       let answers = tabulate (queries ps) (λ i. answerOf (own i)) in
       in-done i (own i) (firstOf-each (queries ps) test (g .0) i l)
@@ -86,7 +86,7 @@ module _ (t : FullShape) (rs ps : List ℤ) where
 
   module _ (room : ℕ) where
     abbrev lengths : Check
-    lengths = listOutcome (t .shape) (length rs) (length ps) room
+    lengths = listOutcome t (length rs) (length ps) room
 
     -- where the lengths are not refused, the list is refused by the first query whose own call is, with its number and the query's index
     pub first-refused : lengths ≡ done tt → (n i : ℕ) → (rampOutcome t rs ps room ≡ refused n i) ↔ FirstRefused t rs ps n i

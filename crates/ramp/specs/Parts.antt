@@ -1,10 +1,11 @@
--- What the inner functions state: where a position stands, corner records as they are held, and a table that is ready.
+-- What the inner functions state, on 256 steps: where a position stands, corner records as they are held, and a table that is ready.
 use mathlib.Core.Path.{_≡_}
 use Prim.Native.Nat.{ℕ, _+_, _*_, _/_, _%_, _≤_, _<_}
 use mathlib.Core.List.{List, [], _∷_}
 use lib.IntN.{ℤ}
-use lib.ListN.{length, take}
+use lib.ListN.{length, getD, take}
 use Rattle.lattice.specs.declared.Shape.{Shape}
+use Rattle.lattice.specs.declared.FullShape.{FullShape}
 use Rattle.lattice.specs.Outcome.{Check, done, firstOf}
 use Rattle.lattice.specs.Buffer.{at}
 use Rattle.lattice.specs.Shape.{size, shapeOutcome, Shaped}
@@ -14,7 +15,7 @@ use Rattle.cell.specs.declared.Layout.{Layout}
 use Rattle.cell.specs.Cell.{placeAt, cornersOutcome, Accepted, startOf}
 use Rattle.cell.specs.Corners.{cornerRecords, oneCell}
 use Rattle.evaluate.specs.declared.Axis.{Axis}
-use Rattle.query.specs.Parts.{renumbered, positionNumber}
+use Rattle.query.specs.Parts.{renumbered, positionNumber, scaledPosition}
 use Rattle.query.specs.Queries.{Position, positionOutcome, positionCell, positionStep, stepsOutcome}
 use Rattle.ramp.specs.declared.Spot.{Spot}
 use Rattle.ramp.specs.Ramp.{queries}
@@ -33,15 +34,20 @@ pub record Listed (s : Shape) (rs ps : List ℤ) : Type 0 where
 -- ---- a position
 
 -- the tests of a position, by its cell and in-cell step
-unfoldable pub spotOutcome : Shape → Place → Place → Check
-spotOutcome s cell step = renumbered (positionNumber cell step) (stepsOutcome s step)
+unfoldable pub spotOutcome : FullShape → Place → Place → Check
+spotOutcome t cell step = renumbered (positionNumber cell step) (stepsOutcome t step)
 
 -- the cell and the in-cell step of a position, which are tested as the position is
-pub record Stands (s : Shape) (p : Position) (spot : Spot) : Type 0 where
-  pub tests : spotOutcome s (placeAt (spot .cell)) (placeAt (spot .step)) ≡ firstOf 3 (positionOutcome s p)
-  pub here : Accepted s (placeAt (spot .cell))
-  pub cell-is : firstOf 3 (positionOutcome s p) ≡ done tt → placeAt (spot .cell) ≡ positionCell s p
-  pub step-is : firstOf 3 (positionOutcome s p) ≡ done tt → placeAt (spot .step) ≡ positionStep s p
+pub record Stands (t : FullShape) (p : Position) (spot : Spot) : Type 0 where
+  pub tests : spotOutcome t (placeAt (spot .cell)) (placeAt (spot .step)) ≡ firstOf 3 (positionOutcome t p)
+  pub here : Accepted (t .shape) (placeAt (spot .cell))
+  pub cell-is : firstOf 3 (positionOutcome t p) ≡ done tt → placeAt (spot .cell) ≡ positionCell t p
+  pub step-is : firstOf 3 (positionOutcome t p) ≡ done tt → placeAt (spot .step) ≡ positionStep t p
+
+-- the numbers of a list of positions in finer steps, by the factors of three axes
+pub record Finer (factors : List ℕ) (ps held : List ℤ) : Type 0 where
+  pub long : length held ≡ 768
+  pub is : (j : ℕ) → j < length ps → at held j ≡ scaledPosition (getD factors (j % 3) 0) (at ps j)
 
 -- ---- corner records
 

@@ -7,11 +7,10 @@ use lib.Dec.{leb, eqb}
 use lib.IntN.{ℤ, pos}
 use lib.ListN.{length}
 use Rattle.arith.specs.Choice.{pick}
-use Rattle.lattice.specs.declared.Shape.{Shape}
 use Rattle.lattice.specs.declared.FullShape.{FullShape}
 use Rattle.lattice.specs.Outcome.{Outcome, Check, done, refused, refuseUnless, first, firstOf, passed, whenDone}
 use Rattle.lattice.specs.Buffer.{at, tabulate, overwrite}
-use Rattle.lattice.specs.Shape.{size, shapeOutcome}
+use Rattle.lattice.specs.Shape.{size, fullOutcome}
 use Rattle.lattice.specs.Axes.{Place}
 use Rattle.evaluate.specs.Evaluate.{dose}
 use Rattle.query.specs.Queries.{Position, positionAt, positionCell, byPosition}
@@ -55,21 +54,21 @@ fetches cell (suc n) = 1 + changes cell n
 
 -- ---- the call
 
--- 1, 2, 3, then 20, 4, 9, of `given` records' entries, `asked` numbers of positions and room for `room` answers
-unfoldable pub listOutcome : Shape → ℕ → ℕ → ℕ → Check
-listOutcome s given asked room =
-    first (shapeOutcome s)
+-- 1, 2, 3, 26, then 20, 4, 9, of `given` records' entries, `asked` numbers of positions and room for `room` answers
+unfoldable pub listOutcome : FullShape → ℕ → ℕ → ℕ → Check
+listOutcome t given asked room =
+    first (fullOutcome t)
     (first (refuseUnless (leb asked 768 && eqb (asked % 3) 0) 20 0)
-    (first (refuseUnless (eqb given (size s)) 4 0) (refuseUnless (leb (asked / 3) room) 9 0)))
+    (first (refuseUnless (eqb given (size (t .shape))) 4 0) (refuseUnless (leb (asked / 3) room) 9 0)))
 
 -- the first refused query, else the number of fetches
 unfoldable pub queriesOutcome : FullShape → List ℤ → List ℤ → Outcome ℕ
 queriesOutcome t rs ps =
     first (firstOf (queries ps) (λ i. inList i (ownCall t rs ps i)))
-    (done (fetches (λ i. positionCell (t .shape) (queryAt ps i)) (queries ps)))
+    (done (fetches (λ i. positionCell t (queryAt ps i)) (queries ps)))
 
 unfoldable pub rampOutcome : FullShape → List ℤ → List ℤ → ℕ → Outcome ℕ
-rampOutcome t rs ps room = first (listOutcome (t .shape) (length rs) (length ps) room) (queriesOutcome t rs ps)
+rampOutcome t rs ps room = first (listOutcome t (length rs) (length ps) room) (queriesOutcome t rs ps)
 
 -- what the slice of answers holds afterwards
 unfoldable pub rampWrites : FullShape → List ℤ → List ℤ → List ℤ → List ℤ

@@ -1,24 +1,25 @@
 // Doses along a list of positions: corner records are fetched only where the cell differs from the one before.
 ghost use mathlib.Core.Path.{_≡_};
-ghost use mathlib.Core.Bool.{true, false, _&&_};
+ghost use mathlib.Core.Bool.{Bool, true, false, _&&_};
 ghost use mathlib.Core.List.{[], _∷_};
 ghost use Prim.Native.Nat.{ℕ, _+_, _*_, _%_, _<_, _≤_};
 ghost use lib.Dec.{leb, eqb};
-ghost use lib.ListN.{length};
+ghost use lib.ListN.{length, getD};
 ghost use Rattle.arith.specs.Choice.{pick};
 ghost use Rattle.arith.specs.Int.{roundingOf};
 ghost use Rattle.lattice.specs.Outcome.{done, refused, firstOf, passed};
 ghost use Rattle.lattice.specs.Answers.{outcomeOf};
 ghost use Rattle.lattice.specs.Buffer.{at, tabulate, overwrite};
-ghost use Rattle.lattice.specs.Shape.{fullShape, size, Shaped};
+ghost use Rattle.lattice.specs.Shape.{size, fullOutcome, Shaped};
 ghost use Rattle.lattice.specs.Axes.{origin};
 ghost use Rattle.lattice.specs.Records.{recordsField};
 ghost use Rattle.cell.specs.Cell.{placeAt, cornersOutcome, Accepted, limitIn, Limits, recordOutcome, startOf, CornerRows};
 ghost use Rattle.evaluate.specs.Evaluate.{dose, askAt, answerBy};
 ghost use Rattle.evaluate.specs.Stages.{AreEnds, AtBoth, after, stridesOf, AllPrepared, Safe, Workable, WorkedOff, Gives};
+ghost use Rattle.query.specs.Parts.{finest};
 ghost use Rattle.ramp.specs.Ramp.{queries, queryAt, ownCall, answerOf, differ, listOutcome, queriesOutcome, rampOutcome, rampWrites};
 ghost use Rattle.ramp.specs.Answers.{outcomeOfRamp};
-ghost use Rattle.ramp.specs.Parts.{one, layoutAlone, Listed, spotOutcome, Stands, Copied, Held, Readable, AlongX, AlongY};
+ghost use Rattle.ramp.specs.Parts.{one, layoutAlone, Listed, spotOutcome, Stands, Finer, Copied, Held, Readable, AlongX, AlongY};
 use cell::Layout;
 use evaluate::Axis;
 use evaluate::Strides;
@@ -56,23 +57,24 @@ fn is_list(asked: usize) -> bool
     asked <= 768 && asked % 3 == 0
 }
 
-// Refusals 1, 2, 3, 20, 4 and 9.
-fn check_list(s: Shape, given: usize, asked: usize, room: usize) -> Check
-    ensures { λ r. ⌜ outcomeOf r ≡ listOutcome s given asked room ⌝ }
+// Refusals 1, 2, 3, 26, 20, 4 and 9.
+fn check_list(t: FullShape, given: usize, asked: usize, room: usize) -> Check
+    ensures { λ r. ⌜ outcomeOf r ≡ listOutcome t given asked room ⌝ }
 {
-    let shape = lattice::check_shape(s);
-    if let Check::Refused(_) = shape {
-        return shape;
+    let full = lattice::check_full(t);
+    if let Check::Refused(_) = full {
+        return full;
     }
     let listed = lattice::refuse_unless(is_list(asked), 20, 0);
-    let long = lattice::refuse_after(listed, given == lattice::table_entries(s), 4, 0);
+    let long = lattice::refuse_after(listed, given == lattice::table_entries(t.shape), 4, 0);
     lattice::refuse_after(long, asked / 3 <= room, 9, 0)
 }
 
-// The cell and the in-cell step of query i; a number below 0 stands in two's complement beyond every table.
+// The cell and the in-cell step of query i; here and below every used axis has 256 steps. A number below 0 stands in two's complement beyond
+// every table.
 fn locate(s: Shape, positions: &[i32], i: usize) -> Spot
     requires { ⌜ Shaped s × (3 * i + 3 ≤ length (now positions)) ⌝ }
-    ensures { λ r. ⌜ Stands s (queryAt (now (positions .entry)) i) r ⌝ }
+    ensures { λ r. ⌜ ((even : Bool) → Stands (finest s even) (queryAt (now (positions .entry)) i) r) ⌝ }
 {
     let x = arith::unsigned(positions[3 * i]);
     let y = arith::unsigned(positions[3 * i + 1]);
@@ -88,7 +90,7 @@ fn locate(s: Shape, positions: &[i32], i: usize) -> Spot
 
 // Refusals 23, 22 and 11 of the cell and the in-cell step of a position.
 fn check_spot(s: Shape, cell: [u32; 3], step: [u32; 3]) -> Check
-    ensures { λ r. ⌜ outcomeOf r ≡ spotOutcome s (placeAt cell) (placeAt step) ⌝ }
+    ensures { λ r. ⌜ ((even : Bool) → outcomeOf r ≡ spotOutcome (finest s even) (placeAt cell) (placeAt step)) ⌝ }
 {
     let tested = query::check_steps(s.axes, s, step[0], step[1], step[2]);
     match tested {
@@ -405,8 +407,8 @@ fn answer_all(
     found: &mut [i32; 256],
 ) -> Ramped
     requires { ⌜ Listed s (now records) (now positions) × (length (now found) ≡ 256) ⌝ }
-    ensures { λ r. ⌜ outcomeOfRamp r ≡ queriesOutcome (fullShape s even) (now (records .entry)) (now (positions .entry)) ⌝ }
-    ensures { λ r. ⌜ ((k : ℕ) → outcomeOfRamp r ≡ done k → (i : ℕ) → i < queries (now (positions .entry)) → at (now (found .exit)) i ≡ answerOf (ownCall (fullShape s even) (now (records .entry)) (now (positions .entry)) i)) ⌝ }
+    ensures { λ r. ⌜ outcomeOfRamp r ≡ queriesOutcome (finest s even) (now (records .entry)) (now (positions .entry)) ⌝ }
+    ensures { λ r. ⌜ ((k : ℕ) → outcomeOfRamp r ≡ done k → (i : ℕ) → i < queries (now (positions .entry)) → at (now (found .exit)) i ≡ answerOf (ownCall (finest s even) (now (records .entry)) (now (positions .entry)) i)) ⌝ }
 {
     let count = positions.len() / 3;
     let entries = corner_entries(s);
@@ -434,6 +436,67 @@ fn answer_all(
     Ramped::Fetches(fetches)
 }
 
+// The same with slices made anew, which stay in registers.
+fn answer_anew(
+    s: Shape,
+    even: bool,
+    records: &[i32],
+    positions: &[i32],
+    found: &mut [i32; 256],
+) -> Ramped
+    requires { ⌜ Listed s (now records) (now positions) × (length (now found) ≡ 256) ⌝ }
+    ensures { λ r. ⌜ outcomeOfRamp r ≡ queriesOutcome (finest s even) (now (records .entry)) (now (positions .entry)) ⌝ }
+    ensures { λ r. ⌜ ((k : ℕ) → outcomeOfRamp r ≡ done k → (i : ℕ) → i < queries (now (positions .entry)) → at (now (found .exit)) i ≡ answerOf (ownCall (finest s even) (now (records .entry)) (now (positions .entry)) i)) ⌝ }
+{
+    let long = records.len();
+    let count = positions.len();
+    answer_all(s, even, &records[..long], &positions[..count], found)
+}
+
+// The numbers of a list of positions in steps of 256, by the factors of three axes.
+fn scale_all(factors: [u32; 3], positions: &[i32], finer: &mut [i32; 768])
+    requires { ⌜ (length (now positions) ≤ 768) × (length (now finer) ≡ 768) × ((a : ℕ) → a < 3 → getD factors a 0 ≤ 16) ⌝ }
+    ensures { λ _. ⌜ Finer factors (now (positions .entry)) (now (finer .exit)) ⌝ }
+{
+    let mut j: usize = 0;
+    while j < positions.len() {
+        finer[j] = query::scaled_position(factors[j % 3], positions[j]);
+        j += 1;
+    }
+}
+
+// The answers of all queries, as above, at scaled positions.
+fn answer_scaled(t: FullShape, records: &[i32], positions: &[i32], found: &mut [i32; 256]) -> Ramped
+    requires { ⌜ (fullOutcome t ≡ done tt) × Listed (t .shape) (now records) (now positions) × (length (now found) ≡ 256) ⌝ }
+    ensures { λ r. ⌜ outcomeOfRamp r ≡ queriesOutcome t (now (records .entry)) (now (positions .entry)) ⌝ }
+    ensures { λ r. ⌜ ((k : ℕ) → outcomeOfRamp r ≡ done k → (i : ℕ) → i < queries (now (positions .entry)) → at (now (found .exit)) i ≡ answerOf (ownCall t (now (records .entry)) (now (positions .entry)) i)) ⌝ }
+{
+    let x = query::factor_on(t.shape.axes, t.steps[0], 0);
+    let y = query::factor_on(t.shape.axes, t.steps[1], 1);
+    let z = query::factor_on(t.shape.axes, t.steps[2], 2);
+    let mut finer = [0i32; 768];
+    scale_all([x, y, z], positions, &mut finer);
+    answer_anew(
+        t.shape,
+        t.second_edition,
+        records,
+        &finer[..positions.len()],
+        found,
+    )
+}
+
+// The answers of all queries, as above; positions are scaled where an axis is coarser.
+fn answer_list(t: FullShape, records: &[i32], positions: &[i32], found: &mut [i32; 256]) -> Ramped
+    requires { ⌜ (fullOutcome t ≡ done tt) × Listed (t .shape) (now records) (now positions) × (length (now found) ≡ 256) ⌝ }
+    ensures { λ r. ⌜ outcomeOfRamp r ≡ queriesOutcome t (now (records .entry)) (now (positions .entry)) ⌝ }
+    ensures { λ r. ⌜ ((k : ℕ) → outcomeOfRamp r ≡ done k → (i : ℕ) → i < queries (now (positions .entry)) → at (now (found .exit)) i ≡ answerOf (ownCall t (now (records .entry)) (now (positions .entry)) i)) ⌝ }
+{
+    if query::is_finest(t) {
+        return answer_anew(t.shape, t.second_edition, records, positions, found);
+    }
+    answer_scaled(t, records, positions, found)
+}
+
 // The first n answers to the front of `answers`.
 fn write(found: &[i32; 256], n: usize, answers: &mut [i32])
     requires { ⌜ (n ≤ 256) × (n ≤ length (now answers)) ⌝ }
@@ -451,12 +514,12 @@ pub fn ramp(t: FullShape, records: &[i32], positions: &[i32], answers: &mut [i32
     ensures answer { λ r. ⌜ outcomeOfRamp r ≡ rampOutcome t (now (records .entry)) (now (positions .entry)) (length (now (answers .entry))) ⌝ }
     ensures written { λ _. ⌜ now (answers .exit) ≡ rampWrites t (now (records .entry)) (now (positions .entry)) (now (answers .entry)) ⌝ }
 {
-    let tested = check_list(t.shape, records.len(), positions.len(), answers.len());
+    let tested = check_list(t, records.len(), positions.len(), answers.len());
     if let Check::Refused(r) = tested {
         return refused_at(r.number, r.place);
     }
     let mut found = [0i32; 256];
-    let outcome = answer_all(t.shape, t.second_edition, records, positions, &mut found);
+    let outcome = answer_list(t, records, positions, &mut found);
     if let Ramped::Fetches(_) = outcome {
         write(&found, positions.len() / 3, answers);
     }

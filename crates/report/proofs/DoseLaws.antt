@@ -3,27 +3,27 @@
 use mathlib.Core.Path.{_≡_, refl, ap, _∙_}
 use mathlib.Core.Bool.{Bool}
 use mathlib.Core.List.{List, [], _∷_}
-use Prim.Native.Nat.{ℕ, _≤_, _<_}
+use Prim.Native.Nat.{ℕ, _≤_}
 use native.Mathlib.Omega.{arith}
 use borrow.Author.Tests.{le-ltb}
 use lib.Dec.{ltb, lit≤}
 use lib.IntN.{ℤ}
-use Rattle.arith.specs.Int.{roundingOf}
 use Rattle.arith.proofs.Choices.{pick-false, on-pick}
 use Rattle.lattice.specs.declared.Shape.{Shape}
+use Rattle.lattice.specs.declared.FullShape.{FullShape}
 use Rattle.lattice.specs.Outcome.{done}
-use Rattle.lattice.specs.Shape.{fullShape}
 use Rattle.lattice.specs.Axes.{Place}
-use Rattle.lattice.specs.Records.{recordsField}
+use Rattle.lattice.proofs.ShapeLaws.{shaped}
+use Rattle.lattice.proofs.StepLaws.{full-shape}
 use Rattle.cell.specs.Cell.{placeAt, Accepted}
-use Rattle.estimate.specs.Estimate.{Estimable, tableRecords, recordsOf, estimateOutcome}
-use Rattle.estimate.proofs.CallLaws.{estimated, records-length}
-use Rattle.evaluate.specs.Evaluate.{dose, lastAxis, answerBy, askAt}
-use Rattle.evaluate.proofs.AnswerLaws.{answer-local}
+use Rattle.estimate.specs.Estimate.{recordsOf, estimateOutcome}
+use Rattle.estimate.proofs.CallLaws.{estimated, estimated-full, records-length}
+use Rattle.evaluate.specs.Evaluate.{dose, lastAxis}
 use Rattle.query.specs.Queries.{wantOutcome, stepsOutcome, byCell}
 use Rattle.cell.proofs.CellLaws.{three, cell-passes}
-use Rattle.query.proofs.QueryLaws.{steps-pass, by-cell-passes}
-use Rattle.estimated.proofs.Estimated.{field-same, corners-done}
+use Rattle.query.specs.Parts.{finest}
+use Rattle.query.proofs.QueryLaws.{steps-pass, finest-used, by-cell-passes}
+use Rattle.estimated.proofs.Estimated.{answer-same, corners-done}
 use Rattle.report.specs.Report.{middle, doseIn}
 use Rattle.report.specs.Parts.{Answers, doseFrom}
 
@@ -37,9 +37,11 @@ middle-none : (axes a : ℕ) → axes ≤ a → middle axes a ≡ 0
 unfolding middle
 middle-none axes a l = pick-false (ltb a axes) 128 0 (le-ltb a axes l)
 
-middle-passes : (s : Shape) → stepsOutcome s (middle (s .axes)) ≡ done tt
-middle-passes s =
-    steps-pass s (middle (s .axes)) (λ a l. let h = middle-low (s .axes) a in omega arith) (λ a l. middle-none (s .axes) a)
+middle-passes : (s : Shape) (second : Bool) → s .axes ≤ 3 → stepsOutcome (finest s second) (middle (s .axes)) ≡ done tt
+middle-passes s second few =
+    steps-pass (finest s second) (middle (s .axes))
+    (λ a l. let h = middle-low (s .axes) a in let e = finest-used s second a (omega arith) l in omega arith)
+    (λ a l. middle-none (s .axes) a)
 
 -- three steps as a place
 pub middle-place : (axes x y z : ℕ) → axes ≤ 3 → x ≡ middle axes 0 → y ≡ middle axes 1 → z ≡ middle axes 2
@@ -47,38 +49,30 @@ pub middle-place : (axes x y z : ℕ) → axes ≤ 3 → x ≡ middle axes 0 →
 middle-place axes x y z h i j k = three x y z (middle axes) i j k (λ a l. middle-none axes a (omega arith))
 
 -- the query is answered
-pub answered : (second : Bool) (s : Shape) (rs : List ℤ) (cell : List ℕ) (step : Place) → Answers s rs → Accepted s (placeAt cell)
-    → step ≡ middle (s .axes) → byCell (fullShape s second) rs dose (placeAt cell) step ≡ done (doseFrom second s rs cell)
+pub answered : (second : Bool) (s : Shape) (rs : List ℤ) (cell : List ℕ) (step : Place) → Answers (finest s second) rs
+    → Accepted s (placeAt cell) → step ≡ middle (s .axes)
+    → byCell (finest s second) rs dose (placeAt cell) step ≡ done (doseFrom (finest s second) rs cell)
 unfolding doseFrom wantOutcome
 answered second s rs cell step known here is =
-    ap (byCell (fullShape s second) rs dose (placeAt cell)) is
-    ∙ by-cell-passes (fullShape s second) rs dose (placeAt cell) (middle (s .axes)) (known .long) (known .shape) refl
-    (cell-passes s (placeAt cell) (here .used) (λ a l. here .unused a)) (middle-passes s) (known .corners (placeAt cell) here)
+    let t : FullShape = finest s second in
+    ap (byCell t rs dose (placeAt cell)) is
+    ∙ by-cell-passes t rs dose (placeAt cell) (middle (s .axes)) (known .long) (known .shape) refl
+    (cell-passes s (placeAt cell) (here .used) (λ a l. here .unused a))
+    (middle-passes s second (shaped s (full-shape t (known .shape)) .axes-high)) (known .corners (placeAt cell) here)
 
 -- ---- the records that estimation wrote
 
-module _ (s : Shape) (xs : List ℤ) (room : ℕ) (e : Estimable s xs room) (cell : Place) (here : Accepted s cell) where
-  last : lastAxis (s .axes) dose < s .axes
-  unfolding lastAxis
-  last = let h = e .shape .axes-low in omega arith
+module _ (t : FullShape) (xs : List ℤ) (room : ℕ) (taken : estimateOutcome t xs room ≡ done tt) where
+  pub answers : Answers t (recordsOf (t .shape) xs)
+  answers = record {
+    shape = estimated-full t xs room taken;
+    long = records-length (t .shape) xs;
+    corners = λ cell here. corners-done (t .shape) xs room (estimated t xs room taken) cell here;
+  }
 
-  answer-same : (second : Bool) (step : Place)
-      → answerBy (roundingOf second) (askAt s dose cell step) (recordsField s (recordsOf s xs))
-      ≡ answerBy (roundingOf second) (askAt s dose cell step) (tableRecords s xs)
-  unfolding askAt
-  answer-same second step =
-      answer-local (roundingOf second) (askAt s dose cell step) last (recordsField s (recordsOf s xs)) (tableRecords s xs)
-      (field-same s xs room e cell here)
-
--- estimation that is not refused
-module _ (s : Shape) (xs : List ℤ) (room : ℕ) (taken : estimateOutcome s xs room ≡ done tt) where
-  pub answers : Answers s (recordsOf s xs)
-  answers =
-      let e = estimated s xs room taken in
-      record { shape = e .passed; long = records-length s xs; corners = λ cell here. corners-done s xs room e cell here }
-
-  pub dose-same : (second : Bool) (cell : List ℕ) → Accepted s (placeAt cell)
-      → doseFrom second s (recordsOf s xs) cell ≡ doseIn second s xs cell
-  unfolding doseFrom doseIn
-  dose-same second cell here =
-      answer-same s xs room (estimated s xs room taken) (placeAt cell) here second (middle (s .axes))
+  pub dose-same : (cell : List ℕ) → Accepted (t .shape) (placeAt cell) → doseFrom t (recordsOf (t .shape) xs) cell ≡ doseIn t xs cell
+  unfolding doseFrom doseIn lastAxis
+  dose-same cell here =
+      let e = estimated t xs room taken in
+      let h = e .shape .axes-low in
+      answer-same t xs room e (placeAt cell) here dose (middle (t .shape .axes)) (omega arith)

@@ -1,20 +1,20 @@
 -- The program's text for its whole input: one line for each cell of the table, x fastest, or the line of a refusal.
 use Prim.Native.Nat.{ℕ, zero, suc}
-use mathlib.Core.Bool.{Bool}
 use mathlib.Core.List.{List, [], _++_}
 use lib.Dec.{leb, ltb}
 use lib.IntN.{ℤ}
 use lib.ListN.{length}
 use Rattle.arith.specs.Choice.{pick}
-use Rattle.arith.specs.Int.{roundingOf}
 use Rattle.lattice.specs.declared.Shape.{Shape}
-use Rattle.lattice.specs.Shape.{shapeOf, size}
+use Rattle.lattice.specs.declared.FullShape.{FullShape}
+use Rattle.lattice.specs.Shape.{shapeOf, fullShape, roundingIn, size}
 use Rattle.lattice.specs.Outcome.{Outcome, Check, done, refused, refuseUnless, first}
 use Rattle.lattice.specs.Axes.{Place}
 use Rattle.cell.specs.Cell.{placeAt}
 use Rattle.cell.specs.Cells.{cellCount, cellAt}
 use Rattle.estimate.specs.Estimate.{tableRecords, estimateOutcome}
-use Rattle.evaluate.specs.Evaluate.{dose, askAt, answerBy}
+use Rattle.evaluate.specs.Evaluate.{dose, answerBy}
+use Rattle.query.specs.Queries.{askIn}
 use Rattle.table_file.specs.File.{Header, samplesIn, readOutcome}
 use Rattle.text.specs.Lines.{cellLine, refusedLine}
 
@@ -34,14 +34,19 @@ middle axes a = pick (ltb a axes) 128 0
 abbrev pub withDegree : Header → ℕ → Shape
 withDegree h degree = shapeOf (h .axes) degree (h .counts)
 
--- the dose there in an edition, from the records of one degree that the rules under Estimates give
-unfoldable pub doseIn : (second : Bool) → Shape → List ℤ → List ℕ → ℤ
-doseIn second s samples cell = answerBy (roundingOf second) (askAt s dose (placeAt cell) (middle (s .axes))) (tableRecords s samples)
+-- with the step numbers and the edition of the file
+abbrev pub tableWith : Header → ℕ → FullShape
+tableWith h degree = fullShape (withDegree h degree) (h .steps) (h .second)
 
--- the cubic dose and the quintic dose, in the file's edition
+-- the dose there, from the records of one degree that the rules under Estimates give
+unfoldable pub doseIn : FullShape → List ℤ → List ℕ → ℤ
+doseIn t samples cell =
+    answerBy (roundingIn t) (askIn t dose (placeAt cell) (middle (t .shape .axes))) (tableRecords (t .shape) samples)
+
+-- the cubic dose and the quintic dose
 unfoldable pub lineIn : Header → List ℤ → List ℕ → List ℕ
 lineIn h samples cell =
-    cellLine cell (doseIn (h .second) (withDegree h 3) samples cell) (doseIn (h .second) (withDegree h 5) samples cell)
+    cellLine cell (doseIn (tableWith h 3) samples cell) (doseIn (tableWith h 5) samples cell)
 
 -- ---- the text
 
@@ -64,7 +69,7 @@ tableText (done u) h samples = cellLines h samples
 tableText (refused number place) h samples = refusedLine number
 
 unfoldable pub textOf : Outcome Header → List ℤ → List ℕ
-textOf (done h) samples = tableText (estimateOutcome (withDegree h 3) samples (size (withDegree h 3))) h samples
+textOf (done h) samples = tableText (estimateOutcome (tableWith h 3) samples (size (withDegree h 3))) h samples
 textOf (refused number place) samples = refusedLine number
 
 unfoldable pub reportText : List ℕ → List ℕ

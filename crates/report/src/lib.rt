@@ -6,13 +6,12 @@ ghost use lib.ListN.{length, take};
 ghost use Rattle.arith.specs.Choice.{pick};
 ghost use Rattle.lattice.specs.Buffer.{overwrite};
 ghost use Rattle.lattice.specs.Outcome.{done};
-ghost use Rattle.lattice.specs.Shape.{shapeOf};
 ghost use Rattle.estimate.specs.Estimate.{recordsOf, estimateOutcome};
 ghost use Rattle.cell.specs.Cell.{placeAt, Accepted};
 ghost use Rattle.cell.specs.Cells.{Between, cellCount};
-ghost use Rattle.table_file.specs.File.{header};
+ghost use Rattle.table_file.specs.File.{fileHeader};
 ghost use Rattle.text.specs.Lines.{Put};
-ghost use Rattle.report.specs.Report.{heldNodes, middle, withDegree, cellLines, textOf, reportText};
+ghost use Rattle.report.specs.Report.{heldNodes, middle, withDegree, tableWith, cellLines, textOf, reportText};
 ghost use Rattle.report.specs.Parts.{Answers, HeldTable, TakenTable, doseFrom, lineFrom, linesFrom, lineLimit};
 use evaluate::Derivative;
 use lattice::Check;
@@ -39,6 +38,17 @@ fn middle_of(axes: u32) -> [u32; 3]
     [x, y, z]
 }
 
+// The table of one degree.
+fn table_with(axes: u32, counts: [u32; 3], second: bool, degree: u32) -> FullShape
+    ensures { λ r. ⌜ r ≡ tableWith (fileHeader axes counts second) degree ⌝ }
+{
+    FullShape {
+        shape: lattice::shape_of(axes, degree, counts),
+        steps: lattice::finest_steps(axes),
+        second_edition: second,
+    }
+}
+
 // The dose of one degree at the middle of a cell; no query is refused.
 fn dose_at(
     axes: u32,
@@ -48,17 +58,14 @@ fn dose_at(
     records: &[i32],
     cell: [u32; 3],
 ) -> i32
-    requires { ⌜ Answers (withDegree (header axes counts second) degree) (now records) ⌝ }
-    requires { ⌜ Accepted (withDegree (header axes counts second) degree) (placeAt cell) ⌝ }
-    ensures { λ r. ⌜ r ≡ doseFrom second (withDegree (header axes counts second) degree) (now (records .entry)) cell ⌝ }
+    requires { ⌜ Answers (tableWith (fileHeader axes counts second) degree) (now records) ⌝ }
+    requires { ⌜ Accepted (withDegree (fileHeader axes counts second) degree) (placeAt cell) ⌝ }
+    ensures { λ r. ⌜ r ≡ doseFrom (tableWith (fileHeader axes counts second) degree) (now (records .entry)) cell ⌝ }
 {
     let step = middle_of(axes);
-    let shape = lattice::shape_of(axes, degree, counts);
+    let table = table_with(axes, counts, second, degree);
     let reading = query::in_cell(
-        FullShape {
-            shape: shape,
-            second_edition: second,
-        },
+        table,
         records,
         CellQuery {
             cell: cell,
@@ -83,9 +90,9 @@ fn put_line(
     out: &mut [u8],
     at: usize,
 ) -> usize
-    requires { ⌜ Answers (withDegree (header axes counts second) 3) (now cubic) × Answers (withDegree (header axes counts second) 5) (now quintic) ⌝ }
-    requires { ⌜ Accepted (withDegree (header axes counts second) 3) (placeAt cell) × Between 0 99 cell × (at + lineLimit ≤ length (now out)) ⌝ }
-    ensures { λ r. ⌜ Put (now (out .entry)) at (lineFrom (header axes counts second) (now (cubic .entry)) (now (quintic .entry)) cell) (now (out .exit)) r × (r ≤ at + lineLimit) ⌝ }
+    requires { ⌜ Answers (tableWith (fileHeader axes counts second) 3) (now cubic) × Answers (tableWith (fileHeader axes counts second) 5) (now quintic) ⌝ }
+    requires { ⌜ Accepted (withDegree (fileHeader axes counts second) 3) (placeAt cell) × Between 0 99 cell × (at + lineLimit ≤ length (now out)) ⌝ }
+    ensures { λ r. ⌜ Put (now (out .entry)) at (lineFrom (fileHeader axes counts second) (now (cubic .entry)) (now (quintic .entry)) cell) (now (out .exit)) r × (r ≤ at + lineLimit) ⌝ }
 {
     let a = dose_at(axes, counts, second, 3, cubic, cell);
     let b = dose_at(axes, counts, second, 5, quintic, cell);
@@ -101,9 +108,9 @@ fn put_lines(
     quintic: &[i32],
     out: &mut [u8],
 ) -> usize
-    requires { ⌜ Answers (withDegree (header axes counts second) 3) (now cubic) × Answers (withDegree (header axes counts second) 5) (now quintic) ⌝ }
-    requires { ⌜ (cellCount (withDegree (header axes counts second) 3) ≤ heldNodes) × (heldNodes * lineLimit ≤ length (now out)) ⌝ }
-    ensures { λ r. ⌜ Put (now (out .entry)) 0 (linesFrom (header axes counts second) (now (cubic .entry)) (now (quintic .entry))) (now (out .exit)) r × (r ≤ heldNodes * lineLimit) ⌝ }
+    requires { ⌜ Answers (tableWith (fileHeader axes counts second) 3) (now cubic) × Answers (tableWith (fileHeader axes counts second) 5) (now quintic) ⌝ }
+    requires { ⌜ (cellCount (withDegree (fileHeader axes counts second) 3) ≤ heldNodes) × (heldNodes * lineLimit ≤ length (now out)) ⌝ }
+    ensures { λ r. ⌜ Put (now (out .entry)) 0 (linesFrom (fileHeader axes counts second) (now (cubic .entry)) (now (quintic .entry))) (now (out .exit)) r × (r ≤ heldNodes * lineLimit) ⌝ }
 {
     // The cells are the same for both degrees.
     let cells = cell::cells_of(lattice::shape_of(axes, 3, counts));
@@ -122,37 +129,38 @@ fn put_lines(
 fn estimate_degree(
     axes: u32,
     counts: [u32; 3],
+    second: bool,
     degree: u32,
     samples: &[i32],
     records: &mut [i32],
 ) -> usize
-    requires { ⌜ estimateOutcome (shapeOf axes degree counts) (now samples) (length (now records)) ≡ done tt ⌝ }
-    ensures { λ r. ⌜ (r ≤ length (now (records .exit))) × (take r (now (records .exit)) ≡ recordsOf (shapeOf axes degree counts) (now (samples .entry))) ⌝ }
+    requires { ⌜ estimateOutcome (tableWith (fileHeader axes counts second) degree) (now samples) (length (now records)) ≡ done tt ⌝ }
+    ensures { λ r. ⌜ (r ≤ length (now (records .exit))) × (take r (now (records .exit)) ≡ recordsOf (withDegree (fileHeader axes counts second) degree) (now (samples .entry))) ⌝ }
 {
-    let s = lattice::shape_of(axes, degree, counts);
-    estimate::estimate(s, samples, records);
-    lattice::table_entries(s)
+    let t = table_with(axes, counts, second, degree);
+    estimate::estimate(t, samples, records);
+    lattice::table_entries(t.shape)
 }
 
 // Puts the lines of a table that estimation takes: estimates of both degrees, then its cells.
 fn put_table(axes: u32, counts: [u32; 3], second: bool, samples: &[i32], out: &mut [u8]) -> usize
-    requires { ⌜ TakenTable (header axes counts second) (now samples) × (heldNodes * lineLimit ≤ length (now out)) ⌝ }
-    ensures { λ r. ⌜ Put (now (out .entry)) 0 (cellLines (header axes counts second) (now (samples .entry))) (now (out .exit)) r × (r ≤ heldNodes * lineLimit) ⌝ }
+    requires { ⌜ TakenTable (fileHeader axes counts second) (now samples) × (heldNodes * lineLimit ≤ length (now out)) ⌝ }
+    ensures { λ r. ⌜ Put (now (out .entry)) 0 (cellLines (fileHeader axes counts second) (now (samples .entry))) (now (out .exit)) r × (r ≤ heldNodes * lineLimit) ⌝ }
 {
     let mut cubic = [0i32; 4096];
     let mut quintic = [0i32; 13824];
-    let low = estimate_degree(axes, counts, 3, samples, &mut cubic);
-    let high = estimate_degree(axes, counts, 5, samples, &mut quintic);
+    let low = estimate_degree(axes, counts, second, 3, samples, &mut cubic);
+    let high = estimate_degree(axes, counts, second, 5, samples, &mut quintic);
     put_lines(axes, counts, second, &cubic[..low], &quintic[..high], out)
 }
 
 // Puts the text of a table: its lines, or the line of what estimation refuses, in both degrees alike.
 fn put_text(axes: u32, counts: [u32; 3], second: bool, samples: &[i32], out: &mut [u8]) -> usize
-    requires { ⌜ HeldTable (header axes counts second) (now samples) × (heldNodes * lineLimit ≤ length (now out)) ⌝ }
-    ensures { λ r. ⌜ Put (now (out .entry)) 0 (textOf (done (header axes counts second)) (now (samples .entry))) (now (out .exit)) r × (r ≤ heldNodes * lineLimit) ⌝ }
+    requires { ⌜ HeldTable (fileHeader axes counts second) (now samples) × (heldNodes * lineLimit ≤ length (now out)) ⌝ }
+    ensures { λ r. ⌜ Put (now (out .entry)) 0 (textOf (done (fileHeader axes counts second)) (now (samples .entry))) (now (out .exit)) r × (r ≤ heldNodes * lineLimit) ⌝ }
 {
-    let s = lattice::shape_of(axes, 3, counts);
-    let checked = estimate::check_estimate(s, samples, 4096);
+    let t = table_with(axes, counts, second, 3);
+    let checked = estimate::check_estimate(t, samples, 4096);
     match checked {
         Check::Refused(r) => text::put_refused_line(out, r.number),
         Check::Done => put_table(axes, counts, second, samples, out),

@@ -20,7 +20,7 @@ use Rattle.lattice.proofs.OutcomeLaws.{first-done, first-passed, refuse-done, p
 use Rattle.lattice.proofs.ShapeLaws.{axes-range, counts-each, nodes-high, allowed-unused}
 use Rattle.lattice.proofs.BufferLaws.{length-tabulate, getD-tabulate}
 use Rattle.table_file.specs.Numbers.{signedOf}
-use Rattle.table_file.specs.File.{header, sectionThree, headerIn, countOf, fileNumber, complete, axesIn, countIn, nodesIn, samplesIn, startOfThree, secondIn, countOutcome, oneOutcome, nothingAfter, twoOutcome, threeOutcome}
+use Rattle.table_file.specs.File.{fileHeader, sectionThree, headerIn, countOf, fileNumber, complete, axesIn, countIn, nodesIn, samplesIn, startOfThree, secondIn, countOutcome, oneOutcome, nothingAfter, twoOutcome, threeOutcome}
 use Rattle.table_file.specs.Parser.{samplesFrom, shapeIn, restOutcome, AfterOne}
 use Rattle.table_file.proofs.WriteLaws.{shaped-of}
 
@@ -107,7 +107,7 @@ module _ (bytes : List ℕ) where
   nodes-in = refl
 
   pub header-is : (s : Shape) (second : Bool) → s ≡ shapeIn bytes → second ≡ secondIn bytes
-      → headerIn bytes ≡ header (s .axes) (getD (s .counts) 0 0 ∷ getD (s .counts) 1 0 ∷ getD (s .counts) 2 0 ∷ []) second
+      → headerIn bytes ≡ fileHeader (s .axes) (getD (s .counts) 0 0 ∷ getD (s .counts) 1 0 ∷ getD (s .counts) 2 0 ∷ []) second
   unfolding headerIn tabulate
   header-is s second e f = rw (e, f) refl
 

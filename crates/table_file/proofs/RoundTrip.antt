@@ -22,7 +22,7 @@ use Rattle.lattice.specs.Records.{sampleLimit}
 use Rattle.lattice.proofs.BufferLaws.{length-tabulate, getD-tabulate, tabulate-getD}
 use Rattle.arith.specs.Int.{unsignedOf}
 use Rattle.table_file.specs.Numbers.{numberAt, bytesOfAll, signedOf}
-use Rattle.table_file.specs.File.{Header, header, sectionOne, sectionTwo, sectionThree, fileOf, axesIn, countIn, headerIn, nodesIn, samplesIn, startOfThree, secondIn, countOf, nodesOf, writeOutcome, AreBytes, PermittedTable}
+use Rattle.table_file.specs.File.{Header, fileHeader, sectionOne, sectionTwo, sectionThree, fileOf, axesIn, countIn, headerIn, nodesIn, samplesIn, startOfThree, secondIn, countOf, nodesOf, writeOutcome, AreBytes, asRead, PermittedTable}
 use Rattle.arith.specs.Choice.{pick}
 use Rattle.arith.proofs.Choices.{split}
 use Rattle.arith.proofs.Twos.{unsigned-below}
@@ -30,7 +30,7 @@ use Rattle.table_file.proofs.Twos.{unsigned-signed, signed-unsigned}
 use Rattle.table_file.proofs.NumberLaws.{number-of-all, number-below, tabulate-add, all-numbers}
 use Rattle.table_file.proofs.ReadLaws.{Third, count-read, count-absent, samples-length, samples-get}
 use Rattle.table_file.proofs.TakenLaws.{Taken}
-use Rattle.table_file.proofs.WriteLaws.{sample-number, numbers, length-numbers, length-file, fit-size, fit-writes}
+use Rattle.table_file.proofs.WriteLaws.{sample-number, numbers, length-numbers, length-file, fit-size, fit-writes, read-permitted}
 
 -- ---- the numbers of a file, by their places
 
@@ -228,11 +228,11 @@ module _ (h : Header) (xs : List ℤ) (ok : PermittedTable h xs) where
   unfolding secondIn
   second-again = rw (start-again, length-file h xs within) (edition-told (h .second) (2 + m + length xs))
 
-  pub header-again : headerIn file ≡ h
+  pub header-again : headerIn file ≡ asRead h
   unfolding headerIn countOf tabulate
   header-again =
       rw (axes-again, second-again, count-again 0 (lit< tt), count-again 1 (lit< tt), count-again 2 (lit< tt))
-      (ap (λ (cs : List ℕ). header m cs (h .second)) (tabulate-getD (h .counts) 3 0 (ok .three)))
+      (ap (λ (cs : List ℕ). fileHeader m cs (h .second)) (tabulate-getD (h .counts) 3 0 (ok .three)))
 
   pub samples-again : samplesIn file ≡ xs
   samples-again =
@@ -251,7 +251,7 @@ module _ (h : Header) (xs : List ℤ) (ok : PermittedTable h xs) where
 
   pub taken-again : (room : ℕ) → length xs ≤ room → Taken file room
   taken-again room r = record {
-    permitted = rw (header-again, samples-again) ok;
+    permitted = rw (header-again, samples-again) (read-permitted h xs ok);
     counted = ap (λ (k : ℕ). numberAt file (4 * (1 + k))) axes-again ∙ file-front (1 + m) (omega arith)
         ∙ number-many m (h .counts) xs within ∙ sym nodes-again;
     third = rw second-again third-again;

@@ -8,8 +8,9 @@ use Rattle.lattice.specs.Buffer.{tabulate}
 use Rattle.lattice.specs.Digits.{span}
 use Rattle.lattice.specs.Shape.{countsOutcome}
 use Rattle.lattice.proofs.OutcomeLaws.{first-done, first-passed, done-same, first-assoc}
-use Rattle.table_file.specs.File.{Header, fileNumber, axesIn, headerIn, nodesIn, samplesIn, startOfThree, secondIn, oneOutcome, readCheck, readOutcome, countOf, nodesOf, PermittedTable}
+use Rattle.table_file.specs.File.{Header, fileNumber, axesIn, countIn, headerIn, nodesIn, samplesIn, startOfThree, secondIn, oneOutcome, readCheck, readOutcome, countOf, nodesOf, PermittedTable}
 use Rattle.table_file.specs.Parser.{restOutcome}
+use Rattle.table_file.proofs.WriteLaws.{finest-ok}
 use Rattle.table_file.proofs.ReadLaws.{Third, Rest, one-facts, one-passes, two-facts, two-passes, three-facts, three-passes, rest-facts, rest-passes, samples-length}
 
 -- a file that reading takes
@@ -33,7 +34,14 @@ module _ (bytes : List ℕ) (room : ℕ) where
       let rest = rest-facts bytes room (g .0) in
       let two = two-facts bytes (rest .two) in
       let may : PermittedTable (headerIn bytes) (samplesIn bytes) =
-      record { three = refl; axes-ok = one .0; counts-ok = one .1; counted = samples-length bytes; limited = rest .limited } in (
+      record {
+        three = refl;
+        axes-ok = one .0;
+        counts-ok = one .1;
+        steps-ok = finest-ok (axesIn bytes) (tabulate 3 (countIn bytes)) (secondIn bytes);
+        counted = samples-length bytes;
+        limited = rest .limited;
+      } in (
         record { permitted = may; counted = two .0; third = three-facts bytes (two .1) (rest .three); roomy = rest .roomy },
         done-same (headerIn bytes) h (g .1),
       )

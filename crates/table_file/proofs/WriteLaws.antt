@@ -13,15 +13,17 @@ use lib.Seq.{sets, take-suc, length-take-le}
 use Rattle.arith.specs.Choice.{pick}
 use Rattle.lattice.specs.Outcome.{Outcome, Check, done, refused, refuseUnless, first, whenDone}
 use Rattle.lattice.specs.Buffer.{at, overwrite}
-use Rattle.lattice.specs.Shape.{shapeOf, count, nodes, axesOutcome, degreeOutcome, countsOutcome, shapeOutcome, Shaped}
+use Rattle.lattice.specs.Shape.{shapeOf, count, nodes, axesOutcome, degreeOutcome, countsOutcome, shapeOutcome, fullShape, stepsOn, stepNumbersOutcome, fullOutcome, Shaped}
 use Rattle.lattice.specs.declared.Shape.{Shape}
+use Rattle.lattice.specs.declared.FullShape.{FullShape}
 use Rattle.lattice.specs.Records.{sampleLimit, limitOutcome}
 use Rattle.lattice.proofs.OutcomeLaws.{first-done, first-passed, first-after, first-assoc, refuse-done, when-done, when-refused}
 use Rattle.arith.specs.Int.{unsignedOf}
 use Rattle.table_file.specs.Numbers.{bytesOf, bytesOfAll}
-use Rattle.table_file.specs.File.{Header, sectionOne, sectionTwo, sectionThree, fileOf, countOf, nodesOf, writeCheck, writeOutcome, PermittedTable}
+use Rattle.table_file.specs.File.{Header, fileHeader, sectionOne, sectionTwo, sectionThree, fileOf, countOf, stepOf, nodesOf, writeCheck, writeOutcome, asRead, PermittedTable}
 use Rattle.lattice.proofs.BufferLaws.{sets-append, sets-front}
 use Rattle.lattice.proofs.ShapeLaws.{shaped, nodes-high}
+use Rattle.lattice.proofs.StepLaws.{full-shape, finest-done}
 use Rattle.table_file.proofs.NumberLaws.{length-all, all-append, all-one}
 
 -- ---- the answer of a call, and what it leaves in a slice
@@ -133,9 +135,19 @@ module _ (second : Bool) (k : ℕ) (l : List ℕ) where
 abbrev pub cubic : Header → Shape
 cubic h = shapeOf (h .axes) 3 (h .counts)
 
+abbrev pub full : Header → FullShape
+full h = fullShape (cubic h) (h .steps) (h .second)
+
 pub shape-tests : (h : Header) → shapeOutcome (cubic h) ≡ first (axesOutcome (h .axes)) (countsOutcome (h .axes) (countOf h))
 unfolding shapeOutcome degreeOutcome count countOf
 shape-tests h = refl
+
+full-tests : (h : Header) → fullOutcome (full h)
+    ≡ first (axesOutcome (h .axes)) (first (countsOutcome (h .axes) (countOf h)) (stepNumbersOutcome (h .axes) (stepOf h)))
+unfolding fullOutcome stepsOn stepOf
+full-tests h =
+    ap (λ (c : Check). first c (stepNumbersOutcome (h .axes) (stepOf h))) (shape-tests h)
+    ∙ first-assoc (axesOutcome (h .axes)) (countsOutcome (h .axes) (countOf h)) (stepNumbersOutcome (h .axes) (stepOf h))
 
 pub shaped-of : (h : Header) → axesOutcome (h .axes) ≡ done tt → countsOutcome (h .axes) (countOf h) ≡ done tt → Shaped (cubic h)
 shaped-of h e f = shaped (cubic h) (shape-tests h ∙ first-passed (axesOutcome (h .axes)) _ e ∙ f)
@@ -152,15 +164,19 @@ pub record AfterShape (h : Header) (xs : List ℤ) (room many third : ℕ) : Typ
   pub rest : restCheck xs many (4 * (2 + h .axes + many + third)) room ≡ writeCheck h xs room
 
 module _ (h : Header) (xs : List ℤ) (room : ℕ) where
-  pub write-is : writeCheck h xs room ≡ first (shapeOutcome (cubic h)) (restCheck xs (nodesOf h) (length (fileOf h xs)) room)
+  pub write-is : writeCheck h xs room ≡ first (fullOutcome (full h)) (restCheck xs (nodesOf h) (length (fileOf h xs)) room)
   unfolding writeCheck
-  write-is = sym (rw (shape-tests h) (first-assoc (axesOutcome (h .axes)) (countsOutcome (h .axes) (countOf h)) _))
+  write-is =
+      let steps = stepNumbersOutcome (h .axes) (stepOf h) in
+      sym (rw (full-tests h)
+      (first-assoc (axesOutcome (h .axes)) (first (countsOutcome (h .axes) (countOf h)) steps) _
+      ∙ ap (λ (c : Check). first (axesOutcome (h .axes)) c) (first-assoc (countsOutcome (h .axes) (countOf h)) steps _)))
 
-  pub after-shape : (many third : ℕ) → length (h .counts) ≡ 3 → shapeOutcome (cubic h) ≡ done tt → many ≡ nodes (cubic h)
+  pub after-shape : (many third : ℕ) → length (h .counts) ≡ 3 → fullOutcome (full h) ≡ done tt → many ≡ nodes (cubic h)
       → third ≡ length (sectionThree (h .second)) → AfterShape h xs room many third
   unfolding nodes nodesOf count countOf
   after-shape many third three e many-is third-is =
-      let s = shaped (cubic h) e in
+      let s = shaped (cubic h) (full-shape (full h) e) in
       record {
         few = s .axes-high;
         most = omega (arith, many-is, nodes-high (cubic h) s);
@@ -170,7 +186,7 @@ module _ (h : Header) (xs : List ℤ) (room : ℕ) where
             let needed : 4 * (2 + h .axes + many + third) ≡ length (fileOf h xs) = omega arith in
             ap (λ (k : ℕ). first (refuseUnless (leb k room) 9 0) (limitOutcome 5 sampleLimit xs)) needed)
             ∙ ap (λ (k : ℕ). restCheck xs k (length (fileOf h xs)) room) many-is
-            ∙ sym (write-is ∙ first-passed (shapeOutcome (cubic h)) _ e);
+            ∙ sym (write-is ∙ first-passed (fullOutcome (full h)) _ e);
       }
 
   -- writing takes permitted tables that have room
@@ -180,10 +196,11 @@ module _ (h : Header) (xs : List ℤ) (room : ℕ) where
       let size = length (fileOf h xs) in
       let f = first-done (axesOutcome (h .axes)) _ tt e in
       let g = first-done (countsOutcome (h .axes) (countOf h)) _ tt (f .1) in
-      let k = first-done (refuseUnless (eqb (length xs) (nodesOf h)) 4 0) _ tt (g .1) in
+      let steps = first-done (stepNumbersOutcome (h .axes) (stepOf h)) _ tt (g .1) in
+      let k = first-done (refuseUnless (eqb (length xs) (nodesOf h)) 4 0) _ tt (steps .1) in
       let l = first-done (refuseUnless (leb size room) 9 0) (limitOutcome 5 sampleLimit xs) tt (k .1) in
       let counted = eqb-true (length xs) (nodesOf h) (refuse-done (eqb (length xs) (nodesOf h)) 4 0 (k .0)) in (
-        record { three = three; axes-ok = f .0; counts-ok = g .0; counted = counted; limited = l .1 },
+        record { three = three; axes-ok = f .0; counts-ok = g .0; steps-ok = steps .0; counted = counted; limited = l .1 },
         leb-true size room (refuse-done (leb size room) 9 0 (l .0)),
       )
 
@@ -192,6 +209,7 @@ module _ (h : Header) (xs : List ℤ) (room : ℕ) where
   fit-writes t r = rw (
     t .axes-ok,
     t .counts-ok,
+    t .steps-ok,
     eq-eqb (length xs) (nodesOf h) (t .counted),
     le-leb (length (fileOf h xs)) room r,
     t .limited,
@@ -205,3 +223,19 @@ fit-size h xs t =
     let s = shaped-of h (t .axes-ok) (t .counts-ok) in
     let few = s .axes-high in
     (few, omega (arith, t .counted, nodes-high (cubic h) s), length-file h xs (omega (arith, few, t .three)))
+
+-- a table as it is read is permitted
+pub finest-ok : (n : ℕ) (counts : List ℕ) (second : Bool) → stepNumbersOutcome n (stepOf (fileHeader n counts second)) ≡ done tt
+unfolding stepOf stepsOn
+finest-ok n counts second = finest-done (shapeOf n 3 counts) second
+
+pub read-permitted : (h : Header) (xs : List ℤ) → PermittedTable h xs → PermittedTable (asRead h) xs
+unfolding countOf nodesOf
+read-permitted h xs t = record {
+  three = t .three;
+  axes-ok = t .axes-ok;
+  counts-ok = t .counts-ok;
+  steps-ok = finest-ok (h .axes) (h .counts) (h .second);
+  counted = t .counted;
+  limited = t .limited;
+}

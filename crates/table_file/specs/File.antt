@@ -10,19 +10,24 @@ use Rattle.arith.specs.Choice.{pick}
 use Rattle.lattice.specs.Outcome.{Outcome, Check, done, refuseUnless, first, firstOf}
 use Rattle.lattice.specs.Buffer.{tabulate}
 use Rattle.lattice.specs.Digits.{span}
-use Rattle.lattice.specs.Shape.{axesOutcome, countAllowed, countsOutcome}
+use Rattle.lattice.specs.Shape.{axesOutcome, countAllowed, countsOutcome, stepNumbersOutcome, finestSteps}
 use Rattle.lattice.specs.Records.{sampleLimit, limitOutcome}
 use Rattle.arith.specs.Int.{unsignedOf}
 use Rattle.table_file.specs.Numbers.{numberAt, bytesOfAll, signedOf}
 
--- n, three node counts, and whether the edition is two
+-- n, three node counts, three step numbers, and whether the edition is two
 pub record Header : Type 0 where
   pub axes : ℕ
   pub counts : List ℕ
+  pub steps : List ℕ
   pub second : Bool
 
-abbrev pub header : ℕ → List ℕ → Bool → Header
-header n cs second = record { axes = n; counts = cs; second = second }
+abbrev pub header : ℕ → List ℕ → List ℕ → Bool → Header
+header n cs ns second = record { axes = n; counts = cs; steps = ns; second = second }
+
+-- of a table that is read: files do not hold step numbers
+abbrev pub fileHeader : ℕ → List ℕ → Bool → Header
+fileHeader n cs second = header n cs (finestSteps n) second
 
 -- ---- the bytes of a table
 
@@ -38,6 +43,7 @@ sectionTwo samples = length samples ∷ map unsignedOf samples
 unfoldable pub sectionThree : Bool → List ℕ
 sectionThree second = pick second (1 ∷ 2 ∷ []) []
 
+-- step numbers are left out
 unfoldable pub fileOf : Header → List ℤ → List ℕ
 fileOf h samples = bytesOfAll (sectionOne (h .axes) (h .counts) ++ sectionTwo samples ++ sectionThree (h .second))
 
@@ -74,7 +80,7 @@ unfoldable pub secondIn : List ℕ → Bool
 secondIn bytes = ltb (4 * startOfThree bytes) (length bytes)
 
 unfoldable pub headerIn : List ℕ → Header
-headerIn bytes = header (axesIn bytes) (tabulate 3 (countIn bytes)) (secondIn bytes)
+headerIn bytes = fileHeader (axesIn bytes) (tabulate 3 (countIn bytes)) (secondIn bytes)
 
 -- 6, and 3 as read
 unfoldable pub countOutcome : List ℕ → ℕ → Check
@@ -120,16 +126,20 @@ readOutcome bytes room = first (readCheck bytes room) (done (headerIn bytes))
 unfoldable pub countOf : Header → ℕ → ℕ
 countOf h a = getD (h .counts) a 0
 
+unfoldable pub stepOf : Header → ℕ → ℕ
+stepOf h a = getD (h .steps) a 0
+
 unfoldable pub nodesOf : Header → ℕ
 nodesOf h = span 3 (countOf h)
 
--- into a slice of `room` bytes: 1, 3, 4, 9, 5
+-- into a slice of `room` bytes: 1, 3, 26, 4, 9, 5
 unfoldable pub writeCheck : Header → List ℤ → ℕ → Check
 writeCheck h samples room =
     first (axesOutcome (h .axes))
     (first (countsOutcome (h .axes) (countOf h))
+    (first (stepNumbersOutcome (h .axes) (stepOf h))
     (first (refuseUnless (eqb (length samples) (nodesOf h)) 4 0)
-    (first (refuseUnless (leb (length (fileOf h samples)) room) 9 0) (limitOutcome 5 sampleLimit samples))))
+    (first (refuseUnless (leb (length (fileOf h samples)) room) 9 0) (limitOutcome 5 sampleLimit samples)))))
 
 -- the result is the number of bytes
 unfoldable pub writeOutcome : Header → List ℤ → ℕ → Outcome ℕ
@@ -141,10 +151,15 @@ writeOutcome h samples room = first (writeCheck h samples room) (done (length (f
 abbrev pub AreBytes : List ℕ → Type 0
 AreBytes bytes = (i : ℕ) → getD bytes i 0 < 256
 
--- a table that 1, 3, 4 and 5 do not refuse
+-- a table as it is read from its file
+abbrev pub asRead : Header → Header
+asRead h = fileHeader (h .axes) (h .counts) (h .second)
+
+-- a table that 1, 3, 26, 4 and 5 do not refuse
 pub record PermittedTable (h : Header) (samples : List ℤ) : Type 0 where
   pub three : length (h .counts) ≡ 3
   pub axes-ok : axesOutcome (h .axes) ≡ done tt
   pub counts-ok : countsOutcome (h .axes) (countOf h) ≡ done tt
+  pub steps-ok : stepNumbersOutcome (h .axes) (stepOf h) ≡ done tt
   pub counted : length samples ≡ nodesOf h
   pub limited : limitOutcome 5 sampleLimit samples ≡ done tt

@@ -1,5 +1,6 @@
 // The table file: reading it into a slice of samples, and writing it into a slice of bytes.
 ghost use mathlib.Core.Path.{_≡_};
+ghost use mathlib.Core.List.{[]};
 ghost use Prim.Native.Nat.{_+_, _*_, _≤_, _<_};
 ghost use lib.ListN.{length, getD};
 ghost use lib.Seq.{sets};
@@ -12,10 +13,11 @@ ghost use Rattle.table_file.specs.File.{header, sectionOne, sectionTwo, 
 ghost use Rattle.table_file.specs.Answers.{outcomeOfTable, outcomeOfWrite};
 ghost use Rattle.table_file.specs.Parser.{samplesFrom, shapeIn, restOutcome, AfterOne};
 use lattice::Check;
+use lattice::FullShape;
 use lattice::Refusal;
 use lattice::Shape;
 
-// What reading gives: n, three node counts and the edition, or a refusal.
+// What reading gives: n, three node counts and the edition, or a refusal. The step numbers are 256 on a used axis, 1 on an unused one.
 pub enum TableAnswer {
     Table {
         axes: u32,
@@ -334,8 +336,8 @@ fn put_three(bytes: &mut [u8], start: usize, second: bool)
 // Puts the file of a table at the front of `bytes`, and gives its length.
 fn put_file(axes: u32, counts: [u32; 3], second: bool, samples: &[i32], bytes: &mut [u8]) -> usize
     requires { ⌜ (axes ≤ 3) × (length (now samples) ≤ 262144) × (4 * (2 + axes + length (now samples) + length (sectionThree second)) ≤ length (now bytes)) ⌝ }
-    ensures { λ r. ⌜ r ≡ length (fileOf (header axes counts second) (now (samples .entry))) ⌝ }
-    ensures { λ _. ⌜ now (bytes .exit) ≡ overwrite (fileOf (header axes counts second) (now (samples .entry))) (now (bytes .entry)) ⌝ }
+    ensures { λ r. ⌜ r ≡ length (fileOf (header axes counts [] second) (now (samples .entry))) ⌝ }
+    ensures { λ _. ⌜ now (bytes .exit) ≡ overwrite (fileOf (header axes counts [] second) (now (samples .entry))) (now (bytes .entry)) ⌝ }
 {
     let n = axes as usize;
     let start = 2 + n + samples.len();
@@ -345,13 +347,24 @@ fn put_file(axes: u32, counts: [u32; 3], second: bool, samples: &[i32], bytes: &
     4 * (start + three_numbers(second))
 }
 
-// 1, 3, 4, 9, 5. No sample is read before the lengths are right.
-fn check_write(axes: u32, counts: [u32; 3], second: bool, samples: &[i32], room: usize) -> Check
-    ensures { λ r. ⌜ outcomeOf r ≡ writeCheck (header axes counts second) (now (samples .entry)) room ⌝ }
+// 1, 3, 26, 4, 9, 5. No sample is read before the lengths are right.
+fn check_write(
+    axes: u32,
+    counts: [u32; 3],
+    steps: [u32; 3],
+    second: bool,
+    samples: &[i32],
+    room: usize,
+) -> Check
+    ensures { λ r. ⌜ outcomeOf r ≡ writeCheck (header axes counts steps second) (now (samples .entry)) room ⌝ }
 {
     // Both degrees have the same nodes.
     let s = lattice::shape_of(axes, 3, counts);
-    let shape = lattice::check_shape(s);
+    let shape = lattice::check_full(FullShape {
+        shape: s,
+        steps: steps,
+        second_edition: second,
+    });
     if let Check::Refused(_) = shape {
         return shape;
     }
@@ -373,14 +386,15 @@ fn check_write(axes: u32, counts: [u32; 3], second: bool, samples: &[i32], room:
 pub fn write(
     axes: u32,
     counts: [u32; 3],
+    steps: [u32; 3],
     second: bool,
     samples: &[i32],
     bytes: &mut [u8],
 ) -> WriteAnswer
-    ensures { λ r. ⌜ outcomeOfWrite r ≡ writeOutcome (header axes counts second) (now (samples .entry)) (length (now (bytes .entry))) ⌝ }
-    ensures { λ _. ⌜ now (bytes .exit) ≡ whenDone (writeOutcome (header axes counts second) (now (samples .entry)) (length (now (bytes .entry)))) (overwrite (fileOf (header axes counts second) (now (samples .entry))) (now (bytes .entry))) (now (bytes .entry)) ⌝ }
+    ensures { λ r. ⌜ outcomeOfWrite r ≡ writeOutcome (header axes counts steps second) (now (samples .entry)) (length (now (bytes .entry))) ⌝ }
+    ensures { λ _. ⌜ now (bytes .exit) ≡ whenDone (writeOutcome (header axes counts steps second) (now (samples .entry)) (length (now (bytes .entry)))) (overwrite (fileOf (header axes counts steps second) (now (samples .entry))) (now (bytes .entry))) (now (bytes .entry)) ⌝ }
 {
-    let allowed = check_write(axes, counts, second, samples, bytes.len());
+    let allowed = check_write(axes, counts, steps, second, samples, bytes.len());
     if let Check::Refused(r) = allowed {
         return WriteAnswer::Refused(r);
     }

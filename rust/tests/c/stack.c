@@ -18,7 +18,7 @@ static void (*call)(void);
 static lukhtari_shape shape;
 static lukhtari_position position;
 static lukhtari_float_position float_position;
-static lukhtari_index cell, u, counts;
+static lukhtari_index cell, u, counts, steps;
 static uint32_t slope_axis;
 static int32_t samples[NODES], records[NODES * LUKHTARI_RECORD_ENTRIES_MAX];
 static int32_t coefficients[LUKHTARI_COEFFICIENTS_MAX], corners[LUKHTARI_COEFFICIENTS_MAX];
@@ -79,7 +79,8 @@ static void slope_float(void) {
 
 static void write_file(void) {
     bool edition = shape.second_edition;
-    number = lukhtari_write(shape.axes, counts, edition, samples, nodes, file, sizeof file).number;
+    number = lukhtari_write(shape.axes, counts, steps, edition, samples, nodes, file, sizeof file)
+                 .number;
 }
 
 static void read_file(void) { number = lukhtari_read(file, bytes, samples, NODES).number; }
@@ -173,12 +174,16 @@ static void type(const char *last) {
     letters += (size_t)sprintf(&text[letters], "%s", last);
 }
 
-/* Sets everything for a table. */
-static void prepare(uint32_t axes, uint32_t degree, bool second_edition) {
-    lukhtari_shape wanted = {
-        axes, degree, {X, axes > 1 ? 3 : 1, axes > 2 ? 3 : 1}, second_edition};
+/* Sets everything for a table of so many steps on each axis. */
+static void prepare(uint32_t axes, uint32_t degree, uint32_t fine, bool second_edition) {
+    lukhtari_shape wanted = {axes,
+                             degree,
+                             {X, axes > 1 ? 3 : 1, axes > 2 ? 3 : 1},
+                             {fine, axes > 1 ? fine : 1, axes > 2 ? fine : 1},
+                             second_edition};
     shape = wanted;
     memcpy(counts.at, shape.counts, sizeof counts.at);
+    memcpy(steps.at, shape.steps, sizeof steps.at);
     nodes = LUKHTARI_NODES(shape.counts[0], shape.counts[1], shape.counts[2]);
     entries = LUKHTARI_ENTRIES(axes, degree, nodes);
     cell_numbers = LUKHTARI_COEFFICIENTS(axes, degree);
@@ -188,13 +193,13 @@ static void prepare(uint32_t axes, uint32_t degree, bool second_edition) {
     }
     type("-1.50");
     for (uint32_t axis = 0; axis < axes; axis++) {
-        position.at[axis] = 77;
-        u.at[axis] = 77;
+        position.at[axis] = (int32_t)(77 * fine / LUKHTARI_STEPS_MAX);
+        u.at[axis] = 77 * fine / LUKHTARI_STEPS_MAX;
     }
     /* From the first cell to the second along all axes. */
     for (int32_t i = 0; i < LUKHTARI_RAMP_MAX; i++) {
         for (uint32_t axis = 0; axis < axes; axis++) {
-            positions[3 * i + (int32_t)axis] = 2 * i;
+            positions[3 * i + (int32_t)axis] = 2 * i * (int32_t)fine / LUKHTARI_STEPS_MAX;
         }
     }
     float_position.x = 0.3f;
@@ -216,9 +221,9 @@ static uint32_t due(int which, uint32_t otherwise) {
 }
 
 /* Every call on a table: with its full result, then refused for a number that it reads. */
-static int measure_table(uint32_t axes, uint32_t degree, bool second_edition) {
+static int measure_table(uint32_t axes, uint32_t degree, uint32_t fine, bool second_edition) {
     int right = 1;
-    prepare(axes, degree, second_edition);
+    prepare(axes, degree, fine, second_edition);
     for (int which = 0; which < CALLS; which++) {
         for (slope_axis = 0; slope_axis < axes; slope_axis++) {
             right &= measure(which, due(which, LUKHTARI_NOT_REFUSED));
@@ -254,8 +259,10 @@ int main(void) {
     int right = 1;
     for (uint32_t axes = 1; axes <= 3; axes++) {
         for (uint32_t degree = 3; degree <= 5; degree += 2) {
-            right &= measure_table(axes, degree, false);
-            right &= measure_table(axes, degree, true);
+            for (uint32_t fine = LUKHTARI_STEPS_MIN; fine <= LUKHTARI_STEPS_MAX; fine *= 2) {
+                right &= measure_table(axes, degree, fine, false);
+                right &= measure_table(axes, degree, fine, true);
+            }
         }
     }
     for (int which = 0; which < CALLS; which++) {

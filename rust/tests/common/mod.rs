@@ -5,6 +5,7 @@
 use crate::model;
 use lukhtari::Shape;
 use model::query::Where;
+use model::shape::STEP_NUMBERS;
 use model::Want;
 use std::env;
 use std::fmt::Debug;
@@ -78,7 +79,7 @@ impl Random {
         (0..shape.entries()).map(entry).collect()
     }
 
-    // A shape of any edition with at most so many nodes on an axis.
+    // A shape of any edition with at most so many nodes on an axis, of 256 steps each.
     pub fn shape(&mut self, axes: u32, degree: u32, most: i64) -> Shape {
         let counts = [0, 1, 2].map(|axis| match axis < axes {
             true => self.range(2, most) as u32,
@@ -86,16 +87,29 @@ impl Random {
         });
         in_edition(shape(axes, degree, counts), self.chance(2))
     }
+
+    // Such a shape with any step number on each used axis.
+    pub fn stepped(&mut self, axes: u32, degree: u32, most: i64) -> Shape {
+        let shape = self.shape(axes, degree, most);
+        self.any_steps(shape)
+    }
+
+    // The shape with any step number on each used axis.
+    pub fn any_steps(&mut self, shape: Shape) -> Shape {
+        in_steps(shape, [0; 3].map(|_| self.pick(&STEP_NUMBERS)))
+    }
 }
 
-// A shape of edition one.
+// A shape of edition one with 256 steps on each used axis.
 pub fn shape(axes: u32, degree: u32, counts: [u32; 3]) -> Shape {
-    Shape {
-        axes,
-        degree,
-        counts,
-        second_edition: false,
-    }
+    Shape::new(axes, degree, counts)
+}
+
+// The shape with these step numbers on its used axes, 1 on the others.
+pub fn in_steps(shape: Shape, numbers: [u32; 3]) -> Shape {
+    let used = |axis: usize| axis < shape.axes as usize;
+    let steps = [0, 1, 2].map(|axis| if used(axis) { numbers[axis] } else { 1 });
+    Shape { steps, ..shape }
 }
 
 pub fn in_edition(shape: Shape, second_edition: bool) -> Shape {
@@ -175,7 +189,9 @@ pub fn wants(shape: Shape) -> Vec<Want> {
 
 // The model's shape.
 pub fn plain_shape(shape: Shape) -> model::Shape {
-    model::Shape::new(shape.axes, shape.degree, shape.counts).in_edition(shape.second_edition)
+    model::Shape::new(shape.axes, shape.degree, shape.counts)
+        .in_steps(shape.steps)
+        .in_edition(shape.second_edition)
 }
 
 // The library's answer with the model's refusal.
@@ -319,7 +335,7 @@ pub fn check_wrong_shapes<C: Clone>(
     }
 }
 
-// The faults of a shape in order: 1, 2, 3 on each axis.
+// The faults of a shape in order: 1, 2, 3 on each axis, 26 on each axis.
 pub fn shape_faults<C: 'static>(shape_of: fn(&mut C) -> &mut Shape, axes: u32) -> Vec<Fault<C>> {
     let mut faults = vec![
         fault(1, 0, move |call| shape_of(call).axes = 4),
@@ -329,6 +345,11 @@ pub fn shape_faults<C: 'static>(shape_of: fn(&mut C) -> &mut Shape, axes: u32) -
         let wrong = if axis < axes as usize { 65 } else { 2 };
         let make = move |call: &mut C| shape_of(call).counts[axis] = wrong;
         faults.push(fault(3, axis as u64, make));
+    }
+    for axis in 0..3 {
+        let wrong = if axis < axes as usize { 1 } else { 256 };
+        let make = move |call: &mut C| shape_of(call).steps[axis] = wrong;
+        faults.push(fault(26, axis as u64, make));
     }
     faults
 }
@@ -355,6 +376,23 @@ pub fn wrong_shapes(axes: u32, degree: u32) -> Vec<(Shape, u32, u64)> {
             shape.counts[axis] = count;
             wrong.push((shape, 3, axis as u64));
         }
+        for steps in wrong_steps(used) {
+            let mut shape = right;
+            shape.steps[axis] = steps;
+            wrong.push((shape, 26, axis as u64));
+        }
+    }
+    wrong
+}
+
+// Numbers that are no step numbers of a used axis, or of an unused one.
+pub fn wrong_steps(used: bool) -> Vec<u32> {
+    let far = [0, 2, 15, 17, 48, 255, 257, 512, 1 << 24, (1 << 24) + 1];
+    let mut wrong = far.to_vec();
+    wrong.extend([(1 << 31) + 16, u32::MAX - 255, u32::MAX]);
+    match used {
+        true => wrong.extend([1, 4, 8, 31, 33, 63, 65, 127, 129, 65_536 + 256]),
+        false => wrong.extend(STEP_NUMBERS),
     }
     wrong
 }

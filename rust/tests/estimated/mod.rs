@@ -40,12 +40,13 @@ impl Estimated {
 pub fn cells_at(shape: Shape, point: [u32; 3]) -> Vec<([u32; 3], [u32; 3])> {
     let holds = |cell: &[u32; 3]| {
         (0..shape.axes as usize).all(|axis| {
-            let low = 256 * cell[axis];
-            (low..=low + 256).contains(&point[axis])
+            let low = shape.steps[axis] * cell[axis];
+            (low..=low + shape.steps[axis]).contains(&point[axis])
         })
     };
     let cells = cells(shape).into_iter().filter(holds);
-    let with_u = |cell: [u32; 3]| (cell, [0, 1, 2].map(|axis| point[axis] - 256 * cell[axis]));
+    let step = |cell: [u32; 3], axis: usize| point[axis] - shape.steps[axis] * cell[axis];
+    let with_u = |cell: [u32; 3]| (cell, [0, 1, 2].map(|axis| step(cell, axis)));
     cells.map(with_u).collect()
 }
 
@@ -53,8 +54,9 @@ pub fn cells_at(shape: Shape, point: [u32; 3]) -> Vec<([u32; 3], [u32; 3])> {
 pub fn shared_point(random: &mut Random, shape: Shape) -> [u32; 3] {
     let mut step = |axis: usize| {
         let cells = shape.counts[axis] as i64 - 1;
-        let node = 256 * random.range(0, cells);
-        let inside = random.range(0, 256 * cells);
+        let steps = shape.steps[axis] as i64;
+        let node = steps * random.range(0, cells);
+        let inside = random.range(0, steps * cells);
         random.pick(&[node, inside]) as u32
     };
     [0, 1, 2].map(&mut step)

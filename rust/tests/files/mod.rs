@@ -4,7 +4,7 @@
 
 use crate::common::{outcome, plain, shape, Lent, Random};
 use crate::model;
-use lukhtari::{read, write};
+use lukhtari::{read, write, Shape};
 use model::file::Table;
 use model::Answer;
 
@@ -18,6 +18,7 @@ pub struct Read {
 pub struct Write {
     pub axes: u32,
     pub counts: [u32; 3],
+    pub steps: [u32; 3],
     pub second_edition: bool,
     pub samples: Vec<i32>,
     pub room: usize,
@@ -28,9 +29,13 @@ pub fn run_read_table(call: &Read) -> Answer<Table> {
     let mut buffer = Lent::new(call.room);
     let got = plain(read(&call.bytes, buffer.slice()));
     let expected = model::file::read(&call.bytes, call.room);
-    let told = |table: &Table| (table.axes, table.counts, table.second_edition);
+    let told = |table: &Table| lukhtari::Table {
+        axes: table.axes,
+        counts: table.counts,
+        steps: table.steps,
+        second_edition: table.second_edition,
+    };
     let told = expected.as_ref().map(told).map_err(|refusal| *refusal);
-    let got = got.map(|table| (table.axes, table.counts, table.second_edition));
     assert_eq!(got, told, "{:?}", call.bytes);
     let samples = expected.as_ref().map(|table| &table.samples[..]);
     buffer.check(samples.unwrap_or_default());
@@ -44,10 +49,15 @@ pub fn run_read(call: &Read) -> Answer<()> {
 // Makes the call, compares answer and buffer with the model's, and returns the bytes.
 pub fn run_write_bytes(call: &Write) -> Answer<Vec<u8>> {
     let mut buffer = Lent::new(call.room);
-    let Write { axes, counts, .. } = *call;
+    let Write {
+        axes,
+        counts,
+        steps,
+        ..
+    } = *call;
     let (edition, samples) = (call.second_edition, &call.samples);
-    let got = plain(write(axes, counts, edition, samples, buffer.slice()));
-    let expected = model::file::write(axes, counts, edition, samples, call.room);
+    let got = plain(write(axes, counts, steps, edition, samples, buffer.slice()));
+    let expected = model::file::write(axes, counts, steps, edition, samples, call.room);
     let length = expected.as_ref().map(|bytes| bytes.len());
     assert_eq!(got, length.map_err(|refusal| *refusal), "{call:?}");
     buffer.check(expected.as_deref().unwrap_or_default());
@@ -62,15 +72,16 @@ pub fn words(numbers: &[u32]) -> Vec<u8> {
     numbers.iter().flat_map(|n| n.to_le_bytes()).collect()
 }
 
-// A table of an edition with all buffers right for writing.
+// A table of an edition and any step numbers with all buffers right for writing.
 pub fn table(random: &mut Random, axes: u32, most: i64, second_edition: bool) -> Write {
-    let counts = random.shape(axes, 3, most).counts;
+    let Shape { counts, steps, .. } = random.stepped(axes, 3, most);
     let samples = random.samples(shape(axes, 3, counts).nodes());
     let section = if second_edition { 2 } else { 0 };
     let room = 4 * (2 + axes as usize + samples.len() + section);
     Write {
         axes,
         counts,
+        steps,
         second_edition,
         samples,
         room,

@@ -4,7 +4,7 @@ use super::block::*;
 use super::rational::Rational;
 use super::shape::*;
 
-// The coefficients call: 1, 2, 3, 4, 9, 14, 5, else the cell's coefficients, x fastest.
+// The coefficients call: 1, 2, 3, 26, 4, 9, 14, 5, else the cell's coefficients, x fastest.
 pub fn coefficients(
     shape: &Shape,
     records: &[i32],

@@ -2,7 +2,7 @@
 
 use super::shape::*;
 
-// The estimation call: 1, 2, 3, 4, 9, 19, else all records.
+// The estimation call: 1, 2, 3, 26, 4, 9, 19, else all records.
 pub fn estimate(shape: &Shape, samples: &[i32], room: usize) -> Answer<Vec<i32>> {
     check_shape(shape)?;
     check_length(samples.len(), shape.nodes())?;

@@ -6,6 +6,7 @@ use super::shape::*;
 pub struct Table {
     pub axes: u32,
     pub counts: [u32; 3],
+    pub steps: [u32; 3],
     pub second_edition: bool,
     pub samples: Vec<i32>,
 }
@@ -31,7 +32,7 @@ impl Reader<'_> {
 const SECTION: [u32; 2] = [1, 2];
 
 // The reading call: in byte order 6, 1, 3, 8, 6, then 6 and 25 of the third section, 7; then 9, 5,
-// else the table.
+// else the table, with the step number 256 on each used axis.
 pub fn read(bytes: &[u8], room: usize) -> Answer<Table> {
     let mut reader = Reader { bytes, at: 0 };
     let axes = reader.number()?;
@@ -59,21 +60,24 @@ pub fn read(bytes: &[u8], room: usize) -> Answer<Table> {
     Ok(Table {
         axes,
         counts,
+        steps: finest_steps(axes),
         second_edition,
         samples,
     })
 }
 
-// The writing call: 1, 3, 4, 9, 5, else the file's bytes.
+// The writing call: 1, 3, 26, 4, 9, 5, else the file's bytes, which hold no step numbers.
 pub fn write(
     axes: u32,
     counts: [u32; 3],
+    steps: [u32; 3],
     second_edition: bool,
     samples: &[i32],
     room: usize,
 ) -> Answer<Vec<u8>> {
     check_axes(axes)?;
     check_counts(axes, counts)?;
+    check_steps(axes, steps)?;
     let nodes: u32 = counts.iter().product();
     check_length(samples.len(), nodes as usize)?;
     let mut numbers = vec![axes];

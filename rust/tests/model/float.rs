@@ -2,7 +2,6 @@
 
 use super::int::Int;
 use super::rational::Rational;
-use super::stages::STEPS;
 
 // The exact value of a float, none for NaN and infinities.
 pub fn exact_value(float: f32) -> Option<Rational> {
@@ -30,8 +29,8 @@ fn power_of_two(power: i32) -> Rational {
     }
 }
 
-// The whole number nearest to 256 times the float, halves up; none for NaN and infinities.
-pub fn float_step(float: f32) -> Option<Int> {
+// The whole number nearest to so many times the float, halves up; none for NaN and infinities.
+pub fn float_step(float: f32, steps: i64) -> Option<Int> {
     let value = exact_value(float)?;
-    Some((value * Rational::whole(STEPS)).round())
+    Some((value * Rational::whole(steps)).round())
 }

@@ -8,7 +8,7 @@ use super::shape::*;
 // Numbers of an export.
 pub const COUNT: usize = 16;
 
-// The call: 1, 2, 3, 24, 4, 9, 14, 5, else each coefficient times 4, power i of x and j of y at
+// The call: 1, 2, 3, 26, 24, 4, 9, 14, 5, else each coefficient times 4, power i of x and j of y at
 // number i + 4j.
 pub fn powers(shape: &Shape, records: &[i32], cell: [u32; 3], room: usize) -> Answer<Vec<i32>> {
     check_shape(shape)?;

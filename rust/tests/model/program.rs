@@ -27,7 +27,7 @@ fn cell_lines(input: &[u8]) -> Answer<String> {
         true => table.counts[axis] as usize - 1,
         false => 1,
     });
-    let u = [0, 1, 2].map(|axis| if used(axis) { 128 } else { 0 });
+    let u = [0, 1, 2].map(|axis| if used(axis) { table.steps[axis] / 2 } else { 0 });
     let (cubic, quintic) = (Estimated::new(&table, 3)?, Estimated::new(&table, 5)?);
     let mut text = String::new();
     for [x, y, z] in indices(cells) {
@@ -46,7 +46,9 @@ struct Estimated {
 
 impl Estimated {
     fn new(table: &Table, degree: u32) -> Answer<Estimated> {
-        let shape = Shape::new(table.axes, degree, table.counts).in_edition(table.second_edition);
+        let shape = Shape::new(table.axes, degree, table.counts)
+            .in_steps(table.steps)
+            .in_edition(table.second_edition);
         let records = estimate(&shape, &table.samples, shape.entries())?;
         Ok(Estimated { shape, records })
     }

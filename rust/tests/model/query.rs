@@ -4,7 +4,7 @@ use super::coefficients::{check_cell, check_corners};
 use super::float::float_step;
 use super::int::Int;
 use super::shape::*;
-use super::stages::{marked, staged, Point, Want, STEPS};
+use super::stages::{marked, staged, Point, Want};
 
 // How a query names its point.
 #[derive(Clone, Copy, Debug)]
@@ -14,7 +14,7 @@ pub enum Where {
     Float([f32; 3]),
 }
 
-// A dose, slope or curvature: 1, 2, 3, 4, 12, 21, the point's refusals, 5.
+// A dose, slope or curvature: 1, 2, 3, 26, 4, 12, 21, the point's refusals, 5.
 pub fn query(shape: &Shape, records: &[i32], at: Where, want: Want) -> Answer<i32> {
     let point = checked_point(shape, records, at, want)?;
     Ok(staged(shape, records, &point) as i32)
@@ -60,15 +60,29 @@ pub fn locate(shape: &Shape, at: Where) -> Answer<([u32; 3], [u32; 3])> {
             locate_steps(shape, step)
         }
         Where::Float(position) => {
-            let step = |axis: usize| float_step(position[axis]).ok_or(refusal(10, axis));
+            let step = |axis: usize| {
+                let step = float_step(position[axis], float_steps(shape, axis));
+                step.ok_or(refusal(10, axis))
+            };
             locate_steps(shape, step)
         }
         Where::Cell(cell, u) => {
             check_cell(shape, cell)?;
             let step = |axis: usize| Int::from(u[axis] as i64);
-            (0..3).try_for_each(|axis| check_step(shape, axis, step(axis), STEPS))?;
+            (0..3).try_for_each(|axis| {
+                let last = shape.steps_on(axis);
+                check_step(shape, axis, step(axis), last)
+            })?;
             Ok((cell, u))
         }
+    }
+}
+
+// The steps of a cell that a float is taken to: on an unused axis 256.
+fn float_steps(shape: &Shape, axis: usize) -> i64 {
+    match axis < shape.used() {
+        true => shape.steps_on(axis),
+        false => 256,
     }
 }
 
@@ -89,9 +103,10 @@ fn locate_steps(
         check_step(shape, axis, step, last_step(shape, axis))?;
         if axis < shape.used() {
             let step = step.to_i64().expect("within the table");
-            let index = (step / STEPS).min(shape.counts[axis] as i64 - 2);
+            let steps = shape.steps_on(axis);
+            let index = (step / steps).min(shape.counts[axis] as i64 - 2);
             cell[axis] = index as u32;
-            u[axis] = (step - STEPS * index) as u32;
+            u[axis] = (step - steps * index) as u32;
         }
     }
     Ok((cell, u))
@@ -100,7 +115,7 @@ fn locate_steps(
 // Table position of the last node, 0 on an unused axis.
 pub fn last_step(shape: &Shape, axis: usize) -> i64 {
     if axis < shape.used() {
-        STEPS * (shape.counts[axis] as i64 - 1)
+        shape.steps_on(axis) * (shape.counts[axis] as i64 - 1)
     } else {
         0
     }

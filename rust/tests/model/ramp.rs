@@ -14,7 +14,7 @@ pub struct Ramped {
     pub fetches: u64,
 }
 
-// The ramp: 1, 2, 3, 20, 4, 9, then the number of the first refused position, with its index.
+// The ramp: 1, 2, 3, 26, 20, 4, 9, then the number of the first refused position, with its index.
 pub fn ramp(shape: &Shape, records: &[i32], positions: &[i32], room: usize) -> Answer<Ramped> {
     check_shape(shape)?;
     let list = positions.chunks_exact(3);

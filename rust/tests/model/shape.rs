@@ -8,6 +8,7 @@ pub struct Shape {
     pub axes: u32,
     pub degree: u32,
     pub counts: [u32; 3],
+    pub steps: [u32; 3],
     pub second_edition: bool,
 }
 
@@ -26,12 +27,13 @@ pub fn refuse_unless(test: bool, number: u32, place: usize) -> Answer<()> {
 }
 
 impl Shape {
-    // A shape of edition one.
+    // A shape of edition one with 256 steps on each used axis.
     pub fn new(axes: u32, degree: u32, counts: [u32; 3]) -> Shape {
         Shape {
             axes,
             degree,
             counts,
+            steps: finest_steps(axes),
             second_edition: false,
         }
     }
@@ -42,6 +44,16 @@ impl Shape {
             second_edition,
             ..self
         }
+    }
+
+    // The same shape with other step numbers.
+    pub fn in_steps(self, steps: [u32; 3]) -> Shape {
+        Shape { steps, ..self }
+    }
+
+    // The step number of an axis.
+    pub fn steps_on(&self, axis: usize) -> i64 {
+        self.steps[axis] as i64
     }
 
     pub fn used(&self) -> usize {
@@ -150,11 +162,31 @@ pub fn check_counts(axes: u32, counts: [u32; 3]) -> Answer<()> {
     (0..3).try_for_each(|axis| check_count(axes, axis, counts[axis]))
 }
 
-// 1, 2, 3
+// The step numbers that a used axis may have.
+pub const STEP_NUMBERS: [u32; 5] = [16, 32, 64, 128, 256];
+
+// 256 on each used axis, 1 on unused ones: what reading a file gives.
+pub fn finest_steps(axes: u32) -> [u32; 3] {
+    [0, 1, 2].map(|axis| if axis < axes { 256 } else { 1 })
+}
+
+// 26
+pub fn check_steps(axes: u32, steps: [u32; 3]) -> Answer<()> {
+    (0..3).try_for_each(|axis| {
+        let allowed: &[u32] = match axis < axes as usize {
+            true => &STEP_NUMBERS,
+            false => &[1],
+        };
+        refuse_unless(allowed.contains(&steps[axis]), 26, axis)
+    })
+}
+
+// 1, 2, 3, 26
 pub fn check_shape(shape: &Shape) -> Answer<()> {
     check_axes(shape.axes)?;
     check_degree(shape.degree)?;
-    check_counts(shape.axes, shape.counts)
+    check_counts(shape.axes, shape.counts)?;
+    check_steps(shape.axes, shape.steps)
 }
 
 // 4

@@ -6,9 +6,6 @@ use super::int::Int;
 use super::rational::Rational;
 use super::shape::{indices, Shape};
 
-// Steps of a cell along an axis.
-pub const STEPS: i64 = 256;
-
 // What is asked for: a dose, or its first or second derivative along an axis.
 #[derive(Clone, Copy, Debug, PartialEq, Eq)]
 pub enum Want {
@@ -44,68 +41,79 @@ pub struct Point {
     pub want: Want,
 }
 
-// Weight i is (256-u)^(d-i) u^i.
-pub fn weights(degree: u32, u: u32) -> Vec<Int> {
-    let weight = |i| rest(u).power(degree - i) * step(u).power(i);
+// A step of a cell along an axis of n steps: u, and n - u, which is left of it.
+#[derive(Clone, Copy, Debug)]
+pub struct Step {
+    u: Int,
+    rest: Int,
+    n: Int,
+}
+
+impl Step {
+    pub fn of(n: i64, u: u32) -> Step {
+        let [n, u] = [n, u as i64].map(Int::from);
+        Step { u, rest: n - u, n }
+    }
+}
+
+// Weight i is (n-u)^(d-i) u^i.
+pub fn weights(degree: u32, step: Step) -> Vec<Int> {
+    let Step { u, rest, .. } = step;
+    let weight = |i| rest.power(degree - i) * u.power(i);
     (0..=degree).map(weight).collect()
 }
 
-// Derivative i is i (256-u)^(d-i) u^(i-1) - (d-i) (256-u)^(d-i-1) u^i.
-pub fn slope_weights(degree: u32, u: u32) -> Vec<Int> {
+// Derivative i is i (n-u)^(d-i) u^(i-1) - (d-i) (n-u)^(d-i-1) u^i.
+pub fn slope_weights(degree: u32, step: Step) -> Vec<Int> {
+    let Step { u, rest, .. } = step;
     let rising = |i: u32| match i {
         0 => Int::ZERO,
-        _ => Int::from(i as i64) * rest(u).power(degree - i) * step(u).power(i - 1),
+        _ => Int::from(i as i64) * rest.power(degree - i) * u.power(i - 1),
     };
     let falling = |i: u32| match degree - i {
         0 => Int::ZERO,
-        left => Int::from(left as i64) * rest(u).power(left - 1) * step(u).power(i),
+        left => Int::from(left as i64) * rest.power(left - 1) * u.power(i),
     };
     (0..=degree).map(|i| rising(i) - falling(i)).collect()
 }
 
-// Second derivative i is i (i-1) (256-u)^(d-i) u^(i-2) - 2 i (d-i) (256-u)^(d-i-1) u^(i-1)
-// + (d-i) (d-i-1) (256-u)^(d-i-2) u^i.
-pub fn curvature_weights(degree: u32, u: u32) -> Vec<Int> {
+// Second derivative i is i (i-1) (n-u)^(d-i) u^(i-2) - 2 i (d-i) (n-u)^(d-i-1) u^(i-1)
+// + (d-i) (d-i-1) (n-u)^(d-i-2) u^i.
+pub fn curvature_weights(degree: u32, step: Step) -> Vec<Int> {
+    let Step { u, rest, .. } = step;
     let weight = |i: u32| {
         let left = degree - i;
         let mut sum = Int::ZERO;
         if i > 1 {
             let factor = Int::from((i * (i - 1)) as i64);
-            sum = sum + factor * rest(u).power(left) * step(u).power(i - 2);
+            sum = sum + factor * rest.power(left) * u.power(i - 2);
         }
         if i > 0 && left > 0 {
             let factor = Int::from((2 * i * left) as i64);
-            sum = sum - factor * rest(u).power(left - 1) * step(u).power(i - 1);
+            sum = sum - factor * rest.power(left - 1) * u.power(i - 1);
         }
         if left > 1 {
             let factor = Int::from((left * (left - 1)) as i64);
-            sum = sum + factor * rest(u).power(left - 2) * step(u).power(i);
+            sum = sum + factor * rest.power(left - 2) * u.power(i);
         }
         sum
     };
     (0..=degree).map(weight).collect()
 }
 
-fn step(u: u32) -> Int {
-    Int::from(u as i64)
-}
-
-fn rest(u: u32) -> Int {
-    Int::from(STEPS - u as i64)
-}
-
-// Weights of an axis and their divisor: 2 256^d, along a slope's axis 2 256^(d-1), along a
-// curvature's 2 256^(d-2).
+// Weights of an axis of n steps and their divisor: 2 n^d, along a slope's axis 2 n^(d-1), along a
+// curvature's 2 n^(d-2).
 pub fn axis_weights(shape: &Shape, point: &Point, axis: usize) -> (Vec<Int>, Int) {
-    let (degree, u) = (shape.degree, point.u[axis]);
+    let degree = shape.degree;
+    let step = Step::of(shape.steps_on(axis), point.u[axis]);
     let along = point.want.axis() == Some(axis as u32);
     let order = if along { point.want.order() } else { 0 };
     let weights = match order {
-        0 => weights(degree, u),
-        1 => slope_weights(degree, u),
-        _ => curvature_weights(degree, u),
+        0 => weights(degree, step),
+        1 => slope_weights(degree, step),
+        _ => curvature_weights(degree, step),
     };
-    let divisor = Int::from(2) * Int::from(STEPS).power(degree - order);
+    let divisor = Int::from(2) * step.n.power(degree - order);
     (weights, divisor)
 }
 

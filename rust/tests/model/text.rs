@@ -147,7 +147,7 @@ fn refusal(number: u32, place: usize) -> Refusal {
     Refusal { number, place }
 }
 
-// The importing call: 1, 2, 3, 4, 9, then token by token 16, 17, 18, 5, else the samples.
+// The importing call: 1, 2, 3, 26, 4, 9, then token by token 16, 17, 18, 5, else the samples.
 pub fn import(shape: &Shape, text: &[u8], room: usize) -> Answer<Vec<i32>> {
     check_shape(shape)?;
     let tokens = tokens(text);

@@ -42,16 +42,16 @@ pub fn position_kinds(last: i32) -> [Kind<i32>; 8] {
     ]
 }
 
-// In-cell steps: none of them is below 0.
-pub fn step_kinds() -> [Kind<u32>; 8] {
+// In-cell steps of an axis of so many: none of them is below 0.
+pub fn step_kinds(steps: u32) -> [Kind<u32>; 8] {
     [
         (0, 0, 0),
         (1, 0, 23),
-        (256, 0, 23),
-        (257, 11, 23),
+        (steps, 0, 23),
+        (steps + 1, 11, 23),
         (i32::MAX as u32, 11, 23),
         (1 << 31, 11, 23),
-        ((1 << 31) + 256, 11, 23),
+        ((1 << 31) + steps, 11, 23),
         (u32::MAX, 11, 23),
     ]
 }

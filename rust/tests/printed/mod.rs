@@ -49,8 +49,22 @@ pub fn back(axes: u32, degree: u32, numbers: &[i32], room: usize) -> Answer<Vec<
 }
 
 pub fn written(shape: Shape, samples: &[i32], room: usize) -> Answer<usize> {
-    let (axes, counts, edition) = (shape.axes, shape.counts, shape.second_edition);
-    plain(write(axes, counts, edition, samples, &mut vec![0; room]))
+    let Shape {
+        axes,
+        counts,
+        steps,
+        second_edition,
+        ..
+    } = shape;
+    let mut bytes = vec![0; room];
+    plain(write(
+        axes,
+        counts,
+        steps,
+        second_edition,
+        samples,
+        &mut bytes,
+    ))
 }
 
 pub fn read_numbers(numbers: &[u32], spare: usize) -> Answer<()> {

@@ -114,7 +114,8 @@ impl Random {
         let plain = plain_shape(shape);
         let mut step = |axis: usize| {
             let last = last_step(&plain, axis);
-            let node = 256 * self.range(0, last / 256);
+            let steps = plain.steps_on(axis);
+            let node = steps * self.range(0, last / steps);
             let beside = (node + self.pick(&[-1, 1])).clamp(0, last);
             let any = self.range(0, last);
             self.pick(&[node, last, beside, any, any]) as i32

@@ -32,20 +32,20 @@ module _ (c : tie.After-enum-told) where
   abbrev start : tie.Start
   start = c .before .before .before .before .before
 
-  taken : AcceptedTable (start .args .t .shape) (start .args .samples .now) (start .args .records .now)
+  taken : AcceptedTable (start .args .t) (start .args .samples .now) (start .args .records .now)
   taken = sym (c .before .before .before .estimate .ensures .0) ∙ ap outcomeOf (c .enum-told .given .1)
 
 enum-told : tie.Need-enum-told
 enum-told c = search needs
 
 table-entries-requires : tie.Need-table-entries-requires
-table-entries-requires c κs = let a = start c .args in estimated (a .t .shape) (a .samples .now) (length (a .records .now)) (taken c) .shape
+table-entries-requires c κs = let a = start c .args in estimated (a .t) (a .samples .now) (length (a .records .now)) (taken c) .shape
 
 slice-reshare-prefix-ask : tie.Need-slice-reshare-prefix-ask
 slice-reshare-prefix-ask c =
     let a = start (c .before) .args in
     le-trans (le-of-eq (c .table-entries .ensures))
-    (le-trans (lent-room (a .t .shape) (a .samples .now) (a .records .now) (taken (c .before)))
+    (le-trans (lent-room (a .t) (a .samples .now) (a .records .now) (taken (c .before)))
     (le-of-eq (ap length (sym (c .before .before .before .before .estimate .ensures .1)))))
 
 returns : tie.Need-returns

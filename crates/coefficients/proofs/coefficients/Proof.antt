@@ -27,28 +27,29 @@ use Rattle.coefficients.proofs.coefficients.Tie as tie
 
 -- what the slice is overwritten by
 abbrev written : tie.Start → List ℤ
-written s = overwrite (coefficientList (orders (s .args .s)) (s .args .s .axes) (placeAt (s .args .cell))
-    (recordsField (s .args .s) (now (s .args .records)))) (now (s .args .out))
+written s = overwrite (coefficientList (orders (s .args .t .shape)) (s .args .t .shape .axes) (placeAt (s .args .cell))
+    (recordsField (s .args .t .shape) (now (s .args .records)))) (now (s .args .out))
 
 -- not refused before 5
 module _ (c : tie.After-enum-told2) where
   abbrev start : tie.Start
   start = c .before .before .before
 
-  passed : requestOutcome (start .args .s) (length (now (start .args .records))) (placeAt (start .args .cell))
+  passed : requestOutcome (start .args .t) (length (now (start .args .records))) (placeAt (start .args .cell))
       (length (now (start .args .out))) ≡ done tt
   passed = sym (c .before .before .check-request .ensures) ∙ ap outcomeOf (c .enum-told2 .given .1)
 
-  facts : Asked (start .args .s) (length (now (start .args .records))) (placeAt (start .args .cell)) (length (now (start .args .out)))
-  facts = asked (start .args .s) (length (now (start .args .records))) (start .args .cell) (length (now (start .args .out))) passed
+  facts : Asked (start .args .t .shape) (length (now (start .args .records))) (placeAt (start .args .cell))
+      (length (now (start .args .out)))
+  facts = asked (start .args .t) (length (now (start .args .records))) (start .args .cell) (length (now (start .args .out))) passed
 
   tests : Check
-  tests = cornersOutcome (start .args .s) (now (start .args .records)) (placeAt (start .args .cell))
+  tests = cornersOutcome (start .args .t .shape) (now (start .args .records)) (placeAt (start .args .cell))
 
-  outcome : coefficientsOutcome (start .args .s) (now (start .args .records)) (placeAt (start .args .cell))
+  outcome : coefficientsOutcome (start .args .t) (now (start .args .records)) (placeAt (start .args .cell))
       (length (now (start .args .out))) ≡ tests
   unfolding coefficientsOutcome tests
-  outcome = first-passed (requestOutcome (start .args .s) (length (now (start .args .records))) (placeAt (start .args .cell))
+  outcome = first-passed (requestOutcome (start .args .t) (length (now (start .args .records))) (placeAt (start .args .cell))
       (length (now (start .args .out)))) tests passed
 
 -- nor by 5
@@ -60,15 +61,15 @@ module _ (c : tie.After-enum-told4) where
   unfolding tests
   tested = sym (c .before .before .check-corners .ensures) ∙ ap outcomeOf (c .enum-told4 .given .1)
 
-  gathered : Gathered (c .before .before .before .layout-of .result .orders) (start two .args .s .axes)
+  gathered : Gathered (c .before .before .before .layout-of .result .orders) (start two .args .t .shape .axes)
       (c .before .before .before .layout-of .result) (now (start two .args .records))
   unfolding tests
   gathered =
       let f = facts two in
       let a = start two .args in
       let l = c .before .before .before .layout-of in
-      subst (λ (m : ℕ). Gathered m (a .s .axes) (l .result) (now (a .records))) (sym (l .ensures .orders-are))
-      (corners-gathered (a .s) (f .shape) (placeAt (a .cell)) (f .here) (now (a .records)) (f .many) (l .result) (l .ensures) tested)
+      subst (λ (m : ℕ). Gathered m (a .t .shape .axes) (l .result) (now (a .records))) (sym (l .ensures .orders-are))
+      (corners-gathered (a .t .shape) (f .shape) (placeAt (a .cell)) (f .here) (now (a .records)) (f .many) (l .result) (l .ensures) tested)
 
 returns : tie.Need-returns
 unfolding coefficientsOutcome coefficientsWrites
@@ -76,7 +77,7 @@ returns c =
     let w = c .before .before in
     let a = w .before .args in
     let e = ap outcomeOf (c .enum-told .given .1) in
-    let h = refused-first (cornersOutcome (a .s) (now (a .records)) (placeAt (a .cell))) (sym (w .check-request .ensures) ∙ e) in
+    let h = refused-first (cornersOutcome (a .t .shape) (now (a .records)) (placeAt (a .cell))) (sym (w .check-request .ensures) ∙ e) in
     (e ∙ sym h, when-refused (written (w .before)) (now (a .out)) h)
 
 check-corners-requires : tie.Need-check-corners-requires
@@ -95,7 +96,7 @@ returns-2 c =
 orders-are : (c : tie.After-enum-told4)
     → (2 ≤ c .before .before .before .layout-of .result .orders) × (c .before .before .before .layout-of .result .orders ≤ 3)
 orders-are c =
-    let m = orders-range (start (two c) .args .s .degree) in
+    let m = orders-range (start (two c) .args .t .shape .degree) in
     let e = c .before .before .before .layout-of .ensures .orders-are in
     (subst (λ (k : ℕ). 2 ≤ k) (sym e) (m .0), subst (λ (k : ℕ). k ≤ 3) (sym e) (m .1))
 
@@ -129,12 +130,13 @@ returns-3 c =
       c .before .copy-out .ensures
           ∙ ap (λ (k : ℕ). overwrite (tabulate k (at (x .filled .result))) (now (a .out))) (n .coefficient-count .ensures .0)
           ∙ ap (λ (ys : List ℤ). overwrite ys (now (a .out)))
-          (list-is (a .s) (f .shape) (placeAt (a .cell)) (f .here) (now (a .records)) (f .many) (l .result) (l .ensures)
+          (list-is (a .t .shape) (f .shape) (placeAt (a .cell)) (f .here) (now (a .records)) (f .many) (l .result) (l .ensures)
           (x .filled .result)
-          (filled-all (l .result .orders) (a .s .axes) (let m = orders-are t .0 in omega arith) (f .shape .axes-low) (f .shape .axes-high) _
+          (filled-all (l .result .orders) (a .t .shape .axes) (let m = orders-are t .0 in omega arith) (f .shape .axes-low)
+          (f .shape .axes-high) _
           (x .filled .result)
-          (subst (λ (k : ℕ). Filled (l .result .orders) (a .s .axes)
-          (cellCoefficient (l .result .orders) (a .s .axes) (l .result) (now (a .records)))
+          (subst (λ (k : ℕ). Filled (l .result .orders) (a .t .shape .axes)
+          (cellCoefficient (l .result .orders) (a .t .shape .axes) (l .result) (now (a .records)))
           k (x .filled .result)) (x .before .power .ensures) (x .filled .ensures))))
           ∙ when-done (written s) (now (a .out)) h,
     )

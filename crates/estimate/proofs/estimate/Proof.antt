@@ -16,7 +16,7 @@ begun c = c .before .before .before .before .before .before
 fill-records-requires : tie.Need-fill-records-requires
 fill-records-requires c κs =
     let a = c .before .before .before .before .args in
-    estimated (a .s) (a .samples .now) (length (a .records .now))
+    estimated (a .t) (a .samples .now) (length (a .records .now))
     (sym (c .before .before .before .check-estimate .ensures) ∙ ap outcomeOf (c .before .enum-told .given .1))
 
 returns : tie.Need-returns

@@ -25,8 +25,8 @@ module _ (c : tie.After-enum-told2) where
   abbrev start : tie.Start
   start = c .before .before .before
 
-  facts : Asked (start .args .s) (length (now (start .args .records))) (placeAt cell) 216
-  facts = asked (start .args .s) (length (now (start .args .records))) cell 216
+  facts : Asked (start .args .t .shape) (length (now (start .args .records))) (placeAt cell) 216
+  facts = asked (start .args .t) (length (now (start .args .records))) cell 216
       (sym (c .before .before .check-request .ensures) ∙ ap outcomeOf (c .enum-told2 .given .1))
 
 -- nor by 5
@@ -34,7 +34,7 @@ module _ (c : tie.After-enum-told4) where
   abbrev two : tie.After-enum-told2
   two = c .before .before .before .before
 
-  tested : cornersOutcome (start two .args .s) (now (start two .args .records)) (placeAt cell) ≡ done tt
+  tested : cornersOutcome (start two .args .t .shape) (now (start two .args .records)) (placeAt cell) ≡ done tt
   tested = sym (c .before .before .check-corners .ensures) ∙ ap outcomeOf (c .enum-told4 .given .1)
 
   abbrev orders : ℕ
@@ -42,17 +42,18 @@ module _ (c : tie.After-enum-told4) where
 
   orders-are : (2 ≤ orders) × (orders ≤ 3)
   orders-are =
-      let m = orders-range (start two .args .s .degree) in
+      let m = orders-range (start two .args .t .shape .degree) in
       let e = c .before .before .before .layout-of .ensures .orders-are in
       (subst (λ (k : ℕ). 2 ≤ k) (sym e) (m .0), subst (λ (k : ℕ). k ≤ 3) (sym e) (m .1))
 
-  gathered : Gathered orders (start two .args .s .axes) (c .before .before .before .layout-of .result) (now (start two .args .records))
+  gathered : Gathered orders (start two .args .t .shape .axes) (c .before .before .before .layout-of .result)
+      (now (start two .args .records))
   gathered =
       let f = facts two in
       let a = start two .args in
       let l = c .before .before .before .layout-of in
-      subst (λ (m : ℕ). Gathered m (a .s .axes) (l .result) (now (a .records))) (sym (l .ensures .orders-are))
-      (corners-gathered (a .s) (f .shape) (placeAt cell) (f .here) (now (a .records)) (f .many) (l .result) (l .ensures) tested)
+      subst (λ (m : ℕ). Gathered m (a .t .shape .axes) (l .result) (now (a .records))) (sym (l .ensures .orders-are))
+      (corners-gathered (a .t .shape) (f .shape) (placeAt cell) (f .here) (now (a .records)) (f .many) (l .result) (l .ensures) tested)
 
 check-corners-requires : tie.Need-check-corners-requires
 check-corners-requires c κs = let f = facts (c .before) in ((f .shape, f .many), (f .here, c .layout-of .ensures))

@@ -9,10 +9,10 @@ use Rattle.filled_runs.proofs.runs.Statement.{statement}
 use Rattle.filled_runs.proofs.runs.Tie as tie
 
 abbrev Inv-loop : tie.InvT-loop
-Inv-loop s corners size records k₀ k = k ≤ corners + 1
+Inv-loop t corners size records k₀ k = k ≤ corners + 1
 
 abbrev μ-loop : tie.MeasureT-loop
-μ-loop s corners size records k₀ k = corners + 1 - k
+μ-loop t corners size records k₀ k = corners + 1 - k
 
 room : (c : tie.In-loop Inv-loop μ-loop) → c .before .before .before .args .size ≤ length (c .before .before .entries .result)
 room c = let e = c .before .before .entries .ensures in let h = c .before .before .before .pre .1 in omega arith

@@ -5,9 +5,10 @@ use lib.Dec.{leb, eqb}
 use borrow.Author.Needs.{needs}
 use Rattle.lattice.specs.Answers.{outcomeOf}
 use Rattle.lattice.specs.Outcome.{done, refuseUnless}
-use Rattle.lattice.specs.Shape.{shapeOutcome}
+use Rattle.lattice.specs.Shape.{fullOutcome}
 use Rattle.lattice.proofs.OutcomeLaws.{first-passed, refused-first}
 use Rattle.lattice.proofs.ShapeLaws.{shaped}
+use Rattle.lattice.proofs.StepLaws.{full-shape}
 use Rattle.import.proofs.ImportLaws.{import-is, counted, roomy}
 use Rattle.import.proofs.check_import.Statement.{statement}
 use Rattle.import.proofs.check_import.Tie as tie
@@ -15,18 +16,18 @@ use Rattle.import.proofs.check_import.Tie as tie
 abbrev begun : tie.After-refuse-unless → tie.Start
 begun c = c .before .before .before .before .before .before .before
 
-shape-passed : (p : tie.After-enum-told2) → shapeOutcome (p .before .before .before .before .args .s) ≡ done tt
-shape-passed p = sym (p .before .before .check-shape .ensures) ∙ ap outcomeOf (p .enum-told2 .given .1)
+shape-passed : (p : tie.After-enum-told2) → fullOutcome (p .before .before .before .before .args .t) ≡ done tt
+shape-passed p = sym (p .before .before .check-full .ensures) ∙ ap outcomeOf (p .enum-told2 .given .1)
 
 returns : tie.Need-returns
 returns c =
     let d = c .before .before in
     let g = ap outcomeOf (c .enum-told .given .1) in
-    g ∙ sym (import-is _ _ _ ∙ refused-first _ (sym (d .check-shape .ensures) ∙ g))
+    g ∙ sym (import-is _ _ _ ∙ refused-first _ (sym (d .check-full .ensures) ∙ g))
 
 -- the test of 4, and that of 9
 four : (r : tie.After-refuse-unless) → outcomeOf (r .refuse-unless .result)
-    ≡ counted (begun r .args .s)
+    ≡ counted (begun r .args .t .shape)
     (begun r .args .text .now)
 four r =
     let n = r .before .before in
@@ -34,12 +35,12 @@ four r =
     ∙ ap₂ (λ (x y : ℕ). refuseUnless (eqb x y) 4 0) (r .before .count-tokens .ensures) (n .node-count .ensures)
 
 four-passed : (q : tie.After-enum-told4)
-    → counted (begun (q .before .before) .args .s)
+    → counted (begun (q .before .before) .args .t .shape)
     (begun (q .before .before) .args .text .now) ≡ done tt
 four-passed q = sym (four (q .before .before)) ∙ ap outcomeOf (q .enum-told4 .given .1)
 
 nine : (n : tie.After-refuse-unless2) → outcomeOf (n .refuse-unless2 .result)
-    ≡ roomy (begun (n .before .before .before) .args .s)
+    ≡ roomy (begun (n .before .before .before) .args .t .shape)
     (begun (n .before .before .before) .args .room)
 nine n =
     let a = begun (n .before .before .before) .args in
@@ -79,7 +80,7 @@ check-import-spec =
     (λ c. search needs)
     returns
     (λ c. search needs)
-    (λ c κs. shaped _ (shape-passed c))
+    (λ c κs. shaped _ (full-shape _ (shape-passed c)))
     (λ c κs. search needs)
     (λ c κs. search needs)
     (λ c. search needs)

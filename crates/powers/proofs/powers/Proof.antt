@@ -23,27 +23,28 @@ use Rattle.powers.proofs.powers.Tie as tie
 
 -- what the slice is overwritten by
 abbrev written : tie.Start → List ℤ
-written s = overwrite (powerList (placeAt (s .args .cell)) (recordsField (s .args .s) (now (s .args .records)))) (now (s .args .out))
+written s = overwrite (powerList (placeAt (s .args .cell)) (recordsField (s .args .t .shape) (now (s .args .records)))) (now (s .args .out))
 
 -- not refused before 5
 module _ (c : tie.After-enum-told2) where
   abbrev start : tie.Start
   start = c .before .before .before
 
-  passed : requestOutcome (start .args .s) (length (now (start .args .records))) (placeAt (start .args .cell))
+  passed : requestOutcome (start .args .t) (length (now (start .args .records))) (placeAt (start .args .cell))
       (length (now (start .args .out))) ≡ done tt
   passed = sym (c .before .before .check-request .ensures) ∙ ap outcomeOf (c .enum-told2 .given .1)
 
-  facts : Asked (start .args .s) (length (now (start .args .records))) (placeAt (start .args .cell)) (length (now (start .args .out)))
-  facts = asked (start .args .s) (length (now (start .args .records))) (start .args .cell) (length (now (start .args .out))) passed
+  facts : Asked (start .args .t .shape) (length (now (start .args .records))) (placeAt (start .args .cell))
+      (length (now (start .args .out)))
+  facts = asked (start .args .t) (length (now (start .args .records))) (start .args .cell) (length (now (start .args .out))) passed
 
   tests : Check
-  tests = cornersOutcome (start .args .s) (now (start .args .records)) (placeAt (start .args .cell))
+  tests = cornersOutcome (start .args .t .shape) (now (start .args .records)) (placeAt (start .args .cell))
 
-  outcome : powersOutcome (start .args .s) (now (start .args .records)) (placeAt (start .args .cell)) (length (now (start .args .out)))
+  outcome : powersOutcome (start .args .t) (now (start .args .records)) (placeAt (start .args .cell)) (length (now (start .args .out)))
       ≡ tests
   unfolding powersOutcome tests
-  outcome = first-passed (requestOutcome (start .args .s) (length (now (start .args .records))) (placeAt (start .args .cell))
+  outcome = first-passed (requestOutcome (start .args .t) (length (now (start .args .records))) (placeAt (start .args .cell))
       (length (now (start .args .out)))) tests passed
 
 -- nor by 5
@@ -60,7 +61,7 @@ module _ (c : tie.After-enum-told4) where
   gathered =
       let a = start two .args in
       let l = c .before .before .before .layout-of in
-      pair-gathered (a .s) (placeAt (a .cell)) (length (now (a .out))) (now (a .records)) (facts two) (l .result) (l .ensures) tested
+      pair-gathered (a .t .shape) (placeAt (a .cell)) (length (now (a .out))) (now (a .records)) (facts two) (l .result) (l .ensures) tested
 
 returns : tie.Need-returns
 unfolding powersOutcome powersWrites
@@ -68,7 +69,7 @@ returns c =
     let w = c .before .before in
     let a = w .before .args in
     let e = ap outcomeOf (c .enum-told .given .1) in
-    let h = refused-first (cornersOutcome (a .s) (now (a .records)) (placeAt (a .cell))) (sym (w .check-request .ensures) ∙ e) in
+    let h = refused-first (cornersOutcome (a .t .shape) (now (a .records)) (placeAt (a .cell))) (sym (w .check-request .ensures) ∙ e) in
     (e ∙ sym h, when-refused (written (w .before)) (now (a .out)) h)
 
 check-corners-requires : tie.Need-check-corners-requires
@@ -110,7 +111,7 @@ returns-3 c =
       c .before .by-rows .ensures
           ∙ ap (λ (ms : List ℤ). overwrite (tabulate 16 (rowSum ms (x .columns .result))) (now (a .out))) (m .matrix .ensures)
           ∙ ap (λ (ys : List ℤ). overwrite ys (now (a .out)))
-          (list-is (a .s) (placeAt (a .cell)) (length (now (a .out))) (now (a .records)) (facts (two t)) (l .result) (l .ensures)
+          (list-is (a .t .shape) (placeAt (a .cell)) (length (now (a .out))) (now (a .records)) (facts (two t)) (l .result) (l .ensures)
           (x .columns .result) (x .columns .ensures))
           ∙ when-done (written s) (now (a .out)) h,
     )

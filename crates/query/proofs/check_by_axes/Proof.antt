@@ -2,7 +2,7 @@
 use mathlib.Core.Path.{sym, _∙_}
 use native.Mathlib.Omega.{arith}
 use borrow.Author.Needs.{needs}
-use Rattle.lattice.specs.Shape.{shapeOutcome}
+use Rattle.lattice.specs.Shape.{shapeOutcome, fullOutcome}
 use Rattle.lattice.proofs.OutcomeLaws.{refused-first}
 use Rattle.lattice.proofs.ShapeLaws.{no-axes}
 use Rattle.query.specs.Queries.{askedOutcome, testedOutcome}
@@ -10,13 +10,14 @@ use Rattle.query.proofs.check_by_axes.Statement.{statement}
 use Rattle.query.proofs.check_by_axes.Tie as tie
 
 returns-4 : tie.Need-returns-4
-unfolding askedOutcome testedOutcome shapeOutcome
+unfolding askedOutcome testedOutcome fullOutcome shapeOutcome
 returns-4 c =
     let d = c .before in
     let b = d .before .before .before in
-    λ rs e. c .refuse-unless .ensures
+    λ even rs e. c .refuse-unless .ensures
     ∙ sym (refused-first _ (refused-first _
-    (refused-first _ (no-axes (b .args .s .axes) (omega (arith, d .before .before .if1 .left, d .before .if2 .left, d .if3 .left))))))
+    (refused-first _ (refused-first _
+    (no-axes (b .args .s .axes) (omega (arith, d .before .before .if1 .left, d .before .if2 .left, d .if3 .left)))))))
 
 pub check-by-axes-spec : {M : Type 1} → statement M
 check-by-axes-spec = tie.close

@@ -23,6 +23,7 @@ use Rattle.lattice.proofs.OutcomeLaws.{passed-done}
 use Rattle.lattice.proofs.ShapeLaws.{shaped}
 use Rattle.cell.specs.Cell.{placeAt, cornersOutcome}
 use Rattle.evaluate.specs.Evaluate.{dose, askAt, answerBy}
+use Rattle.query.specs.Parts.{finest}
 use Rattle.query.specs.Queries.{positionCell}
 use Rattle.ramp.specs.Ramp.{queries, queryAt}
 use Rattle.ramp.specs.Parts.{one, Readable}
@@ -71,7 +72,7 @@ module _ (c : tie.After-check-spot Inv-loop μ-loop) where
 
   -- the tests of the cell and the in-cell step are those of the position
   told : outcomeOf (c .check-spot .result) ≡ tested (start .args .s) (start .args .even) rs ps (start .pre .0) (turn .loop .i)
-  told = c .check-spot .ensures ∙ found-at .locate .ensures .tests
+  told = c .check-spot .ensures (start .args .even) ∙ found-at .locate .ensures (start .args .even) .tests
 
   inside : turn .loop .i < queries ps
   inside = found-at .before .loop-test .taken
@@ -105,8 +106,8 @@ module _ (c : tie.After-is-new Inv-loop μ-loop) where
   passes : tested (b .args .s) (b .args .even) (rs checked) (ps checked) (b .pre .0) (at .loop .i) ≡ done tt
   passes = sym (told checked) ∙ ap outcomeOf (c .before .enum-told .given .1)
 
-  cell-is : placeAt here ≡ positionCell (b .args .s) (queryAt (ps checked) (at .loop .i))
-  cell-is = found-at checked .locate .ensures .cell-is passes
+  cell-is : placeAt here ≡ positionCell (finest (b .args .s) (b .args .even)) (queryAt (ps checked) (at .loop .i))
+  cell-is = found-at checked .locate .ensures (b .args .even) .cell-is passes
 
 hold-requires : tie.Need-hold-requires Inv-loop μ-loop
 hold-requires c κs =
@@ -114,7 +115,7 @@ hold-requires c κs =
     let w = at d .loop in
     let s = b d in
     let e = checked d in (
-      (shaped (s .args .s) (s .pre .0 .shape), s .pre .0 .long, found-at e .locate .ensures .here, w .inv .1 .held-long),
+      (shaped (s .args .s) (s .pre .0 .shape), s .pre .0 .long, found-at e .locate .ensures (s .args .even) .here, w .inv .1 .held-long),
       known (s .args .s) (s .args .even) (rs e) (ps e) (w .i) (w .found) (w .held) (w .cell) (w .fetches) (w .inv .1) (here d)
           (d .is-new .result)
           (d .is-new .ensures),
@@ -167,7 +168,7 @@ module _ (c : tie.Else1 Inv-loop μ-loop) where
       let s = b new in
       let e = checked new in
       readable (s .args .s) (s .args .even) (rs e) (ps e) (s .pre .0) (at new .loop .i) (passes new) (found-at e .locate .result)
-      (found-at e .locate .ensures)
+      (found-at e .locate .ensures (s .args .even))
       held (kept .hold .ensures .0) within
 
 dose-in-requires : tie.Need-dose-in-requires Inv-loop μ-loop
@@ -194,7 +195,7 @@ loop-again c =
           (n .is-new .result)
           (n .is-new .ensures) (cell-is n) (held d) (kept d .hold .ensures .0) (within d) (toZ w32 (ofZ w32 (r .result))) (small d)
           (own-answers (s .args .s) (s .args .even) (rs e) (ps e) (s .pre .0) (w .i) (passes n) (found-at e .locate .result)
-          (found-at e .locate .ensures)
+          (found-at e .locate .ensures (s .args .even))
           (held d) (kept d .hold .ensures .0) (within d) (toZ w32 (ofZ w32 (r .result)))
           (element (r .result) (r .ok) ∙ r .ensures
           ∙ ap (λ (k : ℕ). answerBy (roundingOf (s .args .even))

@@ -41,7 +41,7 @@ module _ (c : tie.After-cell-of3) where
 
 returns : tie.Need-returns
 unfolding count queryAt spotOutcome
-returns c =
+returns c even =
     let s = b c .args .t1 in
     let ok = b c .pre .0 in
     let p = positionAt (three c) in
@@ -51,10 +51,10 @@ returns c =
     (stands-for (at (three c) 2) (z c .before .unsigned-arg3 .given) (z c .unsigned3 .ensures))
     (c .before .before .before .before .cell-of .ensures) (c .before .before .cell-of2 .ensures) (c .cell-of3 .ensures) in
     record {
-      tests = located-tests s p _ _ _ l ok;
-      here = accepted s _ (ok .axes-high) (located-cells s p _ _ _ l ok);
-      cell-is = located-cell s p _ _ _ l ok;
-      step-is = located-step s p _ _ _ l ok;
+      tests = located-tests s even p _ _ _ l ok;
+      here = accepted s _ (ok .axes-high) (located-cells s even p _ _ _ l ok);
+      cell-is = located-cell s even p _ _ _ l ok;
+      step-is = located-step s even p _ _ _ l ok;
     }
 
 pub locate-spec : {M : Type 1} → statement M

@@ -30,34 +30,35 @@ module _ (c : tie.After-enum-told) where
   abbrev b : tie.Start
   b = c .before .before .before
 
-  passes : listOutcome (b .args .t .shape) (length (now (b .args .records))) (length (now (b .args .positions)))
+  passes : listOutcome (b .args .t) (length (now (b .args .records))) (length (now (b .args .positions)))
       (length (now (b .args .answers))) ≡ done tt
   passes = sym (c .before .before .check-list .ensures) ∙ ap outcomeOf (c .enum-told .given .1)
 
-answer-all-requires : tie.Need-answer-all-requires
-answer-all-requires c κs =
+answer-list-requires : tie.Need-answer-list-requires
+answer-list-requires c κs =
     let d = c .before in
     let a = b d .args in
-    (listed (a .t .shape) (now (a .records)) (now (a .positions)) (length (now (a .answers))) (passes d) .0, refl)
+    let l = listed (a .t) (now (a .records)) (now (a .positions)) (length (now (a .answers))) (passes d) in
+    (l .2, l .0, refl)
 
 -- what the queries say is what the list says
-module _ (c : tie.After-answer-all) where
+module _ (c : tie.After-answer-list) where
   abbrev told : tie.After-enum-told
   told = c .before .before
 
   abbrev s : tie.Start
   s = b told
 
-  is : outcomeOfRamp (c .answer-all .result) ≡ rampOutcome (s .args .t) (now (s .args .records)) (now (s .args .positions))
+  is : outcomeOfRamp (c .answer-list .result) ≡ rampOutcome (s .args .t) (now (s .args .records)) (now (s .args .positions))
       (length (now (s .args .answers)))
   unfolding rampOutcome
-  is = c .answer-all .ensures .0 ∙ sym (first-passed _ _ (passes told))
+  is = c .answer-list .ensures .0 ∙ sym (first-passed _ _ (passes told))
 
 write-requires : tie.Need-write-requires
 write-requires c κs =
     let d = told (c .before .before .before .before) in
     let a = b d .args in
-    let l = listed (a .t .shape) (now (a .records)) (now (a .positions)) (length (now (a .answers))) (passes d) in
+    let l = listed (a .t) (now (a .records)) (now (a .positions)) (length (now (a .answers))) (passes d) in
     (l .0 .few, l .1)
 
 returns-2 : tie.Need-returns-2
@@ -71,8 +72,8 @@ returns-2 c =
       is d,
       w .write .ensures
           ∙ ap (λ (l : List ℤ). overwrite l (now (a .answers)))
-          (tabulate-same (queries (now (a .positions))) (at (d .answer-all .last .1 .1 .1 .1 .0))
-          (λ i. answerOf (ownCall (a .t) (now (a .records)) (now (a .positions)) i)) (d .answer-all .ensures .1 _ e))
+          (tabulate-same (queries (now (a .positions))) (at (d .answer-list .last .1 .1 .1 .0))
+          (λ i. answerOf (ownCall (a .t) (now (a .records)) (now (a .positions)) i)) (d .answer-list .ensures .1 _ e))
           ∙ when-done _ (now (a .answers)) (sym (is d) ∙ e),
     )
 
@@ -91,7 +92,7 @@ ramp-spec =
     (λ c κs. tt)
     returns
     (λ c. search needs)
-    answer-all-requires
+    answer-list-requires
     (λ c. search needs)
     write-requires
     (λ c. search needs)

@@ -8,7 +8,7 @@ use denote.Ref.{now}
 use mir.Syntax.{w32}
 use mir.Val.{toZ, ofZ}
 use Rattle.arith.proofs.Machine.{element, near}
-use Rattle.table_file.specs.File.{header}
+use Rattle.table_file.specs.File.{fileHeader}
 use Rattle.text.specs.Lines.{cellLine}
 use Rattle.text.proofs.LineLaws.{put-as}
 use Rattle.report.specs.Parts.{lineFrom, lineLimit}
@@ -36,7 +36,7 @@ module _ (c : tie.After-dose-at2) where
       (near (c .before .dose-at .result) (c .before .dose-at .ok)) (near (c .dose-at2 .result) (c .dose-at2 .ok)))
 
   line : cellLine (start .args .cell) low high
-      ≡ lineFrom (header (start .args .axes) (start .args .counts) (start .args .second)) (now (start .args .cubic))
+      ≡ lineFrom (fileHeader (start .args .axes) (start .args .counts) (start .args .second)) (now (start .args .cubic))
       (now (start .args .quintic)) (start .args .cell)
   unfolding lineFrom
   line = ap₂ (cellLine (start .args .cell)) (element _ (c .before .dose-at .ok) ∙ c .before .dose-at .ensures)
@@ -44,7 +44,7 @@ module _ (c : tie.After-dose-at2) where
 
 dose-at-requires-2 : tie.Need-dose-at-requires-2
 dose-at-requires-2 c κs = let b = c .before .before in
-    (b .pre .0 .1, any-degree (header (b .args .axes) (b .args .counts) (b .args .second)) 3 5 (b .args .cell) (b .pre .1 .0))
+    (b .pre .0 .1, any-degree (fileHeader (b .args .axes) (b .args .counts) (b .args .second)) 3 5 (b .args .cell) (b .pre .1 .0))
 
 returns : tie.Need-returns
 returns c =

@@ -12,7 +12,8 @@ use Rattle.lattice.specs.declared.Shape.{Shape}
 use Rattle.lattice.specs.Buffer.{tabulate}
 use Rattle.lattice.specs.Shape.{Shaped}
 use Rattle.lattice.proofs.ShapeLaws.{shaped}
-use Rattle.table_file.specs.File.{Header, header}
+use Rattle.lattice.proofs.StepLaws.{full-shape}
+use Rattle.table_file.specs.File.{Header, fileHeader}
 use Rattle.text.specs.Lines.{Put}
 use Rattle.text.proofs.LineLaws.{put-as, put-length}
 use Rattle.cell.specs.Cells.{cellsAlong, cellCount, cellAt, Between}
@@ -29,20 +30,20 @@ lineAt h cubic quintic i = lineFrom h cubic quintic (cellAt (withDegree h 3) i)
 
 abbrev Inv-loop : tie.InvT-loop
 Inv-loop axes counts second cubic quintic out₀ cells total at₀ i₀ out at i =
-    (i ≤ total) × (at ≤ lineLimit * i) × Put out₀ 0 (joined i (lineAt (header axes counts second) cubic quintic)) out at
+    (i ≤ total) × (at ≤ lineLimit * i) × Put out₀ 0 (joined i (lineAt (fileHeader axes counts second) cubic quintic)) out at
 
 abbrev μ-loop : tie.MeasureT-loop
 μ-loop axes counts second cubic quintic out₀ cells total at₀ i₀ out at i = total - i
 
 -- the table's shape and its cells
 abbrev read : tie.Start Inv-loop μ-loop → Header
-read s = header (s .args .axes) (s .args .counts) (s .args .second)
+read s = fileHeader (s .args .axes) (s .args .counts) (s .args .second)
 
 abbrev table : tie.Start Inv-loop μ-loop → Shape
 table s = withDegree (read s) 3
 
 shape : (s : tie.Start Inv-loop μ-loop) → Shaped (table s)
-shape s = shaped (table s) (s .pre .0 .0 .shape)
+shape s = shaped (table s) (full-shape _ (s .pre .0 .0 .shape))
 
 abbrev cells : tie.After-cells-of Inv-loop μ-loop → List ℕ
 cells c = c .cells-of .result

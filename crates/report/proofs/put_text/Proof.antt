@@ -7,13 +7,13 @@ use lib.IntN.{ℤ}
 use lib.ListN.{length}
 use denote.Ref.{now}
 use borrow.Author.Needs.{needs}
-use Rattle.lattice.specs.declared.Shape.{Shape}
+use Rattle.lattice.specs.declared.FullShape.{FullShape}
 use Rattle.lattice.specs.Answers.{outcomeOf}
 use Rattle.estimate.specs.Estimate.{estimateOutcome}
-use Rattle.table_file.specs.File.{Header, header}
+use Rattle.table_file.specs.File.{Header, fileHeader}
 use Rattle.text.specs.Lines.{refusedLine}
 use Rattle.text.proofs.LineLaws.{put-as}
-use Rattle.report.specs.Report.{withDegree}
+use Rattle.report.specs.Report.{tableWith}
 use Rattle.report.proofs.LineLaws.{refused-low}
 use Rattle.report.proofs.TableLaws.{taken, refused-text, taken-text}
 use Rattle.report.proofs.put_text.Statement.{statement}
@@ -29,13 +29,13 @@ module _ (c : tie.After-check-estimate) where
   s = c .before .before .before
 
   abbrev table : Header
-  table = header (s .args .axes) (s .args .counts) (s .args .second)
+  table = fileHeader (s .args .axes) (s .args .counts) (s .args .second)
 
   abbrev samples : List ℤ
   samples = now (s .args .samples)
 
-  told : outcomeOf (c .check-estimate .result) ≡ estimateOutcome (withDegree table 3) samples 4096
-  told = c .check-estimate .ensures ∙ ap (λ (t : Shape). estimateOutcome t samples 4096) (c .before .shape-of .ensures)
+  told : outcomeOf (c .check-estimate .result) ≡ estimateOutcome (tableWith table 3) samples 4096
+  told = c .check-estimate .ensures ∙ ap (λ (t : FullShape). estimateOutcome t samples 4096) (c .before .table-with .ensures)
 
 returns : tie.Need-returns
 returns c =

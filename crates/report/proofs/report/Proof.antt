@@ -10,7 +10,7 @@ use denote.Ref.{now}
 use Rattle.lattice.specs.Outcome.{done}
 use Rattle.lattice.specs.Buffer.{overwrite}
 use Rattle.lattice.specs.Shape.{nodes}
-use Rattle.table_file.specs.File.{Header, header, samplesIn, readOutcome}
+use Rattle.table_file.specs.File.{Header, fileHeader, samplesIn, readOutcome}
 use Rattle.table_file.specs.Answers.{outcomeOfTable}
 use Rattle.lattice.proofs.BufferLaws.{sets-front}
 use Rattle.text.specs.Lines.{refusedLine}
@@ -43,7 +43,7 @@ module _ (c : tie.After-known-told2) where
   input = now (start .args .input)
 
   abbrev table : Header
-  table = let t = c .before .table2 .given .0 in header (t .0) (t .1 .0 ∷ t .1 .1 .0 ∷ t .1 .1 .1 .0 ∷ []) (t .1 .1 .1 .1 .0)
+  table = let t = c .before .table2 .given .0 in fileHeader (t .0) (t .1 .0 ∷ t .1 .1 .0 ∷ t .1 .1 .1 .0 ∷ []) (t .1 .1 .1 .1 .0)
 
   was-read : readOutcome input heldNodes ≡ done table
   was-read = sym (read .read .ensures .0) ∙ ap outcomeOfTable (c .before .table2 .given .1)

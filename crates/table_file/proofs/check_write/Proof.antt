@@ -1,11 +1,13 @@
--- `check_write` meets its contract: 1 and 3 from the shape, then 4, 9 and 5 with the number of nodes; each stops at a refusal.
+-- `check_write` meets its contract: 1, 3 and 26 from the shape, then 4, 9 and 5 with the number of nodes; each stops at a refusal.
 use mathlib.Core.Path.{_≡_, sym, ap, _∙_}
 use native.Mathlib.Omega.{arith}
 use Rattle.lattice.specs.Answers.{outcomeOf}
 use Rattle.lattice.specs.Outcome.{done}
-use Rattle.lattice.specs.Shape.{shapeOf, shapeOutcome, nodes}
+use Rattle.lattice.specs.declared.Shape.{Shape}
+use Rattle.lattice.specs.Shape.{shapeOf, fullShape, fullOutcome, nodes}
 use Rattle.lattice.proofs.OutcomeLaws.{first-passed, refused-first}
 use Rattle.lattice.proofs.ShapeLaws.{shaped}
+use Rattle.lattice.proofs.StepLaws.{full-shape}
 use Rattle.table_file.specs.File.{header}
 use Rattle.table_file.proofs.WriteLaws.{write-is, AfterShape, after-shape}
 use borrow.Author.Needs.{needs}
@@ -13,14 +15,17 @@ use Rattle.table_file.proofs.check_write.Statement.{statement}
 use Rattle.table_file.proofs.check_write.Tie as tie
 
 shape-passes : (c : tie.After-enum-told2)
-    → let a = c .before .before .before .before .args in shapeOutcome (shapeOf (a .axes) 3 (a .counts)) ≡ done tt
+    → let a = c .before .before .before .before .args in
+    fullOutcome (fullShape (shapeOf (a .axes) 3 (a .counts)) (a .steps) (a .second)) ≡ done tt
 shape-passes c =
     let d = c .before .before in
-    ap shapeOutcome (sym (d .before .shape-of .ensures)) ∙ sym (d .check-shape .ensures) ∙ ap outcomeOf (c .enum-told2 .given .1)
+    let a = d .before .before .args in
+    ap (λ (s : Shape). fullOutcome (fullShape s (a .steps) (a .second))) (sym (d .before .shape-of .ensures))
+    ∙ sym (d .check-full .ensures) ∙ ap outcomeOf (c .enum-told2 .given .1)
 
 facts : (c : tie.After-three-numbers)
     → let a = c .before .before .before .before .before .before .args in
-    AfterShape (header (a .axes) (a .counts) (a .second)) (a .samples .now) (a .room) (c .before .node-count .result)
+    AfterShape (header (a .axes) (a .counts) (a .steps) (a .second)) (a .samples .now) (a .room) (c .before .node-count .result)
     (c .three-numbers .result)
 facts c =
     let n = c .before in
@@ -33,8 +38,10 @@ returns c =
     let d = c .before .before in
     let a = d .before .before .args in
     let g = ap outcomeOf (c .enum-told .given .1) in
-    let tested = sym (d .check-shape .ensures ∙ ap shapeOutcome (d .before .shape-of .ensures)) ∙ g in
-    g ∙ sym (write-is (header (a .axes) (a .counts) (a .second)) (a .samples .now) (a .room) ∙ refused-first _ tested)
+    let tested =
+    sym (d .check-full .ensures ∙ ap (λ (s : Shape). fullOutcome (fullShape s (a .steps) (a .second))) (d .before .shape-of .ensures))
+    ∙ g in
+    g ∙ sym (write-is (header (a .axes) (a .counts) (a .steps) (a .second)) (a .samples .now) (a .room) ∙ refused-first _ tested)
 
 returns-2 : tie.Need-returns-2
 returns-2 c =
@@ -67,7 +74,7 @@ check-write-spec =
     (λ c. search needs)
     returns
     (λ c. search needs)
-    (λ c κs. rw (c .before .before .before .shape-of .ensures) (shaped _ (shape-passes c)))
+    (λ c κs. rw (c .before .before .before .shape-of .ensures) (shaped _ (full-shape _ (shape-passes c))))
     (λ c. search needs)
     (λ c. search needs)
     (λ c. omega (arith, facts c))

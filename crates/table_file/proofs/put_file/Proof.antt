@@ -1,4 +1,5 @@
 -- `put_file` meets its contract: the sections one after the other are the file.
+use mathlib.Core.List.{[]}
 use Prim.Native.Nat.{_≤_}
 use native.Mathlib.Omega.{arith}
 use lib.ListN.{length}
@@ -15,7 +16,7 @@ returns c =
     let e = d .before .before .before .before in
     let b = e .before .before .before in
     let a = b .args in
-    let h = header (a .axes) (a .counts) (a .second) in
+    let h = header (a .axes) (a .counts) [] (a .second) in
     let few : a .axes ≤ length (a .counts) = omega (arith, b .pre .0, b .good .1 .0) in (
       omega (arith, c .three-numbers .ensures .0, length-file h (a .samples .now) few),
       file-put h (a .samples .now) few (a .bytes .now) (b .pre .2) (e .put-one .ensures) (d .put-two .ensures) (f .put-three .ensures),

@@ -5,14 +5,14 @@ use lib.ListN.{length}
 use Rattle.lattice.specs.Answers.{outcomeOf}
 use Rattle.lattice.specs.Outcome.{done}
 use Rattle.lattice.proofs.OutcomeLaws.{first-passed, refused-first}
-use Rattle.table_file.specs.File.{Header, header, writeCheck, writeOutcome}
+use Rattle.table_file.specs.File.{Header, header, fileOf, writeCheck, writeOutcome}
 use Rattle.table_file.proofs.WriteLaws.{fit, fit-size, answered-refused, answered-done}
 use borrow.Author.Needs.{needs}
 use Rattle.table_file.proofs.write.Statement.{statement}
 use Rattle.table_file.proofs.write.Tie as tie
 
 abbrev table : tie.Start → Header
-table c = header (c .args .axes) (c .args .counts) (c .args .second)
+table c = header (c .args .axes) (c .args .counts) (c .args .steps) (c .args .second)
 
 passed : (d : tie.After-enum-told)
     → writeCheck (table (d .before .before .before .before))
@@ -32,7 +32,7 @@ returns c = answered-refused _ _ _ _ _
     (refused-first _ (sym (c .before .before .before .check-write .ensures) ∙ ap outcomeOf (c .before .allowed .given .1)))
 
 returns-2 : tie.Need-returns-2
-unfolding writeOutcome
+unfolding writeOutcome fileOf
 returns-2 c =
     let p = c .before .before in
     answered-done _ _ _ _ _ (first-passed _ _ (passed (p .before .before)) ∙ ap done (sym (p .put-file .ensures .0)))
