@@ -1,10 +1,10 @@
 /* Hermite interpolation on lattices of one to three axes, cubic or quintic, in whole numbers.
  *
- * A table is a shape with one sample for each node. lukhtari_estimate makes each node's record
- * from the samples; doses and slopes are then asked for by table position, by cell or by float,
- * doses also by a list of positions, a ramp, and curvatures of quintic tables by table position or
- * by cell. A cell's polynomial is given by its coefficients, of two-axis cubic tables also by those
- * of powers of x and y.
+ * A table is a shape with one sample for each node; lukhtari_pool makes one of two by weight.
+ * lukhtari_estimate makes each node's record from the samples; doses and slopes are then asked for
+ * by table position, by cell or by float, doses also by a list of positions, a ramp, and curvatures
+ * of quintic tables by table position or by cell. A cell's polynomial is given by its coefficients,
+ * of two-axis cubic tables also by those of powers of x and y.
  *
  * Nodes, cells and positions. Axes are x, y, z in this order, numbered 0, 1, 2; a shape uses the
  * first 1, 2 or 3. With cx and cy the node counts of x and y, node (i, j, k) has number
@@ -58,8 +58,8 @@
  *
  * Editions. A table is of edition one or of edition two, which is a part of its shape. In edition
  * one every stage rounds halves up, in edition two to the even number. Nothing else depends on it:
- * not the estimates, coefficients and positions, not the step of a float, whose halves go up, and
- * no refusal but those of the file. The distances hold for both.
+ * not the estimates, coefficients and positions, not the step of a float and not pooled samples,
+ * whose halves go up, and no refusal but those of the file and 27. The distances hold for both.
  *
  * The mark. A dose by position or by cell is marked, exact is true, if and only if no stage dropped
  * anything: each number that a stage makes, also one that a later stage gives the weight 0, is a
@@ -67,6 +67,11 @@
  * equals the exact dose. One that is not marked may equal it by luck. Both editions mark the same
  * doses. Cells that share a point may differ in the mark; a position is read in the upper one.
  * Slopes, curvatures, floats and ramps carry no mark.
+ *
+ * Pooling. Two lattices of one shape are pooled by weight. With a and b their samples and v and w
+ * their weights, numbers from 0 to LUKHTARI_WEIGHT_MAX that are not both 0, a pooled sample is
+ * (a * v + b * w) / (v + w), rounded to the nearest, halves up in both editions. It is within 1/2
+ * of the exact mean and between a and b. A weight of 0 gives the other lattice.
  *
  * A ramp. A list of at most LUKHTARI_RAMP_MAX positions stands in one slice, three numbers each, x
  * first. lukhtari_ramp writes one dose for each, the one that lukhtari_dose gives. The corner
@@ -135,7 +140,7 @@ extern "C" {
 #endif
 
 /* The number of this interface; another number means other structs, calls or names. */
-#define LUKHTARI_INTERFACE 9
+#define LUKHTARI_INTERFACE 10
 
 /* Least and largest step number of a used axis; 32, 64 and 128 are the others. */
 #define LUKHTARI_STEPS_MIN 16
@@ -166,6 +171,9 @@ extern "C" {
 /* The most positions of a ramp. */
 #define LUKHTARI_RAMP_MAX 256
 
+/* The largest weight of a lattice that is pooled. */
+#define LUKHTARI_WEIGHT_MAX 10000
+
 /* The largest sizes of buffers: entries of one record and of all records of a table; coefficients
  * of a cell, which are as many as the entries of its corner records; bytes of a table file. */
 #define LUKHTARI_RECORD_ENTRIES_MAX 27
@@ -187,13 +195,14 @@ extern "C" {
 
 /* Bytes of stack, at most: of lukhtari_estimate; of lukhtari_coefficients, lukhtari_corners and
  * lukhtari_powers; of each dose, slope and curvature; of lukhtari_read and lukhtari_write; of
- * lukhtari_import; of lukhtari_ramp. */
+ * lukhtari_import; of lukhtari_ramp; of lukhtari_pool. */
 #define LUKHTARI_STACK_ESTIMATE 8192
 #define LUKHTARI_STACK_CONVERSION 4096
 #define LUKHTARI_STACK_QUERY 2048
 #define LUKHTARI_STACK_FILE 1024
 #define LUKHTARI_STACK_IMPORT 1024
 #define LUKHTARI_STACK_RAMP 9216
+#define LUKHTARI_STACK_POOL 1024
 
 /* The numbers of refusals. */
 enum lukhtari_refusal {
@@ -208,7 +217,8 @@ enum lukhtari_refusal {
     /* The samples or records lent, or the tokens of a text, are not exactly as many as the shape
      * has. */
     LUKHTARI_REFUSED_LENGTH = 4,
-    /* A sample of a file or text, or an entry, is beyond its limit; place: its index in the slice.
+    /* A sample of a file, of a text or to be pooled, or an entry, is beyond its limit; place: its
+     * index in the slice.
      * Queries, lukhtari_coefficients and lukhtari_powers look at the corner records of their cell
      * alone, in corner order. For lukhtari_ramp the place is the index of the position in the
      * list. */
@@ -260,7 +270,11 @@ enum lukhtari_refusal {
     LUKHTARI_REFUSED_FILE_EDITION = 25,
     /* The step number of a used axis is not 16, 32, 64, 128 or 256, or that of an unused one not
      * 1; place: the axis. */
-    LUKHTARI_REFUSED_STEP_NUMBER = 26
+    LUKHTARI_REFUSED_STEP_NUMBER = 26,
+    /* The shapes of two lattices that are to be pooled differ, be it in their degree or edition. */
+    LUKHTARI_REFUSED_SHAPES_DIFFER = 27,
+    /* A weight is above LUKHTARI_WEIGHT_MAX, or both weights are 0. */
+    LUKHTARI_REFUSED_WEIGHTS = 28
 };
 
 /* A table's number of axes (1 to 3), degree (3 or 5), node counts, 2 to 64 on each used axis and 1
@@ -461,6 +475,14 @@ lukhtari_written lukhtari_write(uint32_t axes, lukhtari_index counts, lukhtari_i
  * 5. */
 lukhtari_done lukhtari_import(lukhtari_shape shape, const uint8_t *text, size_t text_len,
                               int32_t *samples, size_t samples_len);
+
+/* Pools two lattices by weight and writes the pooled samples.
+ * Refusals in order: 1, 2, 3, 26, each of the first lattice and then of the second; 27, 28; 4 of
+ * the first and then of the second, 9; 5 of the first and then of the second. The place does not
+ * say which lattice. */
+lukhtari_done lukhtari_pool(lukhtari_shape shape_a, const int32_t *samples_a, size_t samples_a_len,
+                            uint32_t weight_a, lukhtari_shape shape_b, const int32_t *samples_b,
+                            size_t samples_b_len, uint32_t weight_b, int32_t *out, size_t out_len);
 
 /* Writes the doses at a list of table positions, three numbers each, one answer for each position.
  * Refusals in order, also for an empty list: 1, 2, 3, 26, 20, 4, 9; then position by position what

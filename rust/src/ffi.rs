@@ -361,6 +361,28 @@ extern "C" {
     ) -> Done;
 }
 
+// pool
+extern "C" {
+    /// Pools two lattices by weight: see [`pool`](crate::pool).
+    ///
+    /// # Safety
+    ///
+    /// The slices `samples_a`, `samples_b` and `out` are lent as the [module](self) says; the first
+    /// two may be the same.
+    pub fn lukhtari_pool(
+        shape_a: Shape,
+        samples_a: *const i32,
+        samples_a_len: usize,
+        weight_a: u32,
+        shape_b: Shape,
+        samples_b: *const i32,
+        samples_b_len: usize,
+        weight_b: u32,
+        out: *mut i32,
+        out_len: usize,
+    ) -> Done;
+}
+
 // ramp
 extern "C" {
     /// Doses at a list of table positions: see [`ramp`](crate::ramp).

@@ -1,7 +1,7 @@
 //! Limits of tables and the largest sizes of buffers, as `lukhtari.h` has them.
 
 /// Number of the C interface; another number means other structs, calls or names.
-pub const INTERFACE: u32 = 9;
+pub const INTERFACE: u32 = 10;
 
 /// Least step number of a used axis; 32, 64 and 128 are between it and the largest.
 pub const STEPS_MIN: u32 = 16;
@@ -60,6 +60,9 @@ pub const TOKEN_BYTES_MAX: usize = 64;
 /// Most positions of a ramp.
 pub const RAMP_MAX: usize = 256;
 
+/// Largest weight of a lattice that is pooled.
+pub const WEIGHT_MAX: u32 = 10_000;
+
 /// Most entries of one record.
 pub const RECORD_ENTRIES_MAX: usize = 27;
 
@@ -89,3 +92,6 @@ pub const STACK_IMPORT: usize = 1024;
 
 /// Most bytes of stack that a ramp uses.
 pub const STACK_RAMP: usize = 9216;
+
+/// Most bytes of stack that pooling uses.
+pub const STACK_POOL: usize = 1024;

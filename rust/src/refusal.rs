@@ -30,8 +30,8 @@ impl Refusal {
     pub const NODE_COUNT: u32 = 3;
     /// The samples or records lent, or the tokens of a text, are not as many as the shape has.
     pub const LENGTH: u32 = 4;
-    /// A sample of a file or text, or an entry, is beyond its limit; the place is its index in the
-    /// slice.
+    /// A sample of a file, of a text or to be pooled, or an entry, is beyond its limit; the place is
+    /// its index in the slice.
     pub const BEYOND_LIMIT: u32 = 5;
     /// The file's bytes end early; the place is their number.
     pub const FILE_ENDS_EARLY: u32 = 6;
@@ -76,6 +76,10 @@ impl Refusal {
     pub const FILE_EDITION: u32 = 25;
     /// A step number is not allowed; the place is the axis.
     pub const STEP_NUMBER: u32 = 26;
+    /// The shapes of two lattices that are to be pooled differ.
+    pub const SHAPES_DIFFER: u32 = 27;
+    /// A weight is above 10,000, or both are 0.
+    pub const WEIGHTS: u32 = 28;
 }
 
 impl fmt::Display for Refusal {
@@ -141,6 +145,8 @@ impl fmt::Display for Refusal {
                 )
             }
             Self::STEP_NUMBER => write!(f, "the step number of axis {place} is not allowed"),
+            Self::SHAPES_DIFFER => write!(f, "the shapes of the two lattices differ"),
+            Self::WEIGHTS => write!(f, "a weight is above 10,000, or both weights are 0"),
             _ => write!(f, "unknown reason"),
         }
     }

@@ -23,13 +23,13 @@ fn constants() -> BTreeMap<String, u64> {
     add!(all, "LUKHTARI_", limits, FILE_BYTES_MAX, TOKEN_BYTES_MAX, RAMP_MAX);
     add!(all, "LUKHTARI_", limits, POWER_COEFFICIENTS, POWER_COEFFICIENT_LIMIT);
     add!(all, "LUKHTARI_", limits, STACK_ESTIMATE, STACK_CONVERSION, STACK_QUERY, STACK_FILE);
-    add!(all, "LUKHTARI_", limits, STACK_IMPORT, STACK_RAMP);
+    add!(all, "LUKHTARI_", limits, STACK_IMPORT, STACK_RAMP, STACK_POOL, WEIGHT_MAX);
     add!(all, "LUKHTARI_REFUSED_", Refusal, AXES, DEGREE, NODE_COUNT, LENGTH, BEYOND_LIMIT);
     add!(all, "LUKHTARI_REFUSED_", Refusal, FILE_ENDS_EARLY, FILE_LEFT_OVER, FILE_SAMPLE_COUNT);
     add!(all, "LUKHTARI_REFUSED_", Refusal, BUFFER_TOO_SHORT, NOT_FINITE, SLOPE_AXIS);
     add!(all, "LUKHTARI_REFUSED_", Refusal, POSITION_BEYOND, POSITION_BELOW_ZERO);
     add!(all, "LUKHTARI_REFUSED_", Refusal, POSITION_UNUSED_AXIS, POWERS_SHAPE);
-    add!(all, "LUKHTARI_REFUSED_", Refusal, FILE_EDITION, STEP_NUMBER);
+    add!(all, "LUKHTARI_REFUSED_", Refusal, FILE_EDITION, STEP_NUMBER, SHAPES_DIFFER, WEIGHTS);
     add!(all, "LUKHTARI_REFUSED_", Refusal, NO_CORNER_RECORDS, CELL, COEFFICIENT_COUNT);
     add!(all, "LUKHTARI_REFUSED_", Refusal, TOKEN_TOO_LONG, TOKEN_GRAMMAR, TOKEN_NOT_WHOLE);
     add!(all, "LUKHTARI_REFUSED_", Refusal, BEYOND_ESTIMATE_LIMIT, RAMP_LENGTH, CURVATURE_DEGREE);
@@ -101,14 +101,14 @@ fn constants_have_the_same_values() {
 }
 
 #[test]
-fn refusals_are_numbered_from_1_to_26() {
+fn refusals_are_numbered_from_1_to_28() {
     let refused = |(name, number): (String, u64)| {
         let refused = name.starts_with("LUKHTARI_REFUSED_");
         refused.then_some(number)
     };
     let mut all: Vec<u64> = constants().into_iter().filter_map(refused).collect();
     all.sort();
-    assert_eq!(all, (1..=26).collect::<Vec<u64>>());
+    assert_eq!(all, (1..=28).collect::<Vec<u64>>());
 }
 
 #[test]

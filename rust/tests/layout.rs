@@ -97,7 +97,7 @@ fn header_and_rust_declare_the_same() {
         assert_eq!(rust_structs.get(&rust_name(name)), Some(fields), "{name}");
     }
     let c = c_calls(&header, &c_structs);
-    assert_eq!(c.len(), 16);
+    assert_eq!(c.len(), 17);
     assert_eq!(c, rust_calls(&rust, &rust_structs));
 }
 

@@ -82,6 +82,20 @@ fn ramps() {
 }
 
 #[test]
+fn weights() {
+    let refused = |weight| {
+        let lattice = Measurement {
+            shape: cube(1, 3, 2),
+            samples: &[0, 1],
+            weight,
+        };
+        number(pool(lattice, lattice, &mut [0; 2]))
+    };
+    assert_eq!(refused(WEIGHT_MAX), 0);
+    assert_eq!(refused(WEIGHT_MAX + 1), Refusal::WEIGHTS);
+}
+
+#[test]
 fn largest_table() {
     let shape = cube(3, 5, COUNT_MAX);
     assert_eq!(shape.nodes(), NODES_MAX);

@@ -9,7 +9,7 @@ mod queries;
 
 use common::*;
 use files::{words, EXAMPLE, SECTION};
-use lukhtari::{dose_float, read, Shape};
+use lukhtari::{dose_float, read, Measurement, Shape};
 use model::query::Where::{Cell, Position};
 use model::Rational;
 use model::Want::{self, Curvature, Dose, Slope};
@@ -356,6 +356,68 @@ fn no_stage_drops_anything_of_a_marked_dose() {
             let got = run_dose(shape, &records, at);
             assert_eq!(got, Ok((dose, mark)), "{shape:?} {at:?}");
         }
+    }
+}
+
+fn measured(shape: Shape, samples: &[i32], weight: u32) -> Measurement<'_> {
+    Measurement {
+        shape,
+        samples,
+        weight,
+    }
+}
+
+#[test]
+fn pooled_samples_go_halves_up() {
+    let line = cube(1, 3, 3);
+    for (v, w, printed) in [
+        (3, 1, [0, 102, -1]),
+        (10_000, 10_000, [1, 104, 0]),
+        (0, 1, [1, 108, 0]),
+    ] {
+        let a = measured(line, &[0, 100, -1], v);
+        let b = measured(line, &[1, 108, 0], w);
+        assert_eq!(pooled(a, b, 3), Ok(printed.to_vec()));
+    }
+}
+
+#[test]
+fn shapes_are_pooled_in_turn_then_compared_then_weighed() {
+    let [cubic, quintic, plane] = [cube(1, 3, 2), cube(1, 5, 2), cube(2, 3, 2)];
+    for (a, v, b, number, place) in [
+        (cube(1, 7, 2), 0, cube(4, 3, 2), 1, 0),
+        (cube(1, 3, 65), 0, cube(1, 7, 2), 2, 0),
+        (
+            in_steps(plane, [8, 16, 1]),
+            0,
+            shape(2, 3, [2, 65, 1]),
+            3,
+            1,
+        ),
+        (plane, 0, in_steps(plane, [16, 8, 1]), 26, 1),
+        (quintic, 0, cubic, 27, 0),
+        (quintic, 0, in_steps(quintic, [128, 1, 1]), 27, 0),
+        (quintic, 0, in_edition(quintic, true), 27, 0),
+        (quintic, 0, quintic, 28, 0),
+        (quintic, 10_001, quintic, 28, 0),
+    ] {
+        let said = pooled(measured(a, &[], v), measured(b, &[], 0), 0);
+        assert_eq!(said, refused(number, place), "{a:?} {b:?}");
+    }
+}
+
+#[test]
+fn lattices_of_both_lengths_then_room_then_samples() {
+    let line = cube(1, 3, 3);
+    for (third, other, room, number, place) in [
+        (32769, &[][..], 0, 4, 0),
+        (32769, &[0, -32769, 0], 2, 9, 0),
+        (32769, &[0, -32769, 0], 3, 5, 2),
+        (32768, &[0, -32769, 0], 3, 5, 1),
+    ] {
+        let samples = [0, 0, third];
+        let said = pooled(measured(line, &samples, 1), measured(line, other, 0), room);
+        assert_eq!(said, refused(number, place));
     }
 }
 

@@ -199,6 +199,41 @@ fn writing() {
     }
 }
 
+// Of two lattices with their numbers of samples, weights 1 and w.
+fn pool(a: Shape, samples_a: usize, b: Shape, samples_b: usize, w: u32, room: usize) -> u32 {
+    let at = nowhere();
+    // SAFETY: nothing is read or written.
+    unsafe { lukhtari_pool(a, at, samples_a, 1, b, at, samples_b, w, at, room) }.number
+}
+
+#[test]
+fn pooling() {
+    for (axes, degree) in KINDS {
+        let shape = cube(axes, degree, 64);
+        let nodes = shape.nodes();
+        for (samples, w, room) in [(LONG, 10_001, LONG), (0, 1, 0), (nodes, 1, nodes)] {
+            let number = |a, b| pool(a, samples, b, samples, w, room);
+            let wrong = [
+                (Shape { axes: 0, ..shape }, 1),
+                (Shape { degree: 4, ..shape }, 2),
+                (cube(axes, degree, 65), 3),
+            ];
+            for (wrong, expected) in wrong {
+                assert_eq!([number(wrong, shape), number(shape, wrong)], [expected; 2]);
+            }
+            assert_eq!(number(shape, cube(axes, degree, 63)), 27);
+        }
+        assert_eq!(pool(shape, LONG, shape, LONG, 10_001, LONG), 28);
+        for room in [LONG, nodes, 0] {
+            assert_eq!(pool(shape, LONG, shape, nodes, 1, room), 4);
+            assert_eq!(pool(shape, nodes, shape, nodes - 1, 1, room), 4);
+        }
+        for room in [nodes - 1, 0] {
+            assert_eq!(pool(shape, nodes, shape, nodes, 1, room), 9);
+        }
+    }
+}
+
 #[test]
 fn conversion() {
     for (axes, degree) in KINDS {
@@ -444,6 +479,25 @@ fn null_with_length_0_for_texts() {
         ]
     };
     assert_eq!(texts, [4, 4, 9, 0]);
+}
+
+#[test]
+fn null_with_length_0_for_pooling() {
+    let shape = cube(1, 3, 2);
+    let (samples, mut out) = ([1, 2], [0; 2]);
+    let (s, o) = (samples.as_ptr(), out.as_mut_ptr());
+    // SAFETY: the slices are lent; one of length 0 may be NULL.
+    let pooled = unsafe {
+        [
+            lukhtari_pool(shape, null(), 0, 1, shape, null(), 0, 1, null_mut(), 0).number,
+            lukhtari_pool(shape, null(), 0, 1, shape, s, 2, 1, o, 2).number,
+            lukhtari_pool(shape, s, 2, 1, shape, null(), 0, 1, o, 2).number,
+            lukhtari_pool(shape, s, 2, 1, shape, s, 2, 1, null_mut(), 0).number,
+            lukhtari_pool(shape, s, 2, 1, shape, s, 2, 1, o, 2).number,
+        ]
+    };
+    assert_eq!(pooled, [4, 4, 4, 9, 0]);
+    assert_eq!(out, samples);
 }
 
 #[test]

@@ -7,6 +7,7 @@ pub mod import;
 pub mod method;
 pub mod plain;
 pub mod point;
+pub mod pooling;
 pub mod powers;
 pub mod query;
 pub mod ramp;

@@ -1,7 +1,7 @@
 -- Further rows: where a theorem would hold of more than one reading of document 01, a computed row fixes the reading.
 -- Refusal numbers, places and order, those of a position apart; borders; the order of nodes, entries, coefficients and corners on two and
 -- three axes; limits; the order of the stages; the cell of a shared node; curvatures; the distances; the rounding of both editions;
--- step numbers; the mark.
+-- step numbers; the mark; pooling.
 use mathlib.Core.Bool.{Bool, true, false}
 use mathlib.Core.List.{List, [], _∷_, _++_}
 use Prim.Native.Nat.{ℕ, suc, _+_, _*_, _-_}
@@ -11,11 +11,13 @@ use lib.IntN.{ℤ, pos, negsuc, natAbs, _-ℤ_, _*ℤ_}
 use lib.ListN.{replicate}
 use Rattle.arith.specs.Choice.{pick}
 use Rattle.lattice.specs.declared.Shape.{Shape}
-use Rattle.lattice.specs.Outcome.{Outcome, Check, done, refused}
+use Rattle.lattice.specs.declared.FullShape.{FullShape}
+use Rattle.lattice.specs.Outcome.{Outcome, Check, done, refused, first}
 use Rattle.lattice.specs.Buffer.{tabulate}
 use Rattle.lattice.specs.Shape.{shapeOf, fullShape, size}
 use Rattle.lattice.specs.Digits.{digit}
 use Rattle.lattice.specs.Records.{entryLimit}
+use Rattle.pool.specs.Pool.{Measurement, measured, poolOutcome, pooledSamples}
 use Rattle.estimate.specs.Estimate.{tableRecords, recordsOf, estimateOutcome}
 use Rattle.evaluate.specs.Evaluate.{Want, dose, slopeAlong, curvatureAlong, orderWanted, exactSum, exactDivisor}
 use Rattle.table_file.specs.File.{readCheck, fileOf, fileHeader}
@@ -323,5 +325,48 @@ marks =
     ∷ (doseIn true (pair 5 (pos 0) (pos 2)) (atPosition (at-x 128)) gives pos 1 ∷ pos 1 ∷ [])
     ∷ []
 
+-- ---- pooling
+
+-- into a slice of `room` numbers
+unfoldable pub poolInto : ℕ → Measurement → Measurement → Outcome (List ℤ)
+poolInto room a b = first (poolOutcome a b room) (done (pooledSamples a b))
+
+-- three samples of a line
+abbrev pub weighed : ℤ → ℤ → ℤ → ℕ → Measurement
+weighed x y z weight = measured (full threeNodes) (x ∷ y ∷ z ∷ []) weight
+
+-- a shape and a weight, without samples
+abbrev pub unmeasured : FullShape → ℕ → Measurement
+unmeasured t weight = measured t [] weight
+
+unfoldable pub poolings : List Row
+poolings =
+    -- 1/4, 102 and −3/4; halves go up on both sides of 0; weight 0 gives the other lattice
+    (poolInto 3 (weighed (pos 0) (pos 100) (negsuc 0) 3) (weighed (pos 1) (pos 108) (pos 0) 1) gives pos 0 ∷ pos 102 ∷ negsuc 0 ∷ [])
+    ∷ (poolInto 3 (weighed (pos 0) (pos 100) (negsuc 0) 10000) (weighed (pos 1) (pos 108) (pos 0) 10000)
+    gives pos 1 ∷ pos 104 ∷ pos 0 ∷ [])
+    ∷ (poolInto 3 (weighed (pos 0) (pos 100) (negsuc 0) 0) (weighed (pos 1) (pos 108) (pos 0) 1) gives pos 1 ∷ pos 108 ∷ pos 0 ∷ [])
+    -- 1, 2, 3, 26 of the second shape come before 2, 3, 26 of the first, and before 27
+    ∷ (poolInto 0 (unmeasured (full (shapeOf 1 7 (2 ∷ 1 ∷ 1 ∷ []))) 0) (unmeasured (full (shapeOf 4 3 (2 ∷ 1 ∷ 1 ∷ []))) 0)
+    refusedAs 1 atPlace 0)
+    ∷ (poolInto 0 (unmeasured (full (shapeOf 1 3 (65 ∷ 1 ∷ 1 ∷ []))) 0) (unmeasured (full (shapeOf 1 7 (2 ∷ 1 ∷ 1 ∷ []))) 0)
+    refusedAs 2 atPlace 0)
+    ∷ (poolInto 0 (unmeasured (fullShape plane (8 ∷ 16 ∷ 1 ∷ []) false) 0) (unmeasured (full (shapeOf 2 3 (2 ∷ 65 ∷ 1 ∷ []))) 0)
+    refusedAs 3 atPlace 1)
+    ∷ (poolInto 0 (unmeasured (full plane) 0) (unmeasured (fullShape plane (16 ∷ 8 ∷ 1 ∷ []) false) 0) refusedAs 26 atPlace 1)
+    -- 27 before 28: another degree, step number or edition
+    ∷ (poolInto 0 (unmeasured (full quintic) 0) (unmeasured (full (shapeOf 1 3 (2 ∷ 1 ∷ 1 ∷ []))) 0) refusedAs 27 atPlace 0)
+    ∷ (poolInto 0 (unmeasured (full quintic) 0) (unmeasured (fullShape quintic (128 ∷ 1 ∷ 1 ∷ []) false) 0) refusedAs 27 atPlace 0)
+    ∷ (poolInto 0 (unmeasured (full quintic) 0) (unmeasured (inEdition true quintic) 0) refusedAs 27 atPlace 0)
+    -- 28 before 4: both weights 0, or one above 10,000
+    ∷ (poolInto 0 (unmeasured (full quintic) 0) (unmeasured (full quintic) 0) refusedAs 28 atPlace 0)
+    ∷ (poolInto 0 (unmeasured (full quintic) 10001) (unmeasured (full quintic) 0) refusedAs 28 atPlace 0)
+    -- 4 of both before 9, 9 before 5, 5 of the first lattice before the second
+    ∷ (poolInto 0 (weighed (pos 0) (pos 0) (pos 32769) 1) (unmeasured (full threeNodes) 0) refusedAs 4 atPlace 0)
+    ∷ (poolInto 2 (weighed (pos 0) (pos 0) (pos 32769) 1) (weighed (pos 0) (negsuc 32768) (pos 0) 0) refusedAs 9 atPlace 0)
+    ∷ (poolInto 3 (weighed (pos 0) (pos 0) (pos 32769) 1) (weighed (pos 0) (negsuc 32768) (pos 0) 0) refusedAs 5 atPlace 2)
+    ∷ (poolInto 3 (weighed (pos 0) (pos 0) (pos 32768) 1) (weighed (pos 0) (negsuc 32768) (pos 0) 0) refusedAs 5 atPlace 1)
+    ∷ []
+
 unfoldable pub pins : List Row
-pins = refusals ++ positions ++ readings ++ numbers ++ editions ++ stepNumbers ++ marks
+pins = refusals ++ positions ++ readings ++ numbers ++ editions ++ stepNumbers ++ marks ++ poolings

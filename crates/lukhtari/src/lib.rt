@@ -3,6 +3,7 @@ pub mod conversion;
 pub mod estimation;
 pub mod files;
 pub mod float_queries;
+pub mod pooling;
 pub mod ramps;
 pub mod text;
 pub mod whole_queries;

@@ -20,7 +20,7 @@ static lukhtari_position position;
 static lukhtari_float_position float_position;
 static lukhtari_index cell, u, counts, steps;
 static uint32_t slope_axis;
-static int32_t samples[NODES], records[NODES * LUKHTARI_RECORD_ENTRIES_MAX];
+static int32_t samples[NODES], pooled[NODES], records[NODES * LUKHTARI_RECORD_ENTRIES_MAX];
 static int32_t coefficients[LUKHTARI_COEFFICIENTS_MAX], corners[LUKHTARI_COEFFICIENTS_MAX];
 static uint8_t file[LUKHTARI_FILE_BYTES(3, NODES, true)];
 static char text[NODES * (LUKHTARI_TOKEN_BYTES_MAX + 2)];
@@ -95,6 +95,11 @@ static void ramp(void) {
                  .number;
 }
 
+static void pool(void) {
+    number = lukhtari_pool(shape, samples, nodes, 7, shape, samples, nodes, 3, pooled, nodes)
+                 .number;
+}
+
 enum {
     ESTIMATE,
     COEFFICIENTS,
@@ -112,6 +117,7 @@ enum {
     READ,
     IMPORT,
     RAMP,
+    POOL,
     CALLS
 };
 
@@ -136,6 +142,7 @@ static const struct {
     {"read", read_file, LUKHTARI_STACK_FILE},
     {"import", import, LUKHTARI_STACK_IMPORT},
     {"ramp", ramp, LUKHTARI_STACK_RAMP},
+    {"pool", pool, LUKHTARI_STACK_POOL},
 };
 
 static size_t most[CALLS];
@@ -252,6 +259,7 @@ static int measure_table(uint32_t axes, uint32_t degree, uint32_t fine, bool sec
     samples[nodes - 1] = LUKHTARI_SAMPLE_LIMIT + 1;
     right &= measure(ESTIMATE, LUKHTARI_REFUSED_BEYOND_ESTIMATE_LIMIT);
     right &= measure(WRITE, LUKHTARI_REFUSED_BEYOND_LIMIT);
+    right &= measure(POOL, LUKHTARI_REFUSED_BEYOND_LIMIT);
     return right;
 }
 

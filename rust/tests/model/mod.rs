@@ -12,6 +12,7 @@ pub mod file;
 pub mod float;
 pub mod int;
 pub mod listing;
+pub mod pool;
 pub mod powers;
 pub mod program;
 pub mod query;

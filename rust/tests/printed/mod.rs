@@ -5,7 +5,7 @@ use crate::files::words;
 use crate::model::query::Where::{self, Cell, Position};
 use crate::model::{Answer, Want};
 use crate::queries::{call, run};
-use lukhtari::{coefficients, corners, estimate, read, write, Refusal, Shape};
+use lukhtari::{coefficients, corners, estimate, pool, read, write, Measurement, Refusal, Shape};
 
 pub const ORIGIN: [u32; 3] = [0; 3];
 pub const START: Where = Position([0; 3]);
@@ -46,6 +46,10 @@ pub fn forward(shape: Shape, records: &[i32], cell: [u32; 3], room: usize) -> An
 pub fn back(axes: u32, degree: u32, numbers: &[i32], room: usize) -> Answer<Vec<i32>> {
     let call = |out: &mut [i32]| corners(axes, degree, numbers, out);
     filled(room, cube(axes, degree, 2).entries(), call)
+}
+
+pub fn pooled(a: Measurement, b: Measurement, room: usize) -> Answer<Vec<i32>> {
+    filled(room, a.samples.len(), |out: &mut [i32]| pool(a, b, out))
 }
 
 pub fn written(shape: Shape, samples: &[i32], room: usize) -> Answer<usize> {

@@ -1,0 +1,3 @@
+-- Reading order: Pool, Parts.
+pub mod Pool
+pub mod Parts
