@@ -4,7 +4,8 @@
  * lukhtari_estimate makes each node's record from the samples; doses and slopes are then asked for
  * by table position, by cell or by float, doses also by a list of positions, a ramp, and curvatures
  * of quintic tables by table position or by cell. A cell's polynomial is given by its coefficients,
- * of two-axis cubic tables also by those of powers of x and y.
+ * of two-axis cubic tables also by those of powers of x and y. The integral of the dose over a cell
+ * or over a box of cells is its total.
  *
  * Nodes, cells and positions. Axes are x, y, z in this order, numbered 0, 1, 2; a shape uses the
  * first 1, 2 or 3. With cx and cy the node counts of x and y, node (i, j, k) has number
@@ -41,6 +42,12 @@
  * alike. lukhtari_powers exports them, each times 4, so that it is whole: the number at index
  * i + 4 * j is that of x^i * y^j, i and j from 0 to 3, and lies within +-10616832.
  *
+ * Totals. The integral of the exact dose over a cell, which has the length 1 along each axis, is a
+ * sum of its coefficients times 3, 1, 1, 3 along each axis, over 24^axes, for degree 3, and times
+ * 10, 2, 1, 1, 2, 10, over 120^axes, for degree 5. lukhtari_cell_total gives the numerator, which
+ * is exact. A box is the cells from a first to a last index on each axis, and its total is the sum
+ * of theirs. A box cut by a plane between cells has the sum of its two parts.
+ *
  * Answers. A dose is in units, a slope, its derivative along an axis, in units per cell, a
  * curvature, the second derivative along an axis, in units per cell squared. Quintic tables alone
  * have curvatures: cubic ones are not smooth to the second derivative. Axes are worked off one by
@@ -54,12 +61,14 @@
  *
  * Step numbers. An answer at step u of an axis with step number N is the one at step u * 256 / N
  * where the axis has 256, the mark included; on a coarser axis fewer points can be asked for. The
- * distances hold for every choice. Records, coefficients, samples and files do not depend on it.
+ * distances hold for every choice. Records, coefficients, totals, samples and files do not depend
+ * on it.
  *
  * Editions. A table is of edition one or of edition two, which is a part of its shape. In edition
  * one every stage rounds halves up, in edition two to the even number. Nothing else depends on it:
- * not the estimates, coefficients and positions, not the step of a float and not pooled samples,
- * whose halves go up, and no refusal but those of the file and 27. The distances hold for both.
+ * not the estimates, coefficients, totals and positions, not the step of a float and not pooled
+ * samples, whose halves go up, and no refusal but those of the file and 27. The distances hold for
+ * both.
  *
  * The mark. A dose by position or by cell is marked, exact is true, if and only if no stage dropped
  * anything: each number that a stage makes, also one that a later stage gives the weight 0, is a
@@ -111,8 +120,8 @@
  *
  * Results. Every result has a number and a place. Number 0 means not refused, and then place is 0.
  * Any other number is a refusal, one of enum lukhtari_refusal: no buffer is written, value, axes,
- * counts, steps, length and fetches are 0, and exact and second_edition are false. Place is the
- * first offending index as said there, else 0. A buffer longer than needed keeps its tail.
+ * counts, steps, length, fetches and numerator are 0, and exact and second_edition are false. Place
+ * is the first offending index as said there, else 0. A buffer longer than needed keeps its tail.
  *
  * Refusals come before reading. Every call but lukhtari_read, lukhtari_import and lukhtari_ramp
  * gives each refusal but 5, 13 and 19 by the numbers and lengths handed over, before it reads an
@@ -140,7 +149,7 @@ extern "C" {
 #endif
 
 /* The number of this interface; another number means other structs, calls or names. */
-#define LUKHTARI_INTERFACE 10
+#define LUKHTARI_INTERFACE 11
 
 /* Least and largest step number of a used axis; 32, 64 and 128 are the others. */
 #define LUKHTARI_STEPS_MIN 16
@@ -161,6 +170,9 @@ extern "C" {
 /* The numbers of an export of power coefficients, and the largest size of such a number. */
 #define LUKHTARI_POWER_COEFFICIENTS 16
 #define LUKHTARI_POWER_COEFFICIENT_LIMIT 10616832
+
+/* Totals are not larger than this in size. */
+#define LUKHTARI_TOTAL_LIMIT 1152921504606846976
 
 /* Doses, slopes and curvatures are smaller than this in size. */
 #define LUKHTARI_ANSWER_LIMIT 16777216
@@ -193,9 +205,14 @@ extern "C" {
 #define LUKHTARI_FILE_BYTES(axes, nodes, second_edition)                                           \
     (4 * (2 + (size_t)(axes) + (size_t)(nodes) + ((second_edition) ? 2 : 0)))
 
+/* The divisor of the totals of a table: a signed number, as they are. */
+#define LUKHTARI_TOTAL_DIVISOR(axes, degree)                                                       \
+    ((int64_t)LUKHTARI_POWER((degree) == 3 ? 24 : 120, axes))
+
 /* Bytes of stack, at most: of lukhtari_estimate; of lukhtari_coefficients, lukhtari_corners and
  * lukhtari_powers; of each dose, slope and curvature; of lukhtari_read and lukhtari_write; of
- * lukhtari_import; of lukhtari_ramp; of lukhtari_pool. */
+ * lukhtari_import; of lukhtari_ramp; of lukhtari_pool; of lukhtari_cell_total and
+ * lukhtari_box_total. */
 #define LUKHTARI_STACK_ESTIMATE 8192
 #define LUKHTARI_STACK_CONVERSION 4096
 #define LUKHTARI_STACK_QUERY 2048
@@ -203,6 +220,7 @@ extern "C" {
 #define LUKHTARI_STACK_IMPORT 1024
 #define LUKHTARI_STACK_RAMP 9216
 #define LUKHTARI_STACK_POOL 1024
+#define LUKHTARI_STACK_TOTAL 2048
 
 /* The numbers of refusals. */
 enum lukhtari_refusal {
@@ -219,8 +237,9 @@ enum lukhtari_refusal {
     LUKHTARI_REFUSED_LENGTH = 4,
     /* A sample of a file, of a text or to be pooled, or an entry, is beyond its limit; place: its
      * index in the slice.
-     * Queries, lukhtari_coefficients and lukhtari_powers look at the corner records of their cell
-     * alone, in corner order. For lukhtari_ramp the place is the index of the position in the
+     * Queries, lukhtari_coefficients, lukhtari_powers and lukhtari_cell_total look at the corner
+     * records of their cell alone, in corner order, lukhtari_box_total at the records of all nodes
+     * of its cells, by index. For lukhtari_ramp the place is the index of the position in the
      * list. */
     LUKHTARI_REFUSED_BEYOND_LIMIT = 5,
     /* The file's bytes end early, also within a third section; place: the number of bytes lent. */
@@ -274,7 +293,10 @@ enum lukhtari_refusal {
     /* The shapes of two lattices that are to be pooled differ, be it in their degree or edition. */
     LUKHTARI_REFUSED_SHAPES_DIFFER = 27,
     /* A weight is above LUKHTARI_WEIGHT_MAX, or both weights are 0. */
-    LUKHTARI_REFUSED_WEIGHTS = 28
+    LUKHTARI_REFUSED_WEIGHTS = 28,
+    /* A box of cells has a first index above its last on an axis, or a last index above the axis's
+     * node count less 2, above 0 on an unused axis; place: the axis. */
+    LUKHTARI_REFUSED_BOX = 29
 };
 
 /* A table's number of axes (1 to 3), degree (3 or 5), node counts, 2 to 64 on each used axis and 1
@@ -358,6 +380,13 @@ typedef struct lukhtari_ramped {
     uint64_t fetches;
 } lukhtari_ramped;
 
+/* A total: the numerator over LUKHTARI_TOTAL_DIVISOR. */
+typedef struct lukhtari_total {
+    uint32_t number;
+    uint64_t place;
+    int64_t numerator;
+} lukhtari_total;
+
 /* The structs are laid out as the archive was built for. */
 #if defined(__cplusplus) && __cplusplus >= 201103L
 #define LUKHTARI_SIZE(type, size) static_assert(sizeof(type) == (size), #type)
@@ -377,6 +406,7 @@ LUKHTARI_SIZE(lukhtari_real, 24);
 LUKHTARI_SIZE(lukhtari_table, 48);
 LUKHTARI_SIZE(lukhtari_written, 24);
 LUKHTARI_SIZE(lukhtari_ramped, 24);
+LUKHTARI_SIZE(lukhtari_total, 24);
 #undef LUKHTARI_SIZE
 #endif
 
@@ -491,6 +521,17 @@ lukhtari_done lukhtari_pool(lukhtari_shape shape_a, const int32_t *samples_a, si
 lukhtari_ramped lukhtari_ramp(lukhtari_shape shape, const int32_t *records, size_t records_len,
                               const int32_t *positions, size_t positions_len, int32_t *answers,
                               size_t answers_len);
+
+/* The integral of the dose over a cell: the numerator over LUKHTARI_TOTAL_DIVISOR(axes, degree).
+ * Refusals in order: 1, 2, 3, 26, 4, 14 (each axis), 5 (the cell's corners in order). */
+lukhtari_total lukhtari_cell_total(lukhtari_shape shape, const int32_t *records,
+                                   size_t records_len, lukhtari_index cell);
+
+/* The sum of the totals of the cells from index first to index last on each axis.
+ * Refusals in order: 1, 2, 3, 26, 4, 29 (each axis), 5 (the records of all nodes of these cells, by
+ * index). */
+lukhtari_total lukhtari_box_total(lukhtari_shape shape, const int32_t *records, size_t records_len,
+                                  lukhtari_index first, lukhtari_index last);
 
 #ifdef __cplusplus
 }

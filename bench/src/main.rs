@@ -1,7 +1,7 @@
 //! The library's calls beside hand-written Rust and C of the same whole calls, the published method
 //! in f64, and LittleCMS where it is installed. All times are of one run, in nanoseconds a call, of
-//! import a byte, of pooling a sample, of ramps a dose; in brackets is the library's time divided by
-//! the other's. The tables are those of `docs/SPEED.md`.
+//! import a byte, of pooling a sample, of ramps a dose, of totals a cell; in brackets is the
+//! library's time divided by the other's. The tables are those of `docs/SPEED.md`.
 //!
 //! Doses, slopes and curvatures by hand are of two kinds: specialised, with one copy of the code
 //! for each degree, number of axes, axis worked off last and edition; and plain, with one copy for
@@ -25,17 +25,19 @@ mod queries;
 mod ramps;
 mod report;
 mod steps;
+mod totals;
 
 use std::env;
 
 // All parts, or those named by the arguments.
 fn main() {
-    let parts: [(&str, fn()); 12] = [
+    let parts: [(&str, fn()); 13] = [
         ("import", import::run),
         ("pooling", pooling::run),
         ("estimation", estimation::run),
         ("conversion", conversion::run),
         ("powers", powers::run),
+        ("totals", totals::run),
         ("queries", queries::run),
         ("editions", editions::run),
         ("steps", steps::run),

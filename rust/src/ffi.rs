@@ -140,6 +140,18 @@ pub struct Ramped {
     pub fetches: u64,
 }
 
+/// Total of a cell or of a box of cells, or a refusal.
+#[repr(C)]
+#[derive(Clone, Copy, Debug, PartialEq, Eq)]
+pub struct Total {
+    /// 0, or the number of the refusal
+    pub number: u32,
+    /// Place of the refusal, else 0
+    pub place: u64,
+    /// Over 24^axes for degree 3 and over 120^axes for degree 5, 0 where refused
+    pub numerator: i64,
+}
+
 // estimate
 extern "C" {
     /// Writes the records of all nodes: see [`estimate`](crate::estimate).
@@ -399,4 +411,32 @@ extern "C" {
         answers: *mut i32,
         answers_len: usize,
     ) -> Ramped;
+}
+
+// totals
+extern "C" {
+    /// Total of a cell: see [`cell_total`](crate::cell_total).
+    ///
+    /// # Safety
+    ///
+    /// The slice `records` is lent as the [module](self) says.
+    pub fn lukhtari_cell_total(
+        shape: Shape,
+        records: *const i32,
+        records_len: usize,
+        cell: Index,
+    ) -> Total;
+
+    /// Total of a box of cells: see [`box_total`](crate::box_total).
+    ///
+    /// # Safety
+    ///
+    /// The slice `records` is lent as the [module](self) says.
+    pub fn lukhtari_box_total(
+        shape: Shape,
+        records: *const i32,
+        records_len: usize,
+        first: Index,
+        last: Index,
+    ) -> Total;
 }

@@ -5,9 +5,10 @@
 //! samples; doses and slopes are then asked for by table position, by cell or by float, doses also
 //! by a list of positions, and curvatures of quintic tables by table position or by cell. A cell's
 //! polynomial is given by its coefficients, of two-axis cubic tables also by those of powers of x
-//! and y. Every call either answers or gives a [`Refusal`] with its number and place, and a refused
-//! call leaves every lent buffer as it was. All calls are made by the static library
-//! `liblukhtari.a`; the crate uses neither `std` nor other crates.
+//! and y. The integral of the dose over a cell or over a box of cells is its total. Every call
+//! either answers or gives a [`Refusal`] with its number and place, and a refused call leaves every
+//! lent buffer as it was. All calls are made by the static library `liblukhtari.a`; the crate uses
+//! neither `std` nor other crates.
 //!
 //! Samples, records and coefficients stand in slices with x fastest. A position counts so many steps
 //! for each cell as the shape says of the axis: 16, 32, 64, 128 or 256, its step number. Arrays of
@@ -47,6 +48,9 @@ pub use whole::{curvature, curvature_in_cell, dose, dose_in_cell, slope, slope_i
 
 mod ramp;
 pub use ramp::ramp;
+
+mod totals;
+pub use totals::{box_total, cell_total};
 
 mod real;
 pub use real::{dose_float, slope_float};

@@ -1,7 +1,7 @@
 //! Limits of tables and the largest sizes of buffers, as `lukhtari.h` has them.
 
 /// Number of the C interface; another number means other structs, calls or names.
-pub const INTERFACE: u32 = 10;
+pub const INTERFACE: u32 = 11;
 
 /// Least step number of a used axis; 32, 64 and 128 are between it and the largest.
 pub const STEPS_MIN: u32 = 16;
@@ -51,6 +51,22 @@ pub const POWER_COEFFICIENTS: usize = 16;
 /// Largest size of such a number, which is 4 times a coefficient.
 pub const POWER_COEFFICIENT_LIMIT: i32 = 10_616_832;
 
+/// Divisor of the total of a cell or of a box of cells: 24 to the power of `axes` for degree 3, 120
+/// for degree 5.
+///
+/// ```
+/// use lukhtari::limits::total_divisor;
+/// assert_eq!(total_divisor(2, 3), 576);
+/// assert_eq!(total_divisor(3, 5), 1_728_000);
+/// ```
+pub const fn total_divisor(axes: u32, degree: u32) -> i64 {
+    let one: i64 = if degree == 3 { 24 } else { 120 };
+    one.saturating_pow(axes)
+}
+
+/// Totals are not larger than this in size.
+pub const TOTAL_LIMIT: i64 = 1 << 60;
+
 /// Doses, slopes and curvatures are smaller than this in size.
 pub const ANSWER_LIMIT: i32 = 1 << 24;
 
@@ -95,3 +111,6 @@ pub const STACK_RAMP: usize = 9216;
 
 /// Most bytes of stack that pooling uses.
 pub const STACK_POOL: usize = 1024;
+
+/// Most bytes of stack that a total uses.
+pub const STACK_TOTAL: usize = 2048;

@@ -13,7 +13,7 @@ use core::fmt;
 /// ```
 #[derive(Clone, Copy, Debug, PartialEq, Eq)]
 pub struct Refusal {
-    /// 1 to 26, the constants below
+    /// 1 to 29, the constants below
     pub number: u32,
     /// An index counted from 0, and 0 where the reason names none; of 5, 11, 22 and 23 of a ramp the
     /// index of the position in the list
@@ -80,6 +80,9 @@ impl Refusal {
     pub const SHAPES_DIFFER: u32 = 27;
     /// A weight is above 10,000, or both are 0.
     pub const WEIGHTS: u32 = 28;
+    /// A box of cells has a first index above its last, or a last index outside the table; the place
+    /// is the axis.
+    pub const BOX: u32 = 29;
 }
 
 impl fmt::Display for Refusal {
@@ -147,6 +150,10 @@ impl fmt::Display for Refusal {
             Self::STEP_NUMBER => write!(f, "the step number of axis {place} is not allowed"),
             Self::SHAPES_DIFFER => write!(f, "the shapes of the two lattices differ"),
             Self::WEIGHTS => write!(f, "a weight is above 10,000, or both weights are 0"),
+            Self::BOX => write!(
+                f,
+                "the box on axis {place} ends outside the table or before it starts"
+            ),
             _ => write!(f, "unknown reason"),
         }
     }

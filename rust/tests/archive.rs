@@ -46,5 +46,6 @@ fn calls_keep_to_their_stack() {
     assert_eq!(most[4..12], [limits::STACK_QUERY; 8]);
     assert_eq!(most[12..14], [limits::STACK_FILE; 2]);
     assert_eq!(most[14..16], [limits::STACK_IMPORT, limits::STACK_RAMP]);
-    assert_eq!(most[16..], [limits::STACK_POOL]);
+    assert_eq!(most[16..17], [limits::STACK_POOL]);
+    assert_eq!(most[17..], [limits::STACK_TOTAL; 2]);
 }

@@ -47,6 +47,13 @@ fn powers_example() {
 }
 
 #[test]
+fn totals_example() {
+    let example = c::repository().join("examples/totals.c");
+    let printed = "5000 41.667\n30000 250.000\n55000 458.333\n90000 750.000\n";
+    assert_eq!(c::run("c99", &example), printed);
+}
+
+#[test]
 fn readme_example() {
     let (before, block) = readme_block();
     assert!(before.ends_with(&format!("it prints `{}`.\n", PRINTED.trim_end())));

@@ -24,12 +24,14 @@ fn constants() -> BTreeMap<String, u64> {
     add!(all, "LUKHTARI_", limits, POWER_COEFFICIENTS, POWER_COEFFICIENT_LIMIT);
     add!(all, "LUKHTARI_", limits, STACK_ESTIMATE, STACK_CONVERSION, STACK_QUERY, STACK_FILE);
     add!(all, "LUKHTARI_", limits, STACK_IMPORT, STACK_RAMP, STACK_POOL, WEIGHT_MAX);
+    add!(all, "LUKHTARI_", limits, TOTAL_LIMIT, STACK_TOTAL);
     add!(all, "LUKHTARI_REFUSED_", Refusal, AXES, DEGREE, NODE_COUNT, LENGTH, BEYOND_LIMIT);
     add!(all, "LUKHTARI_REFUSED_", Refusal, FILE_ENDS_EARLY, FILE_LEFT_OVER, FILE_SAMPLE_COUNT);
     add!(all, "LUKHTARI_REFUSED_", Refusal, BUFFER_TOO_SHORT, NOT_FINITE, SLOPE_AXIS);
     add!(all, "LUKHTARI_REFUSED_", Refusal, POSITION_BEYOND, POSITION_BELOW_ZERO);
     add!(all, "LUKHTARI_REFUSED_", Refusal, POSITION_UNUSED_AXIS, POWERS_SHAPE);
     add!(all, "LUKHTARI_REFUSED_", Refusal, FILE_EDITION, STEP_NUMBER, SHAPES_DIFFER, WEIGHTS);
+    add!(all, "LUKHTARI_REFUSED_", Refusal, BOX);
     add!(all, "LUKHTARI_REFUSED_", Refusal, NO_CORNER_RECORDS, CELL, COEFFICIENT_COUNT);
     add!(all, "LUKHTARI_REFUSED_", Refusal, TOKEN_TOO_LONG, TOKEN_GRAMMAR, TOKEN_NOT_WHOLE);
     add!(all, "LUKHTARI_REFUSED_", Refusal, BEYOND_ESTIMATE_LIMIT, RAMP_LENGTH, CURVATURE_DEGREE);
@@ -101,14 +103,14 @@ fn constants_have_the_same_values() {
 }
 
 #[test]
-fn refusals_are_numbered_from_1_to_28() {
+fn refusals_are_numbered_from_1_to_29() {
     let refused = |(name, number): (String, u64)| {
         let refused = name.starts_with("LUKHTARI_REFUSED_");
         refused.then_some(number)
     };
     let mut all: Vec<u64> = constants().into_iter().filter_map(refused).collect();
     all.sort();
-    assert_eq!(all, (1..=28).collect::<Vec<u64>>());
+    assert_eq!(all, (1..=29).collect::<Vec<u64>>());
 }
 
 #[test]
@@ -160,6 +162,28 @@ int main(void) {
     ];
     let last = expected.rchunks(6).next().expect("a shape");
     assert_eq!(last, largest.map(|size| size as u64));
+}
+
+#[test]
+fn divisors_of_totals_are_signed() {
+    let source = "#include \"lukhtari.h\"
+#include <stdio.h>
+int main(void) {
+    for (unsigned kind = 0; kind < 6; kind++) {
+        unsigned n = kind / 2 + 1, d = kind % 2 ? 5 : 3;
+        int64_t less = -2 * LUKHTARI_TOTAL_DIVISOR(n, d);
+        printf(\"%lld %d\\n\", (long long)LUKHTARI_TOTAL_DIVISOR(n, d),
+               less / LUKHTARI_TOTAL_DIVISOR(n, d) == -2);
+    }
+    return 0;
+}
+";
+    let printed = c::run("c99", &c::source("divisors.c", source));
+    let mut expected = Vec::new();
+    for (axes, degree) in [(1, 3), (1, 5), (2, 3), (2, 5), (3, 3), (3, 5)] {
+        expected.extend([limits::total_divisor(axes, degree) as u64, 1]);
+    }
+    assert_eq!(numbers(&printed), expected);
 }
 
 // A source that includes the header twice and uses what it defines.

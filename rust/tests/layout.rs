@@ -62,6 +62,7 @@ fn layouts() -> Layout {
     );
     layout!(all, Written, "lukhtari_written", number, place, length);
     layout!(all, Ramped, "lukhtari_ramped", number, place, fetches);
+    layout!(all, Total, "lukhtari_total", number, place, numerator);
     all
 }
 
@@ -92,12 +93,12 @@ fn rust_name(c: &str) -> String {
 fn header_and_rust_declare_the_same() {
     let (header, rust) = (text("include/lukhtari.h"), text("rust/src/ffi.rs"));
     let (c_structs, rust_structs) = (c_structs(&header), rust_structs(&rust));
-    assert_eq!((c_structs.len(), rust_structs.len()), (11, 11));
+    assert_eq!((c_structs.len(), rust_structs.len()), (12, 12));
     for (name, fields) in &c_structs {
         assert_eq!(rust_structs.get(&rust_name(name)), Some(fields), "{name}");
     }
     let c = c_calls(&header, &c_structs);
-    assert_eq!(c.len(), 17);
+    assert_eq!(c.len(), 19);
     assert_eq!(c, rust_calls(&rust, &rust_structs));
 }
 

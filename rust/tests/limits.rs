@@ -159,6 +159,8 @@ fn coefficients_and_answers() {
             number(exported),
             if other { Refusal::POWERS_SHAPE } else { 0 }
         );
+        let total = cell_total(shape, &records, [0; 3]).expect("permitted records");
+        assert!(total.abs() <= TOTAL_LIMIT);
         let middle = [0, 1, 2].map(|axis| if axis < axes { 128 } else { 0 });
         let dose = dose(shape, &records, middle).expect("an answer");
         assert!(dose.value.abs() < ANSWER_LIMIT);

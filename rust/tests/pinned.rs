@@ -9,7 +9,7 @@ mod queries;
 
 use common::*;
 use files::{words, EXAMPLE, SECTION};
-use lukhtari::{dose_float, read, Measurement, Shape};
+use lukhtari::{box_total, cell_total, dose_float, read, Measurement, Shape};
 use model::query::Where::{Cell, Position};
 use model::Rational;
 use model::Want::{self, Curvature, Dose, Slope};
@@ -419,6 +419,51 @@ fn lattices_of_both_lengths_then_room_then_samples() {
         let said = pooled(measured(line, &samples, 1), measured(line, other, 0), room);
         assert_eq!(said, refused(number, place));
     }
+}
+
+#[test]
+fn totals_of_cells_and_of_a_box() {
+    let (line, records) = (cube(1, 3, 3), [1, 2, 3, 4, 5, 6]);
+    let cell = |x| cell_total(line, &records, [x, 0, 0]);
+    assert_eq!([cell(0), cell(1)], [Ok(46), Ok(94)]);
+    assert_eq!(box_total(line, &records, ORIGIN, [1, 0, 0]), Ok(140));
+    let straight = [0, 200, 100, 200];
+    assert_eq!(
+        box_total(cube(1, 3, 2), &straight, ORIGIN, ORIGIN),
+        Ok(1200)
+    );
+    let curved = [3, 5, 16, 100, -8, 10];
+    assert_eq!(cell_total(cube(1, 5, 2), &curved, ORIGIN), Ok(6284));
+}
+
+#[test]
+fn boxes_after_lengths_and_before_entries() {
+    let plane = cube(2, 3, 2);
+    let beyond = only(16, &[(0, 32769)]);
+    for (records, first, last, number, place) in [
+        (&[][..], [1, 0, 0], ORIGIN, 4, 0),
+        (&beyond, [0, 1, 0], [0, 0, 1], 29, 1),
+        (&beyond, ORIGIN, [0, 1, 1], 29, 1),
+        (&beyond, ORIGIN, [0, 0, 1], 29, 2),
+        (&beyond, ORIGIN, ORIGIN, 5, 0),
+    ] {
+        let said = plain(box_total(plane, records, first, last));
+        assert_eq!(said, refused(number, place), "{first:?} {last:?}");
+    }
+    let said = plain(cell_total(plane, &beyond, [0, 1, 0]));
+    assert_eq!(said, refused(14, 1));
+}
+
+#[test]
+fn place_of_5_in_a_box_is_the_smallest_index() {
+    let sheet = shape(2, 3, [3, 4, 1]);
+    let said = |indices: [usize; 2], first, last| {
+        let records = only(48, &indices.map(|index| (index, 32769)));
+        plain(box_total(sheet, &records, first, last))
+    };
+    assert_eq!(said([12, 8], ORIGIN, [1, 0, 0]), refused(5, 8));
+    assert_eq!(said([0, 32], [1, 1, 0], [1, 1, 0]), refused(5, 32));
+    assert_eq!(said([0, 44], [1, 1, 0], [1, 1, 0]), Ok(0));
 }
 
 #[test]

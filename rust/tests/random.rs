@@ -78,8 +78,9 @@ fn run_table(random: &mut Random, seed: u64, (degree, axes, kind): (u32, u32, Ki
     }
     convert(&query, seed);
     export(random, &query, seed);
+    totals(random, &query, seed);
     along_path(random, &query, seed);
-    queries + 7
+    queries + 9
 }
 
 // Records by the library, or its refusal, equal to the model's.
@@ -239,6 +240,25 @@ fn convert(query: &Query, seed: u64) {
     let entries = corner_entries(shape, [0; 3]);
     let same = |(entry, (index, _)): (&i32, &(usize, i32))| *entry == query.records[*index];
     assert!(back.iter().zip(&entries).all(same), "seed {seed}");
+}
+
+// The totals of any cell and of any box, or their refusals.
+fn totals(random: &mut Random, query: &Query, seed: u64) {
+    let (shape, records) = (query.shape, &query.records);
+    let [mut first, mut last] = [0; 2].map(|_: u32| random.pick(&cells(shape)));
+    if random.chance(4) {
+        last[random.below(3) as usize] += random.below(3) as u32;
+    } else {
+        for axis in 0..3 {
+            (first[axis], last[axis]) = (first[axis].min(last[axis]), first[axis].max(last[axis]));
+        }
+    }
+    let got = plain(cell_total(shape, records, last));
+    let expected = model::totals::cell_total(&plain_shape(shape), records, last);
+    assert_eq!(got, expected, "seed {seed}");
+    let got = plain(box_total(shape, records, first, last));
+    let expected = model::totals::box_total(&plain_shape(shape), records, first, last);
+    assert_eq!(got, expected, "seed {seed}");
 }
 
 // Power coefficients of any cell, or their refusal, in a buffer that may be too short.

@@ -478,7 +478,8 @@ fn records_and_coefficients_do_not_depend_on_them() {
             let mut typed = vec![0; samples.len()];
             import(shape, text.collect::<String>().as_bytes(), &mut typed).expect("samples");
             assert_eq!(typed, samples);
-            (records, numbers, exported)
+            let total = cell_total(shape, &records, cell).expect("a total");
+            (records, numbers, exported, total)
         };
         let expected = whole(fine);
         for steps in choices(axes) {
@@ -545,7 +546,7 @@ fn a_table_that_is_read_has_256_steps() {
 
 // ---- 26
 
-const CALLS: usize = 14;
+const CALLS: usize = 16;
 
 // The outcome of every call that takes a shape or its numbers, with buffers of the right lengths
 // for this shape; a refused call leaves them as they were.
@@ -594,6 +595,8 @@ fn every_call(shape: Shape, lent: &Shape) -> [Answer<()>; CALLS] {
         outcome(&by_float(shape, &records, float, Dose)),
         outcome(&by_float(shape, &records, float, Slope(0))),
         written,
+        outcome(&plain(cell_total(shape, &records, [0; 3]))),
+        outcome(&plain(box_total(shape, &records, [0; 3], [0; 3]))),
     ]
 }
 
@@ -685,6 +688,8 @@ fn all_wrong(shape: Shape) -> Vec<Answer<()>> {
         room: 0,
     };
     all.push(ramps::run(&list));
+    all.push(outcome(&plain(cell_total(shape, &[], [9; 3]))));
+    all.push(outcome(&plain(box_total(shape, &[], [9; 3], [0; 3]))));
     all
 }
 
@@ -692,7 +697,7 @@ fn all_wrong(shape: Shape) -> Vec<Answer<()>> {
 fn directly_after_3_and_before_20_24_and_4() {
     for (axes, degree) in KINDS {
         let right = cube(axes, degree, 3);
-        let mut later = vec![refused(4, 0); 13];
+        let mut later = vec![refused(4, 0); 15];
         if (axes, degree) != (2, 3) {
             later[10] = refused(24, 0);
         }
@@ -701,17 +706,17 @@ fn directly_after_3_and_before_20_24_and_4() {
         for axis in 0..3 {
             let mut steps = right;
             steps.steps[axis] = 0;
-            assert_eq!(all_wrong(steps), [refused(26, axis as u64); 13]);
+            assert_eq!(all_wrong(steps), [refused(26, axis as u64); 15]);
             // The count of a later axis comes before the step number of an earlier one.
             for other in 0..3 {
                 let mut count = steps;
                 count.counts[other] = 65;
-                assert_eq!(all_wrong(count), [refused(3, other as u64); 13]);
+                assert_eq!(all_wrong(count), [refused(3, other as u64); 15]);
             }
             let degree = Shape { degree: 4, ..steps };
-            assert_eq!(all_wrong(degree), [refused(2, 0); 13]);
+            assert_eq!(all_wrong(degree), [refused(2, 0); 15]);
             let axes = Shape { axes: 4, ..steps };
-            assert_eq!(all_wrong(axes), [refused(1, 0); 13]);
+            assert_eq!(all_wrong(axes), [refused(1, 0); 15]);
         }
     }
 }

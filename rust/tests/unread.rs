@@ -46,6 +46,18 @@ fn powers(shape: Shape, records: usize, cell: u32, room: usize) -> u32 {
     unsafe { lukhtari_powers(shape, nowhere(), records, cell, nowhere(), room) }.number
 }
 
+fn total(shape: Shape, records: usize, cell: u32) -> u32 {
+    let cell = Index { at: [cell, 0, 0] };
+    // SAFETY: nothing is read.
+    unsafe { lukhtari_cell_total(shape, nowhere(), records, cell) }.number
+}
+
+fn total_of_box(shape: Shape, records: usize, first: u32, last: u32) -> u32 {
+    let [first, last] = [first, last].map(|at| Index { at: [at, 0, 0] });
+    // SAFETY: nothing is read.
+    unsafe { lukhtari_box_total(shape, nowhere(), records, first, last) }.number
+}
+
 fn corners(axes: u32, degree: u32, coefficients: usize, room: usize) -> u32 {
     // SAFETY: nothing is read or written.
     unsafe { lukhtari_corners(axes, degree, nowhere(), coefficients, nowhere(), room) }.number
@@ -252,6 +264,34 @@ fn conversion() {
 }
 
 #[test]
+fn totals() {
+    for (axes, degree) in KINDS {
+        let shape = cube(axes, degree, 64);
+        let entries = shape.entries();
+        for (records, cell) in [(LONG, 63), (0, 0), (entries, 0)] {
+            let wrong = [
+                (Shape { axes: 0, ..shape }, 1),
+                (Shape { degree: 4, ..shape }, 2),
+                (cube(axes, degree, 65), 3),
+                (in_steps(shape, [0; 3]), 26),
+            ];
+            for (shape, number) in wrong {
+                assert_eq!(total(shape, records, cell), number);
+                assert_eq!(total_of_box(shape, records, cell, cell), number);
+            }
+        }
+        for records in [LONG, entries - 1, entries + 1] {
+            assert_eq!(total(shape, records, 63), 4);
+            assert_eq!(total_of_box(shape, records, 1, 0), 4);
+        }
+        assert_eq!(total(shape, entries, 63), 14);
+        for (first, last) in [(0, 63), (1, 0), (63, 63), (u32::MAX, u32::MAX)] {
+            assert_eq!(total_of_box(shape, entries, first, last), 29);
+        }
+    }
+}
+
+#[test]
 fn power_coefficients() {
     for (axes, degree) in KINDS {
         let shape = cube(axes, degree, 64);
@@ -438,6 +478,14 @@ fn null_with_length_0_for_cells() {
                 lukhtari_powers(shape, r, entries, cell, null_mut(), 0).number,
             ]
         };
+        // SAFETY: the same.
+        let totals = unsafe {
+            [
+                lukhtari_cell_total(shape, null(), 0, cell).number,
+                lukhtari_box_total(shape, null(), 0, cell, cell).number,
+            ]
+        };
+        assert_eq!(totals, [4; 2]);
         let two_axis_cubic = (axes, degree) == (2, 3);
         assert_eq!(exports, if two_axis_cubic { [4, 4, 9] } else { [24; 3] });
     }

@@ -12,3 +12,4 @@ pub mod powers;
 pub mod query;
 pub mod ramp;
 pub mod stages;
+pub mod totals;

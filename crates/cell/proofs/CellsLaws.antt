@@ -25,7 +25,7 @@ counts-between s ok = record { least = ok .low; most = ok .high }
 
 module _ (s : Shape) (ok : Shaped s) where
   -- one along an unused axis, one less than the nodes along a used one
-  along-range : (a : ℕ) → a < 3 → (1 ≤ cellsAlong s a) × (cellsAlong s a ≤ count s a) × (cellsAlong s a ≤ 64)
+  pub along-range : (a : ℕ) → a < 3 → (1 ≤ cellsAlong s a) × (cellsAlong s a ≤ count s a) × (cellsAlong s a ≤ 64)
   unfolding cellsAlong count
   along-range a l =
       on-pick (λ n. (1 ≤ n) × (n ≤ count s a) × (n ≤ 64)) (ltb a (s .axes)) (count s a - 1) 1
@@ -44,11 +44,11 @@ module _ (s : Shape) (ok : Shaped s) where
   cells-few = mul-le-mul (along-range 0 (lit< tt) .1)
       (mul-le-mul (along-range 1 (lit< tt) .1) (mul-le-mul (along-range 2 (lit< tt) .1) (omega arith)))
 
-  cell-digit : (i a : ℕ) → a < 3 → placeAt (cellAt s i) a ≡ digit (cellsAlong s) i a
+  pub cell-digit : (i a : ℕ) → a < 3 → placeAt (cellAt s i) a ≡ digit (cellsAlong s) i a
   unfolding placeAt cellAt
   cell-digit i a l = pick-true (ltb a 3) _ _ (lt-ltb a 3 l) ∙ getD-tabulate 3 (digit (cellsAlong s) i) a 0 l
 
-  cell-below : (i a : ℕ) → a < 3 → placeAt (cellAt s i) a < cellsAlong s a
+  pub cell-below : (i a : ℕ) → a < 3 → placeAt (cellAt s i) a < cellsAlong s a
   cell-below i a l = let e = cell-digit i a l in let k = digit-below (cellsAlong s) i a (along-range a l .0) in omega arith
 
   pub used-along : (a : ℕ) → a < s .axes → cellsAlong s a ≡ count s a - 1

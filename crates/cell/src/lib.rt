@@ -173,7 +173,7 @@ fn beyond(x: i32, limit: i32) -> bool
 }
 
 // The limit test of the record that starts at `start`.
-fn check_record(limits: &[i32; 27], n: usize, records: &[i32], start: usize) -> Check
+pub fn check_record(limits: &[i32; 27], n: usize, records: &[i32], start: usize) -> Check
     requires { ⌜ (n ≤ 27) × (start + n ≤ length (now records)) × Limits n (now limits) ⌝ }
     ensures { λ r. ⌜ outcomeOf r ≡ recordOutcome (limitIn (now (limits .entry))) n (now (records .entry)) start ⌝ }
 {

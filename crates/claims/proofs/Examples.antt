@@ -20,6 +20,7 @@ use Rattle.cell.specs.Coefficients.{coefficients}
 use Rattle.cell.specs.Corners.{cornerNumbers}
 use Rattle.table_file.specs.Numbers.{numberAt, bytesOf, bytesOfAll, signedOf}
 use Rattle.table_file.specs.File.{sectionOne, sectionTwo, sectionThree, fileOf, complete, countIn, nodesIn, samplesIn, startOfThree, secondIn, countOutcome, oneOutcome, twoOutcome, nothingAfter, threeOutcome, readCheck}
+use Rattle.totals.specs.Totals.{totalMultiplier, cellNumerator, overCells, boxNumerator, tableOutcome, cellTotal, boxOutcome, inBox, recordsOutcome, boxTotal}
 use Rattle.pool.specs.Pool.{pooled, shapesOutcome, alike, sameShape, weightsAllowed, lengthOutcome, poolOutcome, pooledSamples}
 use Rattle.estimate.specs.Estimate.{left, right, byOrder, estimate, records, tableRecords, recordsOf, estimateLimit, estimateOutcome, estimateWrites}
 use Rattle.coefficients.specs.Coefficients.{requestOutcome, coefficientList, coefficientsOutcome}
@@ -31,13 +32,14 @@ use Rattle.float_query.specs.Floats.{floatsAt, floatSteps, stepsOf, floatOutcom
 use Rattle.claims.specs.Third.{atPosition, queried, pointOf, cellRead, stepRead, bothCalls, _over_, allowedDistance, WithinDistance}
 use Rattle.claims.specs.Examples.{Row, full, recordsFrom, coefficientsOf, coefficientsFrom, backInto, firstStage, exactly, answerIn, table, AllRows}
 use Rattle.claims.specs.Marks.{markOf}
-use Rattle.claims.specs.Pinned.{answerFrom, doseIn, doseWith, notZero, sparse, among, numbered, limits, leftOver, distances, only, flat, fileWith, poolInto, refusals, positions, readings, numbers, editions, stepNumbers, marks, poolings, pins}
+use Rattle.claims.specs.Pinned.{answerFrom, doseIn, doseWith, notZero, sparse, among, numbered, limits, leftOver, distances, only, flat, fileWith, poolInto, totalOfCell, totalOfBox, refusals, positions, readings, numbers, editions, stepNumbers, marks, poolings, totals, pins}
 use Rattle.claims.specs.Straight.{valueOf, valueAt, wantedOf, Straight, saddle, saddleTable, inSaddle, saddleRows}
 use Rattle.claims.proofs.Straight.{nearly-straight}
 
 -- all definitions that the rows compute with, opened together
 opened : Unit {0}
-unfolding poolInto pooledSamples pooled poolOutcome lengthOutcome weightsAllowed sameShape alike shapesOutcome
+unfolding totalOfCell totalOfBox boxTotal recordsOutcome inBox boxOutcome cellTotal tableOutcome boxNumerator overCells cellNumerator
+    totalMultiplier poolInto pooledSamples pooled poolOutcome lengthOutcome weightsAllowed sameShape alike shapesOutcome
     doseWith doseIn markOf positionMark cellMark exactBy clean divides all
     answerFrom notZero sparse among numbered limits leftOver distances only flat fileWith allowedDistance readCheck threeOutcome
     nothingAfter twoOutcome oneOutcome countOutcome secondIn startOfThree samplesIn nodesIn countIn complete fileOf sectionThree sectionTwo
@@ -93,16 +95,21 @@ of-poolings : AllRows poolings
 unfolding opened poolings
 of-poolings = refl
 
+of-totals : AllRows totals
+unfolding opened totals
+of-totals = refl
+
 pub pinned : AllRows pins
 unfolding pins
 pinned =
-    joined (refusals ++ positions ++ readings ++ numbers ++ editions ++ stepNumbers ++ marks) poolings
+    joined (refusals ++ positions ++ readings ++ numbers ++ editions ++ stepNumbers ++ marks ++ poolings) totals
+    (joined (refusals ++ positions ++ readings ++ numbers ++ editions ++ stepNumbers ++ marks) poolings
     (joined (refusals ++ positions ++ readings ++ numbers ++ editions ++ stepNumbers) marks
     (joined (refusals ++ positions ++ readings ++ numbers ++ editions) stepNumbers
     (joined (refusals ++ positions ++ readings ++ numbers) editions
     (joined (refusals ++ positions ++ readings) numbers
     (joined (refusals ++ positions) readings (joined refusals positions of-refusals of-positions) of-readings) of-numbers) of-editions)
-    of-step-numbers) of-marks) of-poolings
+    of-step-numbers) of-marks) of-poolings) of-totals
   where
     joined : (xs ys : List Row) → AllRows xs → AllRows ys → AllRows (xs ++ ys)
     joined xs ys e f = map-append (λ (r : Row). r .computed) xs ys ∙ ap₂ _++_ e f ∙ sym (map-append (λ (r : Row). r .printed) xs ys)

@@ -1,7 +1,7 @@
 -- Further rows: where a theorem would hold of more than one reading of document 01, a computed row fixes the reading.
 -- Refusal numbers, places and order, those of a position apart; borders; the order of nodes, entries, coefficients and corners on two and
 -- three axes; limits; the order of the stages; the cell of a shared node; curvatures; the distances; the rounding of both editions;
--- step numbers; the mark; pooling.
+-- step numbers; the mark; pooling; totals.
 use mathlib.Core.Bool.{Bool, true, false}
 use mathlib.Core.List.{List, [], _∷_, _++_}
 use Prim.Native.Nat.{ℕ, suc, _+_, _*_, _-_}
@@ -20,6 +20,8 @@ use Rattle.lattice.specs.Records.{entryLimit}
 use Rattle.pool.specs.Pool.{Measurement, measured, poolOutcome, pooledSamples}
 use Rattle.estimate.specs.Estimate.{tableRecords, recordsOf, estimateOutcome}
 use Rattle.evaluate.specs.Evaluate.{Want, dose, slopeAlong, curvatureAlong, orderWanted, exactSum, exactDivisor}
+use Rattle.cell.specs.Cell.{placeAt}
+use Rattle.totals.specs.Totals.{cellTotal, boxTotal}
 use Rattle.table_file.specs.File.{readCheck, fileOf, fileHeader}
 use Rattle.float_query.specs.Floats.{floatsAt}
 use Rattle.claims.specs.Third.{Query, atPosition, inCell, atFloats, queried, allowedDistance, asked}
@@ -368,5 +370,41 @@ poolings =
     ∷ (poolInto 3 (weighed (pos 0) (pos 0) (pos 32768) 1) (weighed (pos 0) (negsuc 32768) (pos 0) 0) refusedAs 5 atPlace 1)
     ∷ []
 
+-- ---- totals
+
+-- of a cell, from records
+unfoldable pub totalOfCell : Shape → List ℤ → List ℕ → Outcome (List ℤ)
+totalOfCell s rs cell = listed (cellTotal (full s) rs (placeAt cell))
+
+-- of a box of cells, from records
+unfoldable pub totalOfBox : Shape → List ℤ → List ℕ → List ℕ → Outcome (List ℤ)
+totalOfBox s rs from to = listed (boxTotal (full s) rs (placeAt from) (placeAt to))
+
+-- three records of a line
+abbrev pub three : List ℤ
+three = pos 1 ∷ pos 2 ∷ pos 3 ∷ pos 4 ∷ pos 5 ∷ pos 6 ∷ []
+
+unfoldable pub totals : List Row
+totals =
+    -- 0, 100 is 50 over 1; the numbers of both ends of a quintic cell
+    (totalOfBox (shapeOf 1 3 (2 ∷ 1 ∷ 1 ∷ [])) (pos 0 ∷ pos 200 ∷ pos 100 ∷ pos 200 ∷ []) (0 ∷ 0 ∷ 0 ∷ []) (0 ∷ 0 ∷ 0 ∷ [])
+    gives pos 1200 ∷ [])
+    ∷ (totalOfCell quintic curved (0 ∷ 0 ∷ 0 ∷ []) gives pos 6284 ∷ [])
+    -- two cells and their sum
+    ∷ (totalOfCell threeNodes three (0 ∷ 0 ∷ 0 ∷ []) gives pos 46 ∷ [])
+    ∷ (totalOfCell threeNodes three (1 ∷ 0 ∷ 0 ∷ []) gives pos 94 ∷ [])
+    ∷ (totalOfBox threeNodes three (0 ∷ 0 ∷ 0 ∷ []) (1 ∷ 0 ∷ 0 ∷ []) gives pos 140 ∷ [])
+    -- 4 before 29, 29 before 5: the first index above the last, the last above count − 2, or above 0 on an unused axis; 14 for a cell
+    ∷ (totalOfBox plane [] (1 ∷ 0 ∷ 0 ∷ []) (0 ∷ 0 ∷ 0 ∷ []) refusedAs 4 atPlace 0)
+    ∷ (totalOfBox plane beyondLimit (0 ∷ 1 ∷ 0 ∷ []) (0 ∷ 0 ∷ 1 ∷ []) refusedAs 29 atPlace 1)
+    ∷ (totalOfBox plane beyondLimit (0 ∷ 0 ∷ 0 ∷ []) (0 ∷ 1 ∷ 1 ∷ []) refusedAs 29 atPlace 1)
+    ∷ (totalOfBox plane beyondLimit (0 ∷ 0 ∷ 0 ∷ []) (0 ∷ 0 ∷ 1 ∷ []) refusedAs 29 atPlace 2)
+    ∷ (totalOfCell plane beyondLimit (0 ∷ 1 ∷ 0 ∷ []) refusedAs 14 atPlace 1)
+    -- 5 at the smallest index, not cell by cell, of the nodes up to one above the last cell, and of no other
+    ∷ (totalOfBox sheet (numbered 48 (12 ∷ 32769 ∷ 8 ∷ 32769 ∷ [])) (0 ∷ 0 ∷ 0 ∷ []) (1 ∷ 0 ∷ 0 ∷ []) refusedAs 5 atPlace 8)
+    ∷ (totalOfBox sheet (numbered 48 (0 ∷ 32769 ∷ 32 ∷ 32769 ∷ [])) (1 ∷ 1 ∷ 0 ∷ []) (1 ∷ 1 ∷ 0 ∷ []) refusedAs 5 atPlace 32)
+    ∷ (totalOfBox sheet (numbered 48 (0 ∷ 32769 ∷ 44 ∷ 32769 ∷ [])) (1 ∷ 1 ∷ 0 ∷ []) (1 ∷ 1 ∷ 0 ∷ []) gives pos 0 ∷ [])
+    ∷ []
+
 unfoldable pub pins : List Row
-pins = refusals ++ positions ++ readings ++ numbers ++ editions ++ stepNumbers ++ marks ++ poolings
+pins = refusals ++ positions ++ readings ++ numbers ++ editions ++ stepNumbers ++ marks ++ poolings ++ totals

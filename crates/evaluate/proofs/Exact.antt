@@ -37,7 +37,7 @@ module _ (w : ℕ) (W : ℕ → ℕ → ℤ) where
           ∙ sum-right w (λ t. X (put b t p) *ℤ W b t) (v (p a))
 
   -- to sum with the products of weights is to weigh axis after axis
-  weigh-each : (ls : List ℕ) → Distinct ls → (C : Field) → sumOver ls w (λ i. C i *ℤ product ls (λ a. W a (i a))) ≡ sweep ls weighs C
+  pub weigh-each : (ls : List ℕ) → Distinct ls → (C : Field) → sumOver ls w (λ i. C i *ℤ product ls (λ a. W a (i a))) ≡ sweep ls weighs C
   unfolding sumOver sweep product
   weigh-each [] d C = fun-ext (λ i. *ℤ-pos-one (C i))
   weigh-each (a ∷ ls) d C =

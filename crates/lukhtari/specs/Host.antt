@@ -14,6 +14,7 @@ use Rattle.lukhtari.specs.declared.Marked.{Marked}
 use Rattle.lukhtari.specs.declared.Real.{Real}
 use Rattle.lukhtari.specs.declared.Table.{Table}
 use Rattle.lukhtari.specs.declared.Ramped.{Ramped}
+use Rattle.lukhtari.specs.declared.Total.{Total}
 use Rattle.lukhtari.specs.declared.Written.{Written}
 
 abbrev pub doneOf : Check → Done
@@ -69,6 +70,10 @@ tableFrom (refused n p) = record {
 abbrev pub rampedFrom : Outcome ℕ → Ramped
 rampedFrom (done k) = record { number = 0; place = 0; fetches = k }
 rampedFrom (refused n p) = record { number = n; place = p; fetches = 0 }
+
+abbrev pub totalFrom : Outcome ℤ → Total
+totalFrom (done v) = record { number = 0; place = 0; numerator = v }
+totalFrom (refused n p) = record { number = n; place = p; numerator = pos 0 }
 
 abbrev pub writtenFrom : Outcome ℕ → Written
 writtenFrom (done k) = record { number = 0; place = 0; length = k }

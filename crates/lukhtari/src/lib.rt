@@ -3,6 +3,7 @@ pub mod conversion;
 pub mod estimation;
 pub mod files;
 pub mod float_queries;
+pub mod integrals;
 pub mod pooling;
 pub mod ramps;
 pub mod text;
@@ -66,6 +67,13 @@ pub struct Ramped {
     pub number: u32,
     pub place: usize,
     pub fetches: usize,
+}
+
+#[repr(C)]
+pub struct Total {
+    pub number: u32,
+    pub place: usize,
+    pub numerator: i64,
 }
 
 #[repr(C)]

@@ -18,7 +18,7 @@ static void (*call)(void);
 static lukhtari_shape shape;
 static lukhtari_position position;
 static lukhtari_float_position float_position;
-static lukhtari_index cell, u, counts, steps;
+static lukhtari_index cell, last, u, counts, steps;
 static uint32_t slope_axis;
 static int32_t samples[NODES], pooled[NODES], records[NODES * LUKHTARI_RECORD_ENTRIES_MAX];
 static int32_t coefficients[LUKHTARI_COEFFICIENTS_MAX], corners[LUKHTARI_COEFFICIENTS_MAX];
@@ -100,6 +100,14 @@ static void pool(void) {
                  .number;
 }
 
+static void cell_total(void) {
+    number = lukhtari_cell_total(shape, records, entries, cell).number;
+}
+
+static void box_total(void) {
+    number = lukhtari_box_total(shape, records, entries, cell, last).number;
+}
+
 enum {
     ESTIMATE,
     COEFFICIENTS,
@@ -118,6 +126,8 @@ enum {
     IMPORT,
     RAMP,
     POOL,
+    CELL_TOTAL,
+    BOX_TOTAL,
     CALLS
 };
 
@@ -143,6 +153,8 @@ static const struct {
     {"import", import, LUKHTARI_STACK_IMPORT},
     {"ramp", ramp, LUKHTARI_STACK_RAMP},
     {"pool", pool, LUKHTARI_STACK_POOL},
+    {"cell_total", cell_total, LUKHTARI_STACK_TOTAL},
+    {"box_total", box_total, LUKHTARI_STACK_TOTAL},
 };
 
 static size_t most[CALLS];
@@ -200,6 +212,7 @@ static void prepare(uint32_t axes, uint32_t degree, uint32_t fine, bool second_e
     }
     type("-1.50");
     for (uint32_t axis = 0; axis < axes; axis++) {
+        last.at[axis] = shape.counts[axis] - 2;
         position.at[axis] = (int32_t)(77 * fine / LUKHTARI_STEPS_MAX);
         u.at[axis] = 77 * fine / LUKHTARI_STEPS_MAX;
     }
@@ -243,6 +256,8 @@ static int measure_table(uint32_t axes, uint32_t degree, uint32_t fine, bool sec
     }
     right &= measure(COEFFICIENTS, LUKHTARI_REFUSED_BEYOND_LIMIT);
     right &= measure(RAMP, LUKHTARI_REFUSED_BEYOND_LIMIT);
+    right &= measure(CELL_TOTAL, LUKHTARI_REFUSED_BEYOND_LIMIT);
+    right &= measure(BOX_TOTAL, LUKHTARI_REFUSED_BEYOND_LIMIT);
     coefficients[0] = 1;
     right &= measure(CORNERS, LUKHTARI_REFUSED_NO_CORNER_RECORDS);
     type("1234567890123456789012345678901234567890123456789012345678901234.5");

@@ -142,6 +142,7 @@ fn c_number(name: &str) -> String {
         "uint8_t" => "u8",
         "uint32_t" => "u32",
         "int32_t" => "i32",
+        "int64_t" => "i64",
         "uint64_t" | "size_t" => "u64",
         "float" => "f32",
         other => other,

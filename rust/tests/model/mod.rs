@@ -21,6 +21,7 @@ pub mod rational;
 pub mod shape;
 pub mod stages;
 pub mod text;
+pub mod totals;
 
 pub use rational::Rational;
 pub use shape::{Answer, Refusal, Shape};

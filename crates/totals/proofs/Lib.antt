@@ -1,0 +1,9 @@
+pub mod SumLaws
+pub mod TakenLaws
+pub mod RowLaws
+pub mod BoxLaws
+pub mod AxisLaws
+pub mod NumeratorLaws
+pub mod CallLaws
+pub mod IntegralLaws
+pub mod Theorems
