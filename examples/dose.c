@@ -17,12 +17,13 @@ int main(void) {
     int32_t samples[2] = {0, 100};
     int32_t records[LUKHTARI_ENTRIES(1, 3, 2)];
     size_t entries = sizeof records / sizeof records[0];
-    lukhtari_done done = lukhtari_estimate(shape, samples, 2, records, entries);
+    lukhtari_done done =
+        lukhtari_estimate(LUKHTARI_COLOURIST, shape, samples, 2, records, entries);
     if (done.number != LUKHTARI_NOT_REFUSED) {
         return refused("estimate", done.number, done.place);
     }
     lukhtari_position position = {{128, 0, 0}}; /* 256 steps a cell */
-    lukhtari_marked dose = lukhtari_dose(shape, records, entries, position);
+    lukhtari_marked dose = lukhtari_dose(LUKHTARI_OPERATOR, shape, records, entries, position);
     if (dose.number != LUKHTARI_NOT_REFUSED) {
         return refused("dose", dose.number, dose.place);
     }

@@ -14,7 +14,8 @@ int main(void) {
     int32_t samples[LUKHTARI_NODES(3, 3, 1)];
     size_t nodes = sizeof samples / sizeof samples[0];
     lukhtari_done done =
-        lukhtari_import(shape, (const uint8_t *)text, strlen(text), samples, nodes);
+        lukhtari_import(LUKHTARI_COLOURIST, shape, (const uint8_t *)text, strlen(text), samples,
+                        nodes);
     if (done.number != LUKHTARI_NOT_REFUSED) {
         printf("refused %" PRIu32 ", place %" PRIu64 "\n", done.number, done.place);
         return 1;

@@ -10,14 +10,16 @@ int main(void) {
     int32_t samples[LUKHTARI_NODES(3, 2, 1)] = {0, 100, 400, 0, 100, 200};
     int32_t records[LUKHTARI_ENTRIES(2, 3, LUKHTARI_NODES(3, 2, 1))];
     size_t entries = sizeof records / sizeof records[0];
-    lukhtari_done done = lukhtari_estimate(shape, samples, 6, records, entries);
+    lukhtari_done done =
+        lukhtari_estimate(LUKHTARI_COLOURIST, shape, samples, 6, records, entries);
     if (done.number != LUKHTARI_NOT_REFUSED) {
         printf("estimate refused %" PRIu32 ", place %" PRIu64 "\n", done.number, done.place);
         return 1;
     }
     lukhtari_index cell = {{1, 0, 0}};
     int32_t powers[LUKHTARI_POWER_COEFFICIENTS];
-    done = lukhtari_powers(shape, records, entries, cell, powers, LUKHTARI_POWER_COEFFICIENTS);
+    done = lukhtari_powers(LUKHTARI_SERVICE, shape, records, entries, cell, powers,
+                           LUKHTARI_POWER_COEFFICIENTS);
     if (done.number != LUKHTARI_NOT_REFUSED) {
         printf("powers refused %" PRIu32 ", place %" PRIu64 "\n", done.number, done.place);
         return 1;

@@ -12,7 +12,8 @@ int main(void) {
     int32_t samples[3] = {0, 100, 200};
     int32_t records[LUKHTARI_ENTRIES(1, 3, 3)];
     size_t entries = sizeof records / sizeof records[0];
-    lukhtari_done done = lukhtari_estimate(shape, samples, 3, records, entries);
+    lukhtari_done done =
+        lukhtari_estimate(LUKHTARI_COLOURIST, shape, samples, 3, records, entries);
     if (done.number != LUKHTARI_NOT_REFUSED) {
         printf("estimate refused %" PRIu32 ", place %" PRIu64 "\n", done.number, done.place);
         return 1;
@@ -22,7 +23,8 @@ int main(void) {
                                     256, 0, 0, 384, 0, 0, 512, 0, 0};
     int32_t doses[DOSES];
     lukhtari_ramped ramped =
-        lukhtari_ramp(shape, records, entries, positions, 3 * DOSES, doses, DOSES);
+        lukhtari_ramp(LUKHTARI_OPERATOR, shape, records, entries, positions, 3 * DOSES, doses,
+                      DOSES);
     if (ramped.number != LUKHTARI_NOT_REFUSED) {
         printf("ramp refused %" PRIu32 ", position %" PRIu64 "\n", ramped.number, ramped.place);
         return 1;

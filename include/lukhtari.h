@@ -112,6 +112,14 @@
  * Its exact decimal value, in grams per kilogram, times 100 is the sample: 0.5 and 5e-1 are 50
  * units, -0 and 0e99 are 0. It has to be a whole number; nothing is rounded.
  *
+ * Keys. Every call names a key of enum lukhtari_key as its first parameter. The operator may take
+ * doses and slopes, by position, by cell and by float, and ramps. The colourist may also read and
+ * write files, import, estimate and pool. Service may do everything: coefficients and corner
+ * records, power coefficients, curvatures and totals too. For the same call two keys that both hold
+ * the right get the same result, and the same is written. Without the right a call is refused 30,
+ * place 0, before every other test: nothing is read or written, and the result depends on no other
+ * argument.
+ *
  * Slices. A slice is a pointer and its number of elements. The pointer is aligned and valid for so
  * many elements until the call returns. Slices lent to one call do not overlap where one of them
  * is written. With length 0 the pointer may be NULL: it is not used. Every call but lukhtari_ramp,
@@ -125,11 +133,12 @@
  *
  * Refusals come before reading. Every call but lukhtari_read, lukhtari_import and lukhtari_ramp
  * gives each refusal but 5, 13 and 19 by the numbers and lengths handed over, before it reads an
- * element of a slice. lukhtari_ramp gives 1, 2, 3, 26, 20, 4 and 9 so, and then reads no record
+ * element of a slice. lukhtari_ramp gives 30, 1, 2, 3, 26, 20, 4 and 9 so, and then reads no record
  * beyond those of the cells of its positions, up to the first position that is refused.
- * lukhtari_read reads the numbers before and behind the samples one by one, none beyond the bytes
- * lent, and gives each refusal but 5 before it reads a sample. lukhtari_import gives 1, 2, 3 and 26
- * before it reads a byte of the text. Neither reads the slice that it fills.
+ * lukhtari_read gives 30 before it reads a byte; it reads the numbers before and behind the samples
+ * one by one, none beyond the bytes lent, and gives each refusal but 5 before it reads a sample.
+ * lukhtari_import gives 30, 1, 2, 3 and 26 before it reads a byte of the text. Neither reads the
+ * slice that it fills.
  *
  * Surroundings. The archive is for x86-64 Linux. It needs memcpy and memset and nothing else, uses
  * no heap and has no data that changes: calls may run at the same time, in threads and in signal
@@ -149,7 +158,7 @@ extern "C" {
 #endif
 
 /* The number of this interface; another number means other structs, calls or names. */
-#define LUKHTARI_INTERFACE 11
+#define LUKHTARI_INTERFACE 12
 
 /* Least and largest step number of a used axis; 32, 64 and 128 are the others. */
 #define LUKHTARI_STEPS_MIN 16
@@ -296,7 +305,19 @@ enum lukhtari_refusal {
     LUKHTARI_REFUSED_WEIGHTS = 28,
     /* A box of cells has a first index above its last on an axis, or a last index above the axis's
      * node count less 2, above 0 on an unused axis; place: the axis. */
-    LUKHTARI_REFUSED_BOX = 29
+    LUKHTARI_REFUSED_BOX = 29,
+    /* The key is none of enum lukhtari_key, or lacks the right to make the call. */
+    LUKHTARI_REFUSED_KEY = 30
+};
+
+/* Keys, the first parameter of every call. */
+enum lukhtari_key {
+    /* Doses and slopes, ramps included. */
+    LUKHTARI_OPERATOR = 1,
+    /* Also reading and writing files, import, estimation and pooling. */
+    LUKHTARI_COLOURIST = 2,
+    /* Everything. */
+    LUKHTARI_SERVICE = 3
 };
 
 /* A table's number of axes (1 to 3), degree (3 or 5), node counts, 2 to 64 on each used axis and 1
@@ -413,125 +434,128 @@ LUKHTARI_SIZE(lukhtari_total, 24);
 /* Writes the records of all nodes, estimated from the samples. A record has 2^axes entries for
  * degree 3 and 3^axes for degree 5. Samples lie within +-32768 / 2^axes. At a border the estimate
  * continues the line.
- * Refusals in order: 1, 2, 3, 26, 4, 9, 19. */
-lukhtari_done lukhtari_estimate(lukhtari_shape shape, const int32_t *samples, size_t samples_len,
-                                int32_t *records, size_t records_len);
+ * Refusals in order: 30, 1, 2, 3, 26, 4, 9, 19. */
+lukhtari_done lukhtari_estimate(uint32_t key, lukhtari_shape shape, const int32_t *samples,
+                                size_t samples_len, int32_t *records, size_t records_len);
 
 /* Writes the (degree + 1)^axes coefficients of a cell, doubled once for each used axis.
- * Refusals in order: 1, 2, 3, 26, 4, 9, 14 (each axis), 5 (the cell's corners in order). */
-lukhtari_done lukhtari_coefficients(lukhtari_shape shape, const int32_t *records,
+ * Refusals in order: 30, 1, 2, 3, 26, 4, 9, 14 (each axis), 5 (the cell's corners in order). */
+lukhtari_done lukhtari_coefficients(uint32_t key, lukhtari_shape shape, const int32_t *records,
                                     size_t records_len, lukhtari_index cell, int32_t *out,
                                     size_t out_len);
 
 /* Writes the 2^axes corner records that have these coefficients, corners with x fastest.
- * Refusals in order: 1, 2, 15, 9, 13. */
-lukhtari_done lukhtari_corners(uint32_t axes, uint32_t degree, const int32_t *coefficients,
-                               size_t coefficients_len, int32_t *out, size_t out_len);
+ * Refusals in order: 30, 1, 2, 15, 9, 13. */
+lukhtari_done lukhtari_corners(uint32_t key, uint32_t axes, uint32_t degree,
+                               const int32_t *coefficients, size_t coefficients_len, int32_t *out,
+                               size_t out_len);
 
 /* Writes the 16 coefficients of powers of x and y of a cell of a two-axis cubic table, each times
  * 4.
- * Refusals in order: 1, 2, 3, 26, 24, 4, 9, 14 (each axis), 5 (the cell's corners in order). */
-lukhtari_done lukhtari_powers(lukhtari_shape shape, const int32_t *records, size_t records_len,
-                              lukhtari_index cell, int32_t *out, size_t out_len);
+ * Refusals in order: 30, 1, 2, 3, 26, 24, 4, 9, 14 (each axis), 5 (the cell's corners in order). */
+lukhtari_done lukhtari_powers(uint32_t key, lukhtari_shape shape, const int32_t *records,
+                              size_t records_len, lukhtari_index cell, int32_t *out,
+                              size_t out_len);
 
 /* Dose at a table position, with its mark.
- * Refusals in order: 1, 2, 3, 26, 4, on each axis 23, 22 and then 11, 5 (the cell's corners in
+ * Refusals in order: 30, 1, 2, 3, 26, 4, on each axis 23, 22 and then 11, 5 (the cell's corners in
  * order). */
-lukhtari_marked lukhtari_dose(lukhtari_shape shape, const int32_t *records, size_t records_len,
-                              lukhtari_position position);
+lukhtari_marked lukhtari_dose(uint32_t key, lukhtari_shape shape, const int32_t *records,
+                              size_t records_len, lukhtari_position position);
 
 /* Slope along an axis (0 for x, 1 for y, 2 for z) at a table position.
- * Refusals in order: 1, 2, 3, 26, 4, 12, on each axis 23, 22 and then 11, 5 (the cell's corners in
- * order). */
-lukhtari_whole lukhtari_slope(lukhtari_shape shape, const int32_t *records, size_t records_len,
-                              lukhtari_position position, uint32_t axis);
+ * Refusals in order: 30, 1, 2, 3, 26, 4, 12, on each axis 23, 22 and then 11, 5 (the cell's corners
+ * in order). */
+lukhtari_whole lukhtari_slope(uint32_t key, lukhtari_shape shape, const int32_t *records,
+                              size_t records_len, lukhtari_position position, uint32_t axis);
 
 /* Dose at the steps u (0 to the axis's step number) within a cell, with its mark.
- * Refusals in order: 1, 2, 3, 26, 4, 14 (each axis), on each axis 23 and then 11, 5 (the cell's
+ * Refusals in order: 30, 1, 2, 3, 26, 4, 14 (each axis), on each axis 23 and then 11, 5 (the cell's
  * corners in order). */
-lukhtari_marked lukhtari_dose_in_cell(lukhtari_shape shape, const int32_t *records,
+lukhtari_marked lukhtari_dose_in_cell(uint32_t key, lukhtari_shape shape, const int32_t *records,
                                       size_t records_len, lukhtari_index cell, lukhtari_index u);
 
 /* Slope along an axis at the steps u (0 to the axis's step number) within a cell.
- * Refusals in order: 1, 2, 3, 26, 4, 12, 14 (each axis), on each axis 23 and then 11, 5 (the cell's
- * corners in order). */
-lukhtari_whole lukhtari_slope_in_cell(lukhtari_shape shape, const int32_t *records,
+ * Refusals in order: 30, 1, 2, 3, 26, 4, 12, 14 (each axis), on each axis 23 and then 11, 5 (the
+ * cell's corners in order). */
+lukhtari_whole lukhtari_slope_in_cell(uint32_t key, lukhtari_shape shape, const int32_t *records,
                                       size_t records_len, lukhtari_index cell, lukhtari_index u,
                                       uint32_t axis);
 
 /* Curvature along an axis (0 for x, 1 for y, 2 for z) at a table position.
- * Refusals in order: 1, 2, 3, 26, 4, 12, 21, on each axis 23, 22 and then 11, 5 (the cell's corners
- * in order). */
-lukhtari_whole lukhtari_curvature(lukhtari_shape shape, const int32_t *records, size_t records_len,
-                                  lukhtari_position position, uint32_t axis);
+ * Refusals in order: 30, 1, 2, 3, 26, 4, 12, 21, on each axis 23, 22 and then 11, 5 (the cell's
+ * corners in order). */
+lukhtari_whole lukhtari_curvature(uint32_t key, lukhtari_shape shape, const int32_t *records,
+                                  size_t records_len, lukhtari_position position, uint32_t axis);
 
 /* Curvature along an axis at the steps u (0 to the axis's step number) within a cell.
- * Refusals in order: 1, 2, 3, 26, 4, 12, 21, 14 (each axis), on each axis 23 and then 11, 5 (the
- * cell's corners in order). */
-lukhtari_whole lukhtari_curvature_in_cell(lukhtari_shape shape, const int32_t *records,
-                                          size_t records_len, lukhtari_index cell,
-                                          lukhtari_index u, uint32_t axis);
+ * Refusals in order: 30, 1, 2, 3, 26, 4, 12, 21, 14 (each axis), on each axis 23 and then 11, 5
+ * (the cell's corners in order). */
+lukhtari_whole lukhtari_curvature_in_cell(uint32_t key, lukhtari_shape shape,
+                                          const int32_t *records, size_t records_len,
+                                          lukhtari_index cell, lukhtari_index u, uint32_t axis);
 
 /* Dose at the step nearest to a position in cells, halves up: the float times the axis's step
  * number, on an unused axis times 256. 23, 22 and 11 look at the step: -0.001 is step 0, which is
  * taken.
- * Refusals in order: 1, 2, 3, 26, 4, on each axis 10, 23, 22 and then 11, 5 (the cell's corners in
- * order). */
-lukhtari_real lukhtari_dose_float(lukhtari_shape shape, const int32_t *records, size_t records_len,
-                                  lukhtari_float_position position);
+ * Refusals in order: 30, 1, 2, 3, 26, 4, on each axis 10, 23, 22 and then 11, 5 (the cell's corners
+ * in order). */
+lukhtari_real lukhtari_dose_float(uint32_t key, lukhtari_shape shape, const int32_t *records,
+                                  size_t records_len, lukhtari_float_position position);
 
 /* Slope along an axis at the step nearest to a position in cells, halves up.
- * Refusals in order: 1, 2, 3, 26, 4, 12, on each axis 10, 23, 22 and then 11, 5 (the cell's corners
- * in order). */
-lukhtari_real lukhtari_slope_float(lukhtari_shape shape, const int32_t *records,
+ * Refusals in order: 30, 1, 2, 3, 26, 4, 12, on each axis 10, 23, 22 and then 11, 5 (the cell's
+ * corners in order). */
+lukhtari_real lukhtari_slope_float(uint32_t key, lukhtari_shape shape, const int32_t *records,
                                    size_t records_len, lukhtari_float_position position,
                                    uint32_t axis);
 
 /* Reads a table file and writes its samples.
- * Refusals in byte order: 6 where a number is incomplete, 1, 3, 8, 6 for the samples; where bytes
- * follow the samples 6 for the third section, 25, 7; then 9, 5. */
-lukhtari_table lukhtari_read(const uint8_t *bytes, size_t bytes_len, int32_t *samples,
+ * Refusals: 30; in byte order 6 where a number is incomplete, 1, 3, 8, 6 for the samples; where
+ * bytes follow the samples 6 for the third section, 25, 7; then 9, 5. */
+lukhtari_table lukhtari_read(uint32_t key, const uint8_t *bytes, size_t bytes_len, int32_t *samples,
                              size_t samples_len);
 
 /* Writes the table file of a number of axes, node counts, an edition and samples:
  * 4 * (2 + axes + samples) bytes, 8 more in edition two. The step numbers are tested and left out.
- * Refusals in order: 1, 3, 26, 4, 9, 5. */
-lukhtari_written lukhtari_write(uint32_t axes, lukhtari_index counts, lukhtari_index steps,
-                                bool second_edition, const int32_t *samples, size_t samples_len,
-                                uint8_t *bytes, size_t bytes_len);
+ * Refusals in order: 30, 1, 3, 26, 4, 9, 5. */
+lukhtari_written lukhtari_write(uint32_t key, uint32_t axes, lukhtari_index counts,
+                                lukhtari_index steps, bool second_edition, const int32_t *samples,
+                                size_t samples_len, uint8_t *bytes, size_t bytes_len);
 
 /* Reads the text of a table of this shape and writes its samples.
- * Refusals in order: 1, 2, 3, 26, 4 (the number of tokens), 9, then token by token 16, 17, 18,
+ * Refusals in order: 30, 1, 2, 3, 26, 4 (the number of tokens), 9, then token by token 16, 17, 18,
  * 5. */
-lukhtari_done lukhtari_import(lukhtari_shape shape, const uint8_t *text, size_t text_len,
-                              int32_t *samples, size_t samples_len);
+lukhtari_done lukhtari_import(uint32_t key, lukhtari_shape shape, const uint8_t *text,
+                              size_t text_len, int32_t *samples, size_t samples_len);
 
 /* Pools two lattices by weight and writes the pooled samples.
- * Refusals in order: 1, 2, 3, 26, each of the first lattice and then of the second; 27, 28; 4 of
- * the first and then of the second, 9; 5 of the first and then of the second. The place does not
+ * Refusals in order: 30, 1, 2, 3, 26, each of the first lattice and then of the second; 27, 28; 4
+ * of the first and then of the second, 9; 5 of the first and then of the second. The place does not
  * say which lattice. */
-lukhtari_done lukhtari_pool(lukhtari_shape shape_a, const int32_t *samples_a, size_t samples_a_len,
-                            uint32_t weight_a, lukhtari_shape shape_b, const int32_t *samples_b,
-                            size_t samples_b_len, uint32_t weight_b, int32_t *out, size_t out_len);
+lukhtari_done lukhtari_pool(uint32_t key, lukhtari_shape shape_a, const int32_t *samples_a,
+                            size_t samples_a_len, uint32_t weight_a, lukhtari_shape shape_b,
+                            const int32_t *samples_b, size_t samples_b_len, uint32_t weight_b,
+                            int32_t *out, size_t out_len);
 
 /* Writes the doses at a list of table positions, three numbers each, one answer for each position.
- * Refusals in order, also for an empty list: 1, 2, 3, 26, 20, 4, 9; then position by position what
- * lukhtari_dose refuses it for, 23, 22, 11 or 5, with the index of the position in the list as
+ * Refusals in order, also for an empty list: 30, 1, 2, 3, 26, 20, 4, 9; then position by position
+ * what lukhtari_dose refuses it for, 23, 22, 11 or 5, with the index of the position in the list as
  * place. */
-lukhtari_ramped lukhtari_ramp(lukhtari_shape shape, const int32_t *records, size_t records_len,
-                              const int32_t *positions, size_t positions_len, int32_t *answers,
-                              size_t answers_len);
+lukhtari_ramped lukhtari_ramp(uint32_t key, lukhtari_shape shape, const int32_t *records,
+                              size_t records_len, const int32_t *positions, size_t positions_len,
+                              int32_t *answers, size_t answers_len);
 
 /* The integral of the dose over a cell: the numerator over LUKHTARI_TOTAL_DIVISOR(axes, degree).
- * Refusals in order: 1, 2, 3, 26, 4, 14 (each axis), 5 (the cell's corners in order). */
-lukhtari_total lukhtari_cell_total(lukhtari_shape shape, const int32_t *records,
+ * Refusals in order: 30, 1, 2, 3, 26, 4, 14 (each axis), 5 (the cell's corners in order). */
+lukhtari_total lukhtari_cell_total(uint32_t key, lukhtari_shape shape, const int32_t *records,
                                    size_t records_len, lukhtari_index cell);
 
 /* The sum of the totals of the cells from index first to index last on each axis.
- * Refusals in order: 1, 2, 3, 26, 4, 29 (each axis), 5 (the records of all nodes of these cells, by
- * index). */
-lukhtari_total lukhtari_box_total(lukhtari_shape shape, const int32_t *records, size_t records_len,
-                                  lukhtari_index first, lukhtari_index last);
+ * Refusals in order: 30, 1, 2, 3, 26, 4, 29 (each axis), 5 (the records of all nodes of these
+ * cells, by index). */
+lukhtari_total lukhtari_box_total(uint32_t key, lukhtari_shape shape, const int32_t *records,
+                                  size_t records_len, lukhtari_index first, lukhtari_index last);
 
 #ifdef __cplusplus
 }

@@ -4,7 +4,7 @@ use super::clock::{side_by_side, Run};
 use super::inputs::{cube, estimable, positions, KINDS};
 use super::report::{heading, kind, line};
 use lukhtari::ffi::{lukhtari_dose, Position, Whole};
-use lukhtari::{estimate, Shape};
+use lukhtari::{estimate, Key, Shape};
 
 const POINTS: usize = 1024;
 
@@ -17,11 +17,13 @@ pub fn run() {
     for (degree, axes) in KINDS {
         let shape = cube(degree, axes, if axes == 3 { 17 } else { 33 });
         let mut records = vec![0; shape.entries()];
-        estimate(shape, &estimable(shape), &mut records).expect("accepted table");
+        estimate(Key::Service, shape, &estimable(shape), &mut records).expect("accepted table");
         let positions = positions(shape, POINTS);
         let (from, length) = (records.as_ptr(), records.len());
         // SAFETY: here and below the pointer and the length are those of the records.
-        let library = |at| unsafe { lukhtari_dose(shape, from, length, Position { at }) };
+        let library = |at| unsafe {
+            lukhtari_dose(Key::Service as u32, shape, from, length, Position { at })
+        };
         let by_hand = |at| unsafe { dose_by_hand(shape, from, length, Position { at }) };
         for &at in &positions {
             let (dose, hand) = (library(at), by_hand(at));

@@ -4,13 +4,19 @@ use super::clock::{side_by_side, Run};
 use super::hand::conversion;
 use super::inputs::{cell_and_u, cube, estimable, positions, KINDS};
 use super::report::{heading, kind, line};
-use lukhtari::{coefficients, corners, estimate, Refusal, Shape};
+use lukhtari::{coefficients, corners, estimate, Key, Refusal, Shape};
 
 type Forward = fn(Shape, &[i32], [u32; 3], &mut [i32]) -> Result<(), Refusal>;
 type Back = fn(u32, u32, &[i32], &mut [i32]) -> Result<(), Refusal>;
 
-const FORWARD: [Forward; 2] = [coefficients, conversion::coefficients];
-const BACK: [Back; 2] = [corners, conversion::corners];
+const FORWARD: [Forward; 2] = [
+    |shape, records, cell, out| coefficients(Key::Service, shape, records, cell, out),
+    conversion::coefficients,
+];
+const BACK: [Back; 2] = [
+    |axes, degree, from, out| corners(Key::Service, axes, degree, from, out),
+    conversion::corners,
+];
 
 pub fn run() {
     heading(
@@ -20,7 +26,7 @@ pub fn run() {
     for (degree, axes) in KINDS {
         let shape = cube(degree, axes, 9);
         let mut records = vec![0; shape.entries()];
-        estimate(shape, &estimable(shape), &mut records).expect("accepted table");
+        estimate(Key::Service, shape, &estimable(shape), &mut records).expect("accepted table");
         let cells: Vec<[u32; 3]> = positions(shape, 256)
             .into_iter()
             .map(|position| cell_and_u(shape, position).0)
@@ -56,7 +62,7 @@ fn forward(shape: Shape, records: &[i32], cells: &[[u32; 3]]) -> Vec<f64> {
 fn back(shape: Shape, records: &[i32], cells: &[[u32; 3]]) -> Vec<f64> {
     let of_cell = |&cell: &[u32; 3]| {
         let mut out = vec![0; shape.coefficients()];
-        coefficients(shape, records, cell, &mut out).expect("accepted cell");
+        coefficients(Key::Service, shape, records, cell, &mut out).expect("accepted cell");
         out
     };
     let all: Vec<Vec<i32>> = cells.iter().map(of_cell).collect();

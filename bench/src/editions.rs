@@ -7,7 +7,7 @@ use super::hand::query::by_position;
 use super::hand::stages::Specialised;
 use super::inputs::{cube, estimable, positions, Want, KINDS};
 use super::report::{heading, kind, line, wanted};
-use lukhtari::{dose, estimate, slope, Shape};
+use lukhtari::{dose, estimate, slope, Key, Shape};
 
 const POINTS: usize = 1024;
 
@@ -25,8 +25,8 @@ pub fn run() {
 // The library's answer.
 fn ask(shape: Shape, records: &[i32], at: [i32; 3], want: Want) -> Answer<i32> {
     match want {
-        Want::Slope(axis) => slope(shape, records, at, axis),
-        _ => dose(shape, records, at).map(|dose| dose.value),
+        Want::Slope(axis) => slope(Key::Service, shape, records, at, axis),
+        _ => dose(Key::Service, shape, records, at).map(|dose| dose.value),
     }
 }
 
@@ -37,7 +37,7 @@ fn times(degree: u32, axes: u32, want: Want) -> Vec<f64> {
         ..first
     };
     let mut records = vec![0; first.entries()];
-    estimate(first, &estimable(first), &mut records).expect("accepted table");
+    estimate(Key::Service, first, &estimable(first), &mut records).expect("accepted table");
     let (records, points) = (&records[..], &positions(first, POINTS)[..]);
     for &at in points {
         let by_hand = by_position::<Specialised<Folded>>(second, records, at, want);

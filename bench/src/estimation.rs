@@ -4,12 +4,16 @@ use super::clock::{side_by_side, Run};
 use super::hand::estimation::{by_neighbourhood, by_window};
 use super::inputs::{cube, estimable};
 use super::report::{heading, kind, line};
-use lukhtari::{estimate, Refusal, Shape};
+use lukhtari::{estimate, Key, Refusal, Shape};
 
 type Call = fn(Shape, &[i32], &mut [i32]) -> Result<(), Refusal>;
 
 const COLUMNS: [&str; 3] = ["library", "neighbourhood", "sliding window"];
-const CALLS: [Call; 3] = [estimate, by_neighbourhood, by_window];
+const CALLS: [Call; 3] = [
+    |shape, samples, out| estimate(Key::Service, shape, samples, out),
+    by_neighbourhood,
+    by_window,
+];
 
 pub fn run() {
     heading("Estimation of a table", &COLUMNS);
@@ -33,7 +37,7 @@ pub fn run() {
 fn times(shape: Shape) -> Vec<f64> {
     let samples = estimable(shape);
     let mut expected = vec![0; shape.entries()];
-    estimate(shape, &samples, &mut expected).expect("accepted table");
+    estimate(Key::Service, shape, &samples, &mut expected).expect("accepted table");
     let samples = &samples;
     let run = |call: Call| -> Run {
         let mut records = vec![0; shape.entries()];

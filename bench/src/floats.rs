@@ -8,7 +8,7 @@ use super::hand::stages::Specialised;
 use super::inputs::{cube, estimable, positions, Want, KINDS};
 use super::queries::WHOLE;
 use super::report::{heading, kind, line, wanted};
-use lukhtari::{dose_float, estimate, slope_float, Refusal};
+use lukhtari::{dose_float, estimate, slope_float, Key, Refusal};
 
 const POINTS: usize = 1024;
 
@@ -27,7 +27,7 @@ pub fn run() {
 fn times(degree: u32, axes: u32, want: Want) -> Vec<f64> {
     let shape = cube(degree, axes, if axes == 3 { 17 } else { 33 });
     let mut records = vec![0; shape.entries()];
-    estimate(shape, &estimable(shape), &mut records).expect("accepted table");
+    estimate(Key::Service, shape, &estimable(shape), &mut records).expect("accepted table");
     let records = &records[..];
     let points = positions(shape, POINTS);
     let points: Vec<[f32; 3]> = points
@@ -35,8 +35,8 @@ fn times(degree: u32, axes: u32, want: Want) -> Vec<f64> {
         .map(|p| p.map(|step| step as f32 / 256.0))
         .collect();
     let library = |p| match want {
-        Want::Dose => dose_float(shape, records, p),
-        Want::Slope(axis) => slope_float(shape, records, p, axis),
+        Want::Dose => dose_float(Key::Service, shape, records, p),
+        Want::Slope(axis) => slope_float(Key::Service, shape, records, p, axis),
         Want::Curvature(_) => panic!("there is no curvature by float"),
     };
     let expected: &[Answer] = &points.iter().map(|&p| library(p)).collect::<Vec<_>>();

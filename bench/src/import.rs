@@ -4,11 +4,14 @@ use super::clock::{side_by_side, Run};
 use super::hand::import::import as by_hand;
 use super::inputs::{cube, samples, Random};
 use super::report::heading;
-use lukhtari::{import, Refusal, Shape};
+use lukhtari::{import, Key, Refusal, Shape};
 
 type Call = fn(Shape, &[u8], &mut [i32]) -> Result<(), Refusal>;
 
-const CALLS: [Call; 2] = [import, by_hand];
+const CALLS: [Call; 2] = [
+    |shape, text, out| import(Key::Service, shape, text, out),
+    by_hand,
+];
 
 // What the floats lack.
 const LESS: &str = "

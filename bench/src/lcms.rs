@@ -13,7 +13,7 @@ mod linked {
     use crate::clock::{side_by_side, Run};
     use crate::inputs::{cube, estimable, positions};
     use crate::report::{heading, kind, line};
-    use lukhtari::{dose, estimate};
+    use lukhtari::{dose, estimate, Key};
     use std::ffi::c_void;
     use std::ptr;
 
@@ -76,7 +76,7 @@ mod linked {
         let shape = cube(degree, 3, COUNT);
         let samples = estimable(shape);
         let mut records = vec![0; shape.entries()];
-        estimate(shape, &samples, &mut records).expect("accepted table");
+        estimate(Key::Service, shape, &samples, &mut records).expect("accepted table");
         let table: Vec<u16> = samples
             .iter()
             .map(|&sample| (sample + 32768) as u16)
@@ -87,7 +87,8 @@ mod linked {
         let inputs: Vec<[u16; 3]> = points.iter().map(|p| p.map(scale)).collect();
         let mut runs: [Run; 2] = [
             Box::new(|| {
-                let answer = |&p: &[i32; 3]| dose(shape, &records, p).expect("accepted query");
+                let answer =
+                    |&p: &[i32; 3]| dose(Key::Service, shape, &records, p).expect("accepted query");
                 points.iter().map(|p| answer(p).value as i64).sum()
             }),
             Box::new(|| {

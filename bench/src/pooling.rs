@@ -4,11 +4,16 @@ use super::clock::{side_by_side, Run};
 use super::hand::pooling::{reciprocal, signed, unsigned};
 use super::inputs::{cube, samples, Random};
 use super::report::heading;
-use lukhtari::{pool, Measurement, Refusal, Shape};
+use lukhtari::{pool, Key, Measurement, Refusal, Shape};
 
 type Call = fn(Measurement, Measurement, &mut [i32]) -> Result<(), Refusal>;
 
-const CALLS: [Call; 4] = [pool, signed, unsigned, reciprocal];
+const CALLS: [Call; 4] = [
+    |a, b, out| pool(Key::Service, a, b, out),
+    signed,
+    unsigned,
+    reciprocal,
+];
 
 pub fn run() {
     heading(
@@ -37,7 +42,7 @@ fn row(shape: Shape) {
         samples,
         weight,
     });
-    pool(a, b, &mut expected).expect("accepted lattices");
+    pool(Key::Service, a, b, &mut expected).expect("accepted lattices");
     let run = |call: Call| -> Run {
         let mut out = vec![0; shape.nodes()];
         assert_eq!(call(a, b, &mut out), Ok(()));

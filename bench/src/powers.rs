@@ -4,17 +4,20 @@ use super::clock::{side_by_side, Run};
 use super::hand::powers as by_hand;
 use super::inputs::{cell_and_u, cube, estimable, positions};
 use super::report::{heading, kind, line};
-use lukhtari::{estimate, powers, Refusal, Shape};
+use lukhtari::{estimate, powers, Key, Refusal, Shape};
 
 type Call = fn(Shape, &[i32], [u32; 3], &mut [i32]) -> Result<(), Refusal>;
 
-const CALLS: [Call; 2] = [powers, by_hand::powers];
+const CALLS: [Call; 2] = [
+    |shape, records, cell, out| powers(Key::Service, shape, records, cell, out),
+    by_hand::powers,
+];
 
 pub fn run() {
     heading("Power coefficients of a cell", &["library", "by axes"]);
     let shape = cube(3, 2, 9);
     let mut records = vec![0; shape.entries()];
-    estimate(shape, &estimable(shape), &mut records).expect("accepted table");
+    estimate(Key::Service, shape, &estimable(shape), &mut records).expect("accepted table");
     let records = &records;
     let cells: &Vec<[u32; 3]> = &positions(shape, 256)
         .into_iter()

@@ -8,7 +8,7 @@ use super::hand::query;
 use super::hand::stages::Specialised;
 use super::inputs::{cell_and_u, cube, estimable, positions, Want, KINDS};
 use super::report::{heading, kind, line, wanted};
-use lukhtari::{curvature, curvature_in_cell, dose, dose_in_cell, slope, slope_in_cell};
+use lukhtari::{curvature, curvature_in_cell, dose, dose_in_cell, slope, slope_in_cell, Key};
 use lukhtari::{estimate, Refusal, Shape};
 
 const POINTS: usize = 1024;
@@ -76,7 +76,7 @@ impl Table {
     fn new(degree: u32, axes: u32) -> Table {
         let shape = cube(degree, axes, if axes == 3 { 17 } else { 33 });
         let mut records = vec![0; shape.entries()];
-        estimate(shape, &estimable(shape), &mut records).expect("accepted table");
+        estimate(Key::Service, shape, &estimable(shape), &mut records).expect("accepted table");
         let double = Double::new(shape, &records);
         let positions = positions(shape, POINTS);
         Table {
@@ -112,9 +112,9 @@ impl Table {
     fn by_position(&self, want: Want) -> Vec<f64> {
         let (shape, records) = (self.shape, &self.records[..]);
         let library = |p| match want {
-            Want::Dose => dose(shape, records, p).map(|dose| dose.value),
-            Want::Slope(axis) => slope(shape, records, p, axis),
-            Want::Curvature(axis) => curvature(shape, records, p, axis),
+            Want::Dose => dose(Key::Service, shape, records, p).map(|dose| dose.value),
+            Want::Slope(axis) => slope(Key::Service, shape, records, p, axis),
+            Want::Curvature(axis) => curvature(Key::Service, shape, records, p, axis),
         };
         let expected: Vec<Answer> = self.positions.iter().map(|&p| library(p)).collect();
         let expected = &expected[..];
@@ -144,9 +144,11 @@ impl Table {
         let points = self.positions.iter().map(|&p| cell_and_u(shape, p));
         let points: &[CellAndU] = &points.collect::<Vec<_>>();
         let library = |cell, u| match want {
-            Want::Dose => dose_in_cell(shape, records, cell, u).map(|dose| dose.value),
-            Want::Slope(axis) => slope_in_cell(shape, records, cell, u, axis),
-            Want::Curvature(axis) => curvature_in_cell(shape, records, cell, u, axis),
+            Want::Dose => {
+                dose_in_cell(Key::Service, shape, records, cell, u).map(|dose| dose.value)
+            }
+            Want::Slope(axis) => slope_in_cell(Key::Service, shape, records, cell, u, axis),
+            Want::Curvature(axis) => curvature_in_cell(Key::Service, shape, records, cell, u, axis),
         };
         let expected: &[Answer] = &points
             .iter()

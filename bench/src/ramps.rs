@@ -4,7 +4,7 @@ use super::clock::{side_by_side, Run};
 use super::hand::ramp::ramp as by_hand;
 use super::inputs::{cube, estimable, Random, KINDS};
 use super::report::{heading, kind, line};
-use lukhtari::{dose, estimate, ramp, Refusal, Shape};
+use lukhtari::{dose, estimate, ramp, Key, Refusal, Shape};
 
 const DOSES: usize = 256;
 const LISTS: usize = 4;
@@ -12,7 +12,11 @@ const LISTS: usize = 4;
 type Call = fn(Shape, &[i32], &[[i32; 3]], &mut [i32]) -> Result<u64, Refusal>;
 
 const COLUMNS: [&str; 3] = ["library", "256 calls", "specialised, folded"];
-const CALLS: [Call; 3] = [ramp, own_calls, by_hand];
+const CALLS: [Call; 3] = [
+    |shape, records, list, out| ramp(Key::Service, shape, records, list, out),
+    own_calls,
+    by_hand,
+];
 
 // How many doses follow each other in one cell, and what a row calls it.
 const STAYS: [(usize, &str); 3] = [(DOSES, "1 cell"), (DOSES / 4, "4 cells"), (1, "256 cells")];
@@ -22,7 +26,7 @@ pub fn run() {
     for (degree, axes) in KINDS {
         let shape = cube(degree, axes, if axes == 3 { 17 } else { 33 });
         let mut records = vec![0; shape.entries()];
-        estimate(shape, &estimable(shape), &mut records).expect("accepted table");
+        estimate(Key::Service, shape, &estimable(shape), &mut records).expect("accepted table");
         for (stay, name) in STAYS {
             let times = times(shape, &records, stay);
             line(&format!("{}, {name}", kind(degree, axes)), &times);
@@ -38,7 +42,7 @@ fn own_calls(
     answers: &mut [i32],
 ) -> Result<u64, Refusal> {
     for (answer, &position) in answers.iter_mut().zip(positions) {
-        *answer = dose(shape, records, position)?.value;
+        *answer = dose(Key::Service, shape, records, position)?.value;
     }
     Ok(0)
 }
@@ -49,7 +53,7 @@ fn times(shape: Shape, records: &[i32], stay: usize) -> Vec<f64> {
         let mut answers = [0; DOSES];
         for list in &lists {
             let mut expected = [0; DOSES];
-            let fetches = ramp(shape, records, list, &mut expected);
+            let fetches = ramp(Key::Service, shape, records, list, &mut expected);
             assert_eq!(fetches, Ok((DOSES / stay) as u64));
             call(shape, records, list, &mut answers).expect("accepted ramp");
             assert_eq!(answers, expected);

@@ -8,7 +8,7 @@ use super::hand::query::{by_cell, by_float, by_position};
 use super::hand::stages::Specialised;
 use super::inputs::{cell_and_u, cube, estimable, positions, Want, KINDS};
 use super::report::{heading, kind, line};
-use lukhtari::{dose, dose_float, dose_in_cell, estimate, ramp, slope, Shape};
+use lukhtari::{dose, dose_float, dose_in_cell, estimate, ramp, slope, Key, Shape};
 
 const POINTS: usize = 1024;
 const STEPS: u32 = 64;
@@ -66,7 +66,7 @@ struct Table {
 impl Table {
     fn new(shape: Shape, positions: Vec<[i32; 3]>) -> Table {
         let mut records = vec![0; shape.entries()];
-        estimate(shape, &estimable(shape), &mut records).expect("accepted table");
+        estimate(Key::Service, shape, &estimable(shape), &mut records).expect("accepted table");
         let cells = positions.iter().map(|&at| cell_and_u(shape, at)).collect();
         let in_cells = |at: [i32; 3]| [0, 1, 2].map(|a| at[a] as f32 / shape.steps[a] as f32);
         let floats = positions.iter().map(|&at| in_cells(at)).collect();
@@ -99,7 +99,7 @@ fn sum<P: Copy>(points: &[P], answer: impl Fn(P) -> Answer<i32>) -> Answer<i64> 
 
 fn doses(table: &Table) -> Answer<i64> {
     sum(&table.positions, |at| {
-        dose(table.shape, &table.records, at).map(|dose| dose.value)
+        dose(Key::Service, table.shape, &table.records, at).map(|dose| dose.value)
     })
 }
 
@@ -112,7 +112,7 @@ fn doses_by_hand(table: &Table) -> Answer<i64> {
 fn slopes(table: &Table) -> Answer<i64> {
     let axis = table.shape.axes - 1;
     sum(&table.positions, |at| {
-        slope(table.shape, &table.records, at, axis)
+        slope(Key::Service, table.shape, &table.records, at, axis)
     })
 }
 
@@ -125,7 +125,7 @@ fn slopes_by_hand(table: &Table) -> Answer<i64> {
 
 fn by_cells(table: &Table) -> Answer<i64> {
     sum(&table.cells, |(cell, u)| {
-        dose_in_cell(table.shape, &table.records, cell, u).map(|dose| dose.value)
+        dose_in_cell(Key::Service, table.shape, &table.records, cell, u).map(|dose| dose.value)
     })
 }
 
@@ -137,7 +137,7 @@ fn by_cells_by_hand(table: &Table) -> Answer<i64> {
 
 fn by_floats(table: &Table) -> Answer<i64> {
     sum(&table.floats, |at| {
-        dose_float(table.shape, &table.records, at).map(|dose| dose as i32)
+        dose_float(Key::Service, table.shape, &table.records, at).map(|dose| dose as i32)
     })
 }
 
@@ -162,7 +162,7 @@ fn ramped(table: &Table, call: impl Fn(&[[i32; 3]], &mut [i32]) -> Answer<u64>) 
 
 fn ramps(table: &Table) -> Answer<i64> {
     ramped(table, |list, answers| {
-        ramp(table.shape, &table.records, list, answers)
+        ramp(Key::Service, table.shape, &table.records, list, answers)
     })
 }
 

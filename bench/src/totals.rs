@@ -4,11 +4,15 @@ use super::clock::{side_by_side, Run};
 use super::hand::totals as by_hand;
 use super::inputs::{cube, estimable, KINDS};
 use super::report::{heading, kind, line};
-use lukhtari::{box_total, cell_total, estimate, Refusal, Shape};
+use lukhtari::{box_total, cell_total, estimate, Key, Refusal, Shape};
 
 type Call = fn(Shape, &[i32], [u32; 3], [u32; 3]) -> Result<i64, Refusal>;
 
-const CALLS: [Call; 3] = [box_total, by_hand::box_total, cell_by_cell];
+const CALLS: [Call; 3] = [
+    |shape, records, first, last| box_total(Key::Service, shape, records, first, last),
+    by_hand::box_total,
+    cell_by_cell,
+];
 
 // The same by a call for each cell.
 fn cell_by_cell(
@@ -21,7 +25,7 @@ fn cell_by_cell(
     for z in first[2]..=last[2] {
         for y in first[1]..=last[1] {
             for x in first[0]..=last[0] {
-                sum += cell_total(shape, records, [x, y, z])?;
+                sum += cell_total(Key::Service, shape, records, [x, y, z])?;
             }
         }
     }
@@ -41,7 +45,7 @@ pub fn run() {
 
 fn table(shape: Shape) {
     let mut records = vec![0; shape.entries()];
-    estimate(shape, &estimable(shape), &mut records).expect("accepted table");
+    estimate(Key::Service, shape, &estimable(shape), &mut records).expect("accepted table");
     let records = &records;
     let last = [0, 1, 2].map(|axis| shape.counts[axis].saturating_sub(2));
     let totals = CALLS.map(|call| call(shape, records, [0; 3], last));

@@ -1,7 +1,7 @@
 //! Records from samples.
 
 use crate::answer::answer;
-use crate::{ffi, Refusal, Shape};
+use crate::{ffi, Key, Refusal, Shape};
 
 /// Writes all records of a table, estimated from its samples, to the front of `records`.
 ///
@@ -11,23 +11,29 @@ use crate::{ffi, Refusal, Shape};
 ///
 /// Samples lie within [`estimate_limit`](crate::limits::estimate_limit) of the number of axes.
 ///
-/// Refusals in order: 1, 2, 3, 26, 4, 9, 19.
+/// Refusals in order: 30, 1, 2, 3, 26, 4, 9, 19.
 ///
 /// ```
-/// use lukhtari::{estimate, Refusal, Shape};
+/// use lukhtari::{estimate, Key, Refusal, Shape};
 /// let shape = Shape::new(1, 3, [2, 1, 1]);
 /// let mut records = [0; 4];
-/// estimate(shape, &[0, 100], &mut records)?;
+/// estimate(Key::Colourist, shape, &[0, 100], &mut records)?;
 /// assert_eq!(records, [0, 200, 100, 200]);
 ///
-/// let refusal = estimate(shape, &[0, 16385], &mut records).unwrap_err();
+/// let refusal = estimate(Key::Colourist, shape, &[0, 16385], &mut records).unwrap_err();
 /// assert_eq!(refusal, Refusal { number: 19, place: 1 });
 /// # Ok::<(), Refusal>(())
 /// ```
-pub fn estimate(shape: Shape, samples: &[i32], records: &mut [i32]) -> Result<(), Refusal> {
+pub fn estimate(
+    key: Key,
+    shape: Shape,
+    samples: &[i32],
+    records: &mut [i32],
+) -> Result<(), Refusal> {
     // SAFETY: both slices are lent for the call, with their lengths.
     let done = unsafe {
         ffi::lukhtari_estimate(
+            key as u32,
             shape,
             samples.as_ptr(),
             samples.len(),

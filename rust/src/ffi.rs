@@ -160,6 +160,7 @@ extern "C" {
     ///
     /// The slices `samples` and `records` are lent as the [module](self) says.
     pub fn lukhtari_estimate(
+        key: u32,
         shape: Shape,
         samples: *const i32,
         samples_len: usize,
@@ -176,6 +177,7 @@ extern "C" {
     ///
     /// The slices `records` and `out` are lent as the [module](self) says.
     pub fn lukhtari_coefficients(
+        key: u32,
         shape: Shape,
         records: *const i32,
         records_len: usize,
@@ -190,6 +192,7 @@ extern "C" {
     ///
     /// The slices `coefficients` and `out` are lent as the [module](self) says.
     pub fn lukhtari_corners(
+        key: u32,
         axes: u32,
         degree: u32,
         coefficients: *const i32,
@@ -207,6 +210,7 @@ extern "C" {
     ///
     /// The slices `records` and `out` are lent as the [module](self) says.
     pub fn lukhtari_powers(
+        key: u32,
         shape: Shape,
         records: *const i32,
         records_len: usize,
@@ -224,6 +228,7 @@ extern "C" {
     ///
     /// The slice `records` is lent as the [module](self) says.
     pub fn lukhtari_dose(
+        key: u32,
         shape: Shape,
         records: *const i32,
         records_len: usize,
@@ -236,6 +241,7 @@ extern "C" {
     ///
     /// The slice `records` is lent as the [module](self) says.
     pub fn lukhtari_slope(
+        key: u32,
         shape: Shape,
         records: *const i32,
         records_len: usize,
@@ -249,6 +255,7 @@ extern "C" {
     ///
     /// The slice `records` is lent as the [module](self) says.
     pub fn lukhtari_dose_in_cell(
+        key: u32,
         shape: Shape,
         records: *const i32,
         records_len: usize,
@@ -262,6 +269,7 @@ extern "C" {
     ///
     /// The slice `records` is lent as the [module](self) says.
     pub fn lukhtari_slope_in_cell(
+        key: u32,
         shape: Shape,
         records: *const i32,
         records_len: usize,
@@ -276,6 +284,7 @@ extern "C" {
     ///
     /// The slice `records` is lent as the [module](self) says.
     pub fn lukhtari_curvature(
+        key: u32,
         shape: Shape,
         records: *const i32,
         records_len: usize,
@@ -289,6 +298,7 @@ extern "C" {
     ///
     /// The slice `records` is lent as the [module](self) says.
     pub fn lukhtari_curvature_in_cell(
+        key: u32,
         shape: Shape,
         records: *const i32,
         records_len: usize,
@@ -306,6 +316,7 @@ extern "C" {
     ///
     /// The slice `records` is lent as the [module](self) says.
     pub fn lukhtari_dose_float(
+        key: u32,
         shape: Shape,
         records: *const i32,
         records_len: usize,
@@ -318,6 +329,7 @@ extern "C" {
     ///
     /// The slice `records` is lent as the [module](self) says.
     pub fn lukhtari_slope_float(
+        key: u32,
         shape: Shape,
         records: *const i32,
         records_len: usize,
@@ -334,6 +346,7 @@ extern "C" {
     ///
     /// The slices `bytes` and `samples` are lent as the [module](self) says.
     pub fn lukhtari_read(
+        key: u32,
         bytes: *const u8,
         bytes_len: usize,
         samples: *mut i32,
@@ -346,6 +359,7 @@ extern "C" {
     ///
     /// The slices `samples` and `bytes` are lent as the [module](self) says.
     pub fn lukhtari_write(
+        key: u32,
         axes: u32,
         counts: Index,
         steps: Index,
@@ -365,6 +379,7 @@ extern "C" {
     ///
     /// The slices `text` and `samples` are lent as the [module](self) says.
     pub fn lukhtari_import(
+        key: u32,
         shape: Shape,
         text: *const u8,
         text_len: usize,
@@ -382,6 +397,7 @@ extern "C" {
     /// The slices `samples_a`, `samples_b` and `out` are lent as the [module](self) says; the first
     /// two may be the same.
     pub fn lukhtari_pool(
+        key: u32,
         shape_a: Shape,
         samples_a: *const i32,
         samples_a_len: usize,
@@ -403,6 +419,7 @@ extern "C" {
     ///
     /// The slices `records`, `positions` and `answers` are lent as the [module](self) says.
     pub fn lukhtari_ramp(
+        key: u32,
         shape: Shape,
         records: *const i32,
         records_len: usize,
@@ -421,6 +438,7 @@ extern "C" {
     ///
     /// The slice `records` is lent as the [module](self) says.
     pub fn lukhtari_cell_total(
+        key: u32,
         shape: Shape,
         records: *const i32,
         records_len: usize,
@@ -433,6 +451,7 @@ extern "C" {
     ///
     /// The slice `records` is lent as the [module](self) says.
     pub fn lukhtari_box_total(
+        key: u32,
         shape: Shape,
         records: *const i32,
         records_len: usize,

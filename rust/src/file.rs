@@ -1,7 +1,7 @@
 //! The table file.
 
 use crate::answer::answer;
-use crate::{ffi, Refusal, Shape};
+use crate::{ffi, Key, Refusal, Shape};
 
 /// Number of axes, node counts, step numbers and edition of a file that was read.
 #[derive(Clone, Copy, Debug, PartialEq, Eq)]
@@ -25,9 +25,9 @@ impl Table {
     /// The shape of the table in a degree.
     ///
     /// ```
-    /// use lukhtari::{read, Refusal, Shape};
+    /// use lukhtari::{read, Key, Refusal, Shape};
     /// let bytes = [1, 0, 0, 0, 2, 0, 0, 0, 2, 0, 0, 0, 0, 0, 0, 0, 100, 0, 0, 0];
-    /// let shape = read(&bytes, &mut [0; 2])?.shape(3);
+    /// let shape = read(Key::Colourist, &bytes, &mut [0; 2])?.shape(3);
     /// assert_eq!(shape, Shape::new(1, 3, [2, 1, 1]));
     /// # Ok::<(), Refusal>(())
     /// ```
@@ -53,25 +53,26 @@ impl Table {
 /// A file that ends with its samples is of edition one; one of edition two has a third section. A
 /// file holds no step numbers: each used axis has 256.
 ///
-/// Refusals in byte order: 6, 1, 3, 8, 6, then 6 and 25 of the third section, 7; then 9, 5.
+/// Refusals: 30; in byte order 6, 1, 3, 8, 6, then 6 and 25 of the third section, 7; then 9, 5.
 ///
 /// ```
-/// use lukhtari::{read, Refusal};
+/// use lukhtari::{read, Key, Refusal};
 /// let bytes = [1, 0, 0, 0, 2, 0, 0, 0, 2, 0, 0, 0, 0, 0, 0, 0, 100, 0, 0, 0];
 /// let mut samples = [0; 2];
-/// let table = read(&bytes, &mut samples)?;
+/// let table = read(Key::Colourist, &bytes, &mut samples)?;
 /// assert_eq!((table.axes, table.counts, table.second_edition), (1, [2, 1, 1], false));
 /// assert_eq!(table.steps, [256, 1, 1]);
 /// assert_eq!(samples, [0, 100]);
 ///
-/// let refusal = read(&bytes[..19], &mut samples).unwrap_err();
+/// let refusal = read(Key::Colourist, &bytes[..19], &mut samples).unwrap_err();
 /// assert_eq!(refusal, Refusal { number: 6, place: 19 });
 /// # Ok::<(), Refusal>(())
 /// ```
-pub fn read(bytes: &[u8], samples: &mut [i32]) -> Result<Table, Refusal> {
+pub fn read(key: Key, bytes: &[u8], samples: &mut [i32]) -> Result<Table, Refusal> {
     // SAFETY: both slices are lent for the call, with their lengths.
     let result = unsafe {
         ffi::lukhtari_read(
+            key as u32,
             bytes.as_ptr(),
             bytes.len(),
             samples.as_mut_ptr(),
@@ -90,23 +91,26 @@ pub fn read(bytes: &[u8], samples: &mut [i32]) -> Result<Table, Refusal> {
 /// Writes a table file to the front of `bytes` and returns its length, which is 8 more in edition
 /// two. The step numbers are tested and left out.
 ///
-/// Refusals in order: 1, 3, 26, 4, 9, 5.
+/// Refusals in order: 30, 1, 3, 26, 4, 9, 5.
 ///
 /// ```
-/// use lukhtari::{write, Refusal};
+/// use lukhtari::{write, Key, Refusal};
 /// let mut bytes = [0; 28];
-/// assert_eq!(write(1, [2, 1, 1], [256, 1, 1], false, &[0, 100], &mut bytes)?, 20);
+/// assert_eq!(write(Key::Colourist, 1, [2, 1, 1], [256, 1, 1], false, &[0, 100], &mut bytes)?, 20);
 /// assert_eq!(bytes[16..20], [100, 0, 0, 0]);
-/// assert_eq!(write(1, [2, 1, 1], [16, 1, 1], true, &[0, 100], &mut bytes)?, 28);
+/// assert_eq!(write(Key::Colourist, 1, [2, 1, 1], [16, 1, 1], true, &[0, 100], &mut bytes)?, 28);
 /// assert_eq!(bytes[20..], [1, 0, 0, 0, 2, 0, 0, 0]);
 ///
-/// let refusal = write(1, [2, 1, 2], [256, 1, 1], false, &[0, 100], &mut bytes).unwrap_err();
+/// let refusal = write(Key::Colourist, 1, [2, 1, 2], [256, 1, 1], false, &[0, 100], &mut bytes)
+///     .unwrap_err();
 /// assert_eq!(refusal, Refusal { number: 3, place: 2 });
-/// let refusal = write(1, [2, 1, 1], [256, 1, 256], false, &[0, 100], &mut bytes).unwrap_err();
+/// let refusal = write(Key::Colourist, 1, [2, 1, 1], [256, 1, 256], false, &[0, 100], &mut bytes)
+///     .unwrap_err();
 /// assert_eq!(refusal, Refusal { number: 26, place: 2 });
 /// # Ok::<(), Refusal>(())
 /// ```
 pub fn write(
+    key: Key,
     axes: u32,
     counts: [u32; 3],
     steps: [u32; 3],
@@ -117,6 +121,7 @@ pub fn write(
     // SAFETY: both slices are lent for the call, with their lengths.
     let result = unsafe {
         ffi::lukhtari_write(
+            key as u32,
             axes,
             ffi::Index { at: counts },
             ffi::Index { at: steps },

@@ -21,17 +21,22 @@
 //!
 //! A [`Dose`] by position or by cell is marked exact where no stage dropped anything; slopes,
 //! curvatures, floats and ramps carry no mark.
+//!
+//! Every call names its [`Key`]: the operator takes doses and slopes, the colourist also makes tables,
+//! service does everything.
 
 #![no_std]
 #![warn(missing_docs)]
 
 mod answer;
 pub mod ffi;
+mod key;
 pub mod limits;
 mod refusal;
 mod shape;
 
 pub use ffi::Shape;
+pub use key::Key;
 pub use refusal::Refusal;
 
 mod estimate;

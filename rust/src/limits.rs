@@ -1,7 +1,7 @@
 //! Limits of tables and the largest sizes of buffers, as `lukhtari.h` has them.
 
 /// Number of the C interface; another number means other structs, calls or names.
-pub const INTERFACE: u32 = 11;
+pub const INTERFACE: u32 = 12;
 
 /// Least step number of a used axis; 32, 64 and 128 are between it and the largest.
 pub const STEPS_MIN: u32 = 16;

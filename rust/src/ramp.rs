@@ -1,7 +1,7 @@
 //! Doses along a path.
 
 use crate::answer::answer;
-use crate::{ffi, Refusal, Shape};
+use crate::{ffi, Key, Refusal, Shape};
 
 /// Writes the doses at up to 256 table positions, in units, to the front of `answers`, and returns
 /// how often the corner records of a cell were fetched.
@@ -10,25 +10,28 @@ use crate::{ffi, Refusal, Shape};
 /// fetches is 0 for an empty list, else one more than the number of neighbouring pairs of positions
 /// with different cells.
 ///
-/// Refusals in order, also for an empty list: 1, 2, 3, 26, 20, 4, 9; then position by position 23,
+/// Refusals in order, also for an empty list: 30, 1, 2, 3, 26, 20, 4, 9; then position by position 23,
 /// 22 and 11 on each axis, 5, with the index of the position in the list as place.
 /// [`dose`](crate::dose) gives their places within the query.
 ///
 /// ```
-/// use lukhtari::{estimate, ramp, Refusal, Shape};
+/// use lukhtari::{estimate, ramp, Key, Refusal, Shape};
 /// let shape = Shape::new(1, 3, [3, 1, 1]);
 /// let mut records = [0; 6];
-/// estimate(shape, &[0, 100, 200], &mut records)?;
+/// estimate(Key::Colourist, shape, &[0, 100, 200], &mut records)?;
 /// let mut answers = [0; 3];
-/// let fetches = ramp(shape, &records, &[[0, 0, 0], [64, 0, 0], [512, 0, 0]], &mut answers)?;
+/// let positions = [[0, 0, 0], [64, 0, 0], [512, 0, 0]];
+/// let fetches = ramp(Key::Operator, shape, &records, &positions, &mut answers)?;
 /// assert_eq!(answers, [0, 25, 200]);
 /// assert_eq!(fetches, 2);
 ///
-/// let refusal = ramp(shape, &records, &[[0, 0, 0], [513, 0, 0]], &mut answers).unwrap_err();
+/// let beyond = [[0, 0, 0], [513, 0, 0]];
+/// let refusal = ramp(Key::Operator, shape, &records, &beyond, &mut answers).unwrap_err();
 /// assert_eq!(refusal, Refusal { number: 11, place: 1 });
 /// # Ok::<(), Refusal>(())
 /// ```
 pub fn ramp(
+    key: Key,
     shape: Shape,
     records: &[i32],
     positions: &[[i32; 3]],
@@ -38,6 +41,7 @@ pub fn ramp(
     // SAFETY: all slices are lent for the call, with their lengths.
     let ramped = unsafe {
         ffi::lukhtari_ramp(
+            key as u32,
             shape,
             records.as_ptr(),
             records.len(),

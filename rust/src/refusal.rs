@@ -13,7 +13,7 @@ use core::fmt;
 /// ```
 #[derive(Clone, Copy, Debug, PartialEq, Eq)]
 pub struct Refusal {
-    /// 1 to 29, the constants below
+    /// 1 to 30, the constants below
     pub number: u32,
     /// An index counted from 0, and 0 where the reason names none; of 5, 11, 22 and 23 of a ramp the
     /// index of the position in the list
@@ -83,6 +83,8 @@ impl Refusal {
     /// A box of cells has a first index above its last, or a last index outside the table; the place
     /// is the axis.
     pub const BOX: u32 = 29;
+    /// The key lacks the right to make the call, or is none.
+    pub const KEY: u32 = 30;
 }
 
 impl fmt::Display for Refusal {
@@ -154,6 +156,7 @@ impl fmt::Display for Refusal {
                 f,
                 "the box on axis {place} ends outside the table or before it starts"
             ),
+            Self::KEY => write!(f, "the key lacks the right to make this call"),
             _ => write!(f, "unknown reason"),
         }
     }

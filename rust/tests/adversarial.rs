@@ -9,7 +9,7 @@ mod model;
 mod queries;
 
 use common::*;
-use lukhtari::{estimate, Shape};
+use lukhtari::{estimate, Key, Shape};
 use model::query::Where;
 use model::stages::{exact, Point};
 use model::{Rational, Want};
@@ -82,7 +82,7 @@ impl Trial {
 
     fn records(&self) -> Vec<i32> {
         let mut records = vec![0; self.shape.entries()];
-        estimate(self.shape, &self.samples, &mut records).expect("accepted table");
+        estimate(Key::Service, self.shape, &self.samples, &mut records).expect("accepted table");
         records
     }
 

@@ -4,7 +4,7 @@ mod common;
 mod model;
 
 use common::*;
-use lukhtari::{coefficients, estimate, ffi, Shape};
+use lukhtari::{coefficients, estimate, ffi, Key, Shape};
 use model::Answer;
 
 #[derive(Clone, Debug)]
@@ -36,7 +36,13 @@ fn run_out(call: &Call) -> Answer<Vec<i32>> {
     let expected = model::coefficients::coefficients(&shape, &call.records, cell, room);
     for shape in editions(call.shape) {
         let mut buffer = Lent::new(room);
-        let got = plain(coefficients(shape, &call.records, cell, buffer.slice()));
+        let got = plain(coefficients(
+            Key::Service,
+            shape,
+            &call.records,
+            cell,
+            buffer.slice(),
+        ));
         assert_eq!(got, outcome(&expected), "{shape:?} {cell:?}");
         buffer.check(expected.as_deref().unwrap_or_default());
     }
@@ -63,7 +69,7 @@ fn all_cells_of_estimated_tables() {
         let shape = random.shape(axes, degree, 4);
         let samples = random.estimable(shape);
         let mut records = vec![0; shape.entries()];
-        estimate(shape, &samples, &mut records).unwrap();
+        estimate(Key::Service, shape, &samples, &mut records).unwrap();
         for cell in cells(shape) {
             assert_eq!(run(&Call::new(shape, records.clone(), cell)), Ok(()));
         }
@@ -229,7 +235,16 @@ fn place_is_0_when_done() {
     let line = shape(1, 3, [2, 1, 1]);
     let cell = ffi::Index { at: [0; 3] };
     // SAFETY: pointers and lengths are those of the arrays.
-    let done =
-        unsafe { ffi::lukhtari_coefficients(line, records.as_ptr(), 4, cell, out.as_mut_ptr(), 4) };
+    let done = unsafe {
+        ffi::lukhtari_coefficients(
+            SERVICE,
+            line,
+            records.as_ptr(),
+            4,
+            cell,
+            out.as_mut_ptr(),
+            4,
+        )
+    };
     assert_eq!((done.number, done.place), (0, 0));
 }

@@ -4,7 +4,7 @@ mod common;
 mod model;
 
 use common::*;
-use lukhtari::{coefficients, corners, ffi};
+use lukhtari::{coefficients, corners, ffi, Key};
 use model::block::{cell_block, Block};
 use model::coefficients::axis_coefficients;
 use model::Answer;
@@ -34,7 +34,13 @@ impl Call {
 fn run_out(call: &Call) -> Answer<Vec<i32>> {
     let mut buffer = Lent::new(call.room);
     let (axes, degree) = (call.axes, call.degree);
-    let got = plain(corners(axes, degree, &call.coefficients, buffer.slice()));
+    let got = plain(corners(
+        Key::Service,
+        axes,
+        degree,
+        &call.coefficients,
+        buffer.slice(),
+    ));
     let expected = model::coefficients::corners_of(axes, degree, &call.coefficients, call.room);
     assert_eq!(got, outcome(&expected), "{call:?}");
     buffer.check(expected.as_deref().unwrap_or_default());
@@ -49,7 +55,7 @@ fn run(call: &Call) -> Answer<()> {
 fn forward(axes: u32, degree: u32, records: &[i32]) -> Vec<i32> {
     let shape = cube(axes, degree, 2);
     let mut out = vec![0; shape.coefficients()];
-    coefficients(shape, records, [0; 3], &mut out).expect("permitted records");
+    coefficients(Key::Service, shape, records, [0; 3], &mut out).expect("permitted records");
     out
 }
 
@@ -261,6 +267,7 @@ fn place_is_0_when_done() {
     let numbers = [0, 100, 500, 200];
     let mut out = [0; 4];
     // SAFETY: pointers and lengths are those of the arrays.
-    let done = unsafe { ffi::lukhtari_corners(1, 3, numbers.as_ptr(), 4, out.as_mut_ptr(), 4) };
+    let done =
+        unsafe { ffi::lukhtari_corners(SERVICE, 1, 3, numbers.as_ptr(), 4, out.as_mut_ptr(), 4) };
     assert_eq!((done.number, done.place), (0, 0));
 }

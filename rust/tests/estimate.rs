@@ -5,7 +5,7 @@ mod model;
 
 use common::*;
 use lukhtari::limits::{entry_limit, estimate_limit};
-use lukhtari::{estimate, ffi, Shape};
+use lukhtari::{estimate, ffi, Key, Shape};
 use model::shape::indices;
 use model::Answer;
 
@@ -35,7 +35,7 @@ fn run(call: &Call) -> Answer<()> {
     let expected = model::estimate::estimate(&shape, &call.samples, call.room);
     for shape in editions(call.shape) {
         let mut buffer = Lent::new(call.room);
-        let got = plain(estimate(shape, &call.samples, buffer.slice()));
+        let got = plain(estimate(Key::Service, shape, &call.samples, buffer.slice()));
         assert_eq!(got, outcome(&expected), "{shape:?}");
         buffer.check(expected.as_deref().unwrap_or_default());
     }
@@ -46,11 +46,17 @@ fn run(call: &Call) -> Answer<()> {
 fn worked_examples() {
     let mut records = [0; 4];
     let line = shape(1, 3, [2, 1, 1]);
-    assert_eq!(estimate(line, &[0, 100], &mut records), Ok(()));
+    assert_eq!(
+        estimate(Key::Service, line, &[0, 100], &mut records),
+        Ok(())
+    );
     assert_eq!(records, [0, 200, 100, 200]);
     let mut records = [0; 6];
     let line = shape(1, 5, [2, 1, 1]);
-    assert_eq!(estimate(line, &[0, 100], &mut records), Ok(()));
+    assert_eq!(
+        estimate(Key::Service, line, &[0, 100], &mut records),
+        Ok(())
+    );
     assert_eq!(records, [0, 200, 0, 100, 200, 0]);
 }
 
@@ -59,7 +65,10 @@ fn borders() {
     // Twice the difference and no second derivative at both borders; neither between them.
     let mut records = [0; 9];
     let line = shape(1, 5, [3, 1, 1]);
-    assert_eq!(estimate(line, &[1, 3, 10], &mut records), Ok(()));
+    assert_eq!(
+        estimate(Key::Service, line, &[1, 3, 10], &mut records),
+        Ok(())
+    );
     assert_eq!(records, [1, 4, 0, 3, 9, 5, 10, 14, 0]);
     // Along y and z as along x.
     for axis in 0..3 {
@@ -71,7 +80,7 @@ fn borders() {
         let call = Call::new(cube, samples);
         assert_eq!(run(&call), Ok(()));
         let mut all = vec![0; cube.entries()];
-        estimate(cube, &call.samples, &mut all).unwrap();
+        estimate(Key::Service, cube, &call.samples, &mut all).unwrap();
         let (node, order) = ([1, 2, 4][axis], [1, 3, 9][axis]);
         for i in 0..3 {
             for o in 0..3 {
@@ -88,7 +97,7 @@ fn mixed_entries() {
     samples[13] = 1;
     let cube = cube(3, 5, 3);
     let mut records = vec![0; cube.entries()];
-    estimate(cube, &samples, &mut records).unwrap();
+    estimate(Key::Service, cube, &samples, &mut records).unwrap();
     let line = [[0, 2, 0], [1, 0, -2], [0, -2, 0]];
     for (index, &entry) in records.iter().enumerate() {
         let node = [index / 27 % 3, index / 81 % 3, index / 243];
@@ -196,7 +205,8 @@ fn largest_entries() {
                 let signs = nodes.into_iter().map(|other| factor(other).signum());
                 let samples: Vec<i32> = signs.map(|sign| sign * limit).collect();
                 let mut records = vec![0; shape.entries()];
-                estimate(shape, &samples, &mut records).expect("samples at their limit");
+                estimate(Key::Service, shape, &samples, &mut records)
+                    .expect("samples at their limit");
                 let entry = records[plain.entry_index(node, orders)];
                 assert_eq!(entry, sum * limit, "{node:?} {orders:?}");
                 let most = entry_limit(orders.iter().sum::<usize>() as u32);
@@ -286,7 +296,8 @@ fn place_is_0_when_done() {
     let mut records = [0; 4];
     let line = shape(1, 3, [2, 1, 1]);
     // SAFETY: pointers and lengths are those of the arrays.
-    let done =
-        unsafe { ffi::lukhtari_estimate(line, samples.as_ptr(), 2, records.as_mut_ptr(), 4) };
+    let done = unsafe {
+        ffi::lukhtari_estimate(SERVICE, line, samples.as_ptr(), 2, records.as_mut_ptr(), 4)
+    };
     assert_eq!((done.number, done.place), (0, 0));
 }

@@ -251,8 +251,8 @@ fn refused_results_are_empty() {
         // SAFETY: pointers and lengths are those of the arrays.
         let (done, refused) = unsafe {
             (
-                ffi::lukhtari_read(bytes.as_ptr(), length, out, 2),
-                ffi::lukhtari_read(bytes.as_ptr(), length, out, 1),
+                ffi::lukhtari_read(SERVICE, bytes.as_ptr(), length, out, 2),
+                ffi::lukhtari_read(SERVICE, bytes.as_ptr(), length, out, 1),
             )
         };
         assert_eq!((done.number, done.place), (0, 0));
@@ -274,8 +274,8 @@ fn refused_results_are_empty() {
         // SAFETY: pointers and lengths are those of the arrays.
         let (done, refused) = unsafe {
             (
-                ffi::lukhtari_write(1, counts, steps, edition, from, 2, out, length),
-                ffi::lukhtari_write(1, counts, steps, edition, from, 2, out, length - 1),
+                ffi::lukhtari_write(SERVICE, 1, counts, steps, edition, from, 2, out, length),
+                ffi::lukhtari_write(SERVICE, 1, counts, steps, edition, from, 2, out, length - 1),
             )
         };
         let written = (done.number, done.place, done.length);

@@ -2,7 +2,7 @@
 
 mod c;
 
-use lukhtari::{limits, Refusal, Shape};
+use lukhtari::{limits, Key, Refusal, Shape};
 use std::collections::{BTreeMap, BTreeSet};
 use std::process::Command;
 
@@ -10,6 +10,15 @@ macro_rules! add {
     ($all:ident, $prefix:literal, $from:ident, $($name:ident),+) => {
         $($all.insert(concat!($prefix, stringify!($name)).to_string(), $from::$name as u64);)+
     };
+}
+
+// The keys of Rust, by their names in C.
+fn keys() -> [(&'static str, Key); 3] {
+    [
+        ("LUKHTARI_OPERATOR", Key::Operator),
+        ("LUKHTARI_COLOURIST", Key::Colourist),
+        ("LUKHTARI_SERVICE", Key::Service),
+    ]
 }
 
 // The constants of Rust, by their names in C.
@@ -31,11 +40,14 @@ fn constants() -> BTreeMap<String, u64> {
     add!(all, "LUKHTARI_REFUSED_", Refusal, POSITION_BEYOND, POSITION_BELOW_ZERO);
     add!(all, "LUKHTARI_REFUSED_", Refusal, POSITION_UNUSED_AXIS, POWERS_SHAPE);
     add!(all, "LUKHTARI_REFUSED_", Refusal, FILE_EDITION, STEP_NUMBER, SHAPES_DIFFER, WEIGHTS);
-    add!(all, "LUKHTARI_REFUSED_", Refusal, BOX);
+    add!(all, "LUKHTARI_REFUSED_", Refusal, BOX, KEY);
     add!(all, "LUKHTARI_REFUSED_", Refusal, NO_CORNER_RECORDS, CELL, COEFFICIENT_COUNT);
     add!(all, "LUKHTARI_REFUSED_", Refusal, TOKEN_TOO_LONG, TOKEN_GRAMMAR, TOKEN_NOT_WHOLE);
     add!(all, "LUKHTARI_REFUSED_", Refusal, BEYOND_ESTIMATE_LIMIT, RAMP_LENGTH, CURVATURE_DEGREE);
     all.insert("LUKHTARI_NOT_REFUSED".to_string(), 0);
+    for (name, key) in keys() {
+        all.insert(name.to_string(), key as u64);
+    }
     all
 }
 
@@ -79,6 +91,7 @@ fn constants_have_the_same_names() {
     let mut rust = rust_names("rust/src/limits.rs", "LUKHTARI_");
     rust.extend(rust_names("rust/src/refusal.rs", "LUKHTARI_REFUSED_"));
     rust.insert("LUKHTARI_NOT_REFUSED".to_string());
+    rust.extend(keys().map(|(name, _)| name.to_string()));
     assert_eq!(rust, names);
 }
 
@@ -103,14 +116,14 @@ fn constants_have_the_same_values() {
 }
 
 #[test]
-fn refusals_are_numbered_from_1_to_29() {
+fn refusals_are_numbered_from_1_to_30() {
     let refused = |(name, number): (String, u64)| {
         let refused = name.starts_with("LUKHTARI_REFUSED_");
         refused.then_some(number)
     };
     let mut all: Vec<u64> = constants().into_iter().filter_map(refused).collect();
     all.sort();
-    assert_eq!(all, (1..=29).collect::<Vec<u64>>());
+    assert_eq!(all, (1..=30).collect::<Vec<u64>>());
 }
 
 #[test]
@@ -191,6 +204,7 @@ const USE: &str = "#include \"lukhtari.h\"
 #include \"lukhtari.h\"
 int32_t records[LUKHTARI_ENTRIES(2, 5, LUKHTARI_NODES(4, 3, 1))];
 int32_t most = LUKHTARI_ESTIMATE_LIMIT(2);
+enum lukhtari_key key = LUKHTARI_SERVICE;
 uint8_t file[LUKHTARI_FILE_BYTES(2, 12, true)];
 lukhtari_shape shape = {2, 5, {4, 3, 1}, {LUKHTARI_STEPS_MAX, LUKHTARI_STEPS_MIN, 1}, true};
 int refused(lukhtari_done done);

@@ -254,7 +254,8 @@ fn place_is_0_when_done() {
     let mut samples = [0; 2];
     let line = shape(1, 3, [2, 1, 1]);
     // SAFETY: pointers and lengths are those of the arrays.
-    let done = unsafe { ffi::lukhtari_import(line, text.as_ptr(), 4, samples.as_mut_ptr(), 2) };
+    let done =
+        unsafe { ffi::lukhtari_import(SERVICE, line, text.as_ptr(), 4, samples.as_mut_ptr(), 2) };
     assert_eq!((done.number, done.place), (0, 0));
     assert_eq!(samples, [100, 200]);
 }

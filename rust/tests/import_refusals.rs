@@ -221,7 +221,14 @@ fn raw_results() {
     ] {
         // SAFETY: pointers and lengths are those of the text and the array.
         let done = unsafe {
-            ffi::lukhtari_import(line, text.as_ptr(), text.len(), samples.as_mut_ptr(), 2)
+            ffi::lukhtari_import(
+                SERVICE,
+                line,
+                text.as_ptr(),
+                text.len(),
+                samples.as_mut_ptr(),
+                2,
+            )
         };
         assert_eq!((done.number, done.place), (number, place), "{text}");
         assert_eq!(samples, [100, 200]);

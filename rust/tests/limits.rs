@@ -18,6 +18,7 @@ fn samples() {
         let refused = |sample| {
             let samples = [0, sign * sample];
             number(write(
+                Key::Service,
                 1,
                 [2, 1, 1],
                 [16, 1, 1],
@@ -37,7 +38,12 @@ fn samples_for_estimation() {
         let shape = cube(axes, degree, 2);
         let refused = |sample| {
             let samples = vec![sample; shape.nodes()];
-            number(estimate(shape, &samples, &mut vec![0; shape.entries()]))
+            number(estimate(
+                Key::Service,
+                shape,
+                &samples,
+                &mut vec![0; shape.entries()],
+            ))
         };
         let limit = estimate_limit(axes);
         assert_eq!([limit, -limit].map(refused), [0; 2]);
@@ -52,7 +58,12 @@ fn node_counts() {
         let refused = |count| {
             let shape = cube(axes, degree, count);
             let samples = vec![estimate_limit(axes); shape.nodes()];
-            number(estimate(shape, &samples, &mut vec![0; shape.entries()]))
+            number(estimate(
+                Key::Service,
+                shape,
+                &samples,
+                &mut vec![0; shape.entries()],
+            ))
         };
         let counts = [COUNT_MIN - 1, COUNT_MIN, COUNT_MAX, COUNT_MAX + 1];
         assert_eq!(counts.map(refused), [3, 0, 0, 3]);
@@ -64,7 +75,7 @@ fn tokens() {
     let shape = cube(1, 3, 2);
     let refused = |length| {
         let text = format!("1 0.{}", "0".repeat(length - 2));
-        number(import(shape, text.as_bytes(), &mut [0; 2]))
+        number(import(Key::Service, shape, text.as_bytes(), &mut [0; 2]))
     };
     assert_eq!(refused(TOKEN_BYTES_MAX), 0);
     assert_eq!(refused(TOKEN_BYTES_MAX + 1), Refusal::TOKEN_TOO_LONG);
@@ -75,7 +86,13 @@ fn ramps() {
     let shape = cube(1, 3, 2);
     let refused = |length| {
         let list = vec![[0; 3]; length];
-        number(ramp(shape, &[0; 4], &list, &mut vec![0; length]))
+        number(ramp(
+            Key::Service,
+            shape,
+            &[0; 4],
+            &list,
+            &mut vec![0; length],
+        ))
     };
     assert_eq!(refused(RAMP_MAX), 0);
     assert_eq!(refused(RAMP_MAX + 1), Refusal::RAMP_LENGTH);
@@ -89,7 +106,7 @@ fn weights() {
             samples: &[0, 1],
             weight,
         };
-        number(pool(lattice, lattice, &mut [0; 2]))
+        number(pool(Key::Service, lattice, lattice, &mut [0; 2]))
     };
     assert_eq!(refused(WEIGHT_MAX), 0);
     assert_eq!(refused(WEIGHT_MAX + 1), Refusal::WEIGHTS);
@@ -112,16 +129,27 @@ fn steps() {
     let of = |steps| in_steps(cube(1, 3, 3), [steps; 3]);
     for steps in [STEPS_MIN, STEPS_MAX] {
         let (shape, last) = (of(steps), 2 * steps as i32);
-        assert_eq!(number(dose(shape, &records, [last, 0, 0])), 0);
-        assert_eq!(number(dose(shape, &records, [last + 1, 0, 0])), 11);
-        let within = |u| number(dose_in_cell(shape, &records, [0; 3], [u, 0, 0]));
+        assert_eq!(number(dose(Key::Service, shape, &records, [last, 0, 0])), 0);
+        assert_eq!(
+            number(dose(Key::Service, shape, &records, [last + 1, 0, 0])),
+            11
+        );
+        let within = |u| {
+            number(dose_in_cell(
+                Key::Service,
+                shape,
+                &records,
+                [0; 3],
+                [u, 0, 0],
+            ))
+        };
         assert_eq!(
             [steps, steps + 1].map(within),
             [0, Refusal::POSITION_BEYOND]
         );
     }
     for steps in [STEPS_MIN / 2, 2 * STEPS_MAX] {
-        let refused = number(dose(of(steps), &records, [0; 3]));
+        let refused = number(dose(Key::Service, of(steps), &records, [0; 3]));
         assert_eq!(refused, Refusal::STEP_NUMBER);
     }
 }
@@ -135,7 +163,10 @@ fn entries() {
             let mut records = vec![0; shape.entries()];
             for (size, expected) in [(limit, 0), (limit + 1, Refusal::BEYOND_LIMIT)] {
                 records[entry] = size;
-                assert_eq!(number(dose(shape, &records, [0; 3])), expected);
+                assert_eq!(
+                    number(dose(Key::Service, shape, &records, [0; 3])),
+                    expected
+                );
             }
         }
     }
@@ -151,24 +182,32 @@ fn coefficients_and_answers() {
             .map(|orders| entry_limit(orders.iter().sum::<usize>() as u32));
         let records: Vec<i32> = limits.cycle().take(shape.entries()).collect();
         let mut all = vec![0; shape.coefficients()];
-        coefficients(shape, &records, [0; 3], &mut all).expect("permitted records");
+        coefficients(Key::Service, shape, &records, [0; 3], &mut all).expect("permitted records");
         assert!(all.iter().all(|number| number.abs() <= COEFFICIENT_LIMIT));
-        let exported = powers(shape, &records, [0; 3], &mut [0; POWER_COEFFICIENTS]);
+        let exported = powers(
+            Key::Service,
+            shape,
+            &records,
+            [0; 3],
+            &mut [0; POWER_COEFFICIENTS],
+        );
         let other = (axes, degree) != (2, 3);
         assert_eq!(
             number(exported),
             if other { Refusal::POWERS_SHAPE } else { 0 }
         );
-        let total = cell_total(shape, &records, [0; 3]).expect("permitted records");
+        let total = cell_total(Key::Service, shape, &records, [0; 3]).expect("permitted records");
         assert!(total.abs() <= TOTAL_LIMIT);
         let middle = [0, 1, 2].map(|axis| if axis < axes { 128 } else { 0 });
-        let dose = dose(shape, &records, middle).expect("an answer");
+        let dose = dose(Key::Service, shape, &records, middle).expect("an answer");
         assert!(dose.value.abs() < ANSWER_LIMIT);
-        let curvature = |axis| curvature(shape, &records, middle, axis);
+        let curvature = |axis| curvature(Key::Service, shape, &records, middle, axis);
         for axis in 0..axes {
             match degree {
                 3 => assert_eq!(number(curvature(axis)), Refusal::CURVATURE_DEGREE),
-                _ => assert!(curvature(axis).expect("an answer").abs() < ANSWER_LIMIT),
+                _ => {
+                    assert!(curvature(axis).expect("an answer").abs() < ANSWER_LIMIT)
+                }
             }
         }
     }

@@ -5,7 +5,7 @@ mod common;
 mod model;
 
 use common::*;
-use lukhtari::{coefficients, Shape};
+use lukhtari::{coefficients, Key, Shape};
 use model::coefficients::coefficient_count;
 use model::listing::{corners, filled_after, NUMBERS};
 use std::fs;
@@ -25,7 +25,7 @@ fn entries(
 // What the call writes.
 fn written(shape: Shape, records: &[i32], cell: [u32; 3]) -> Vec<i64> {
     let mut buffer = Lent::new(NUMBERS);
-    coefficients(shape, records, cell, buffer.slice()).expect("accepted cell");
+    coefficients(Key::Service, shape, records, cell, buffer.slice()).expect("accepted cell");
     let count = coefficient_count(shape.axes, shape.degree);
     let numbers = buffer.slice()[..count].to_vec();
     buffer.check(&numbers);

@@ -56,11 +56,11 @@ int main(void) {
     lukhtari_index lower = {{0, 0, 0}}, top = {{16, 256, 0}};
     lukhtari_index upper = {{0, 1, 0}}, bottom = {{16, 0, 0}};
     lukhtari_position last = {{256, 768, 0}}, unused = {{0, 0, 1}};
-    lukhtari_estimate(shape, samples, 8, records, 32);
-    print(lukhtari_dose_in_cell(shape, records, 32, lower, top));
-    print(lukhtari_dose_in_cell(shape, records, 32, upper, bottom));
-    print(lukhtari_dose(shape, records, 32, last));
-    print(lukhtari_dose(shape, records, 32, unused));
+    lukhtari_estimate(LUKHTARI_SERVICE, shape, samples, 8, records, 32);
+    print(lukhtari_dose_in_cell(LUKHTARI_SERVICE, shape, records, 32, lower, top));
+    print(lukhtari_dose_in_cell(LUKHTARI_SERVICE, shape, records, 32, upper, bottom));
+    print(lukhtari_dose(LUKHTARI_SERVICE, shape, records, 32, last));
+    print(lukhtari_dose(LUKHTARI_SERVICE, shape, records, 32, unused));
     return 0;
 }
 ";

@@ -9,7 +9,7 @@ mod queries;
 
 use common::*;
 use files::{words, EXAMPLE, SECTION};
-use lukhtari::{box_total, cell_total, dose_float, read, Measurement, Shape};
+use lukhtari::{box_total, cell_total, dose_float, read, Key, Measurement, Shape};
 use model::query::Where::{Cell, Position};
 use model::Rational;
 use model::Want::{self, Curvature, Dose, Slope};
@@ -93,7 +93,7 @@ fn samples_of_a_file_are_within_32768() {
         let samples = [32768, -32768, third].map(|sample| sample as u32);
         let bytes = words(&[&[1, 3, 3], &samples[..]].concat());
         let mut samples = [0; 3];
-        plain(read(&bytes, &mut samples)).map(|_| samples)
+        plain(read(Key::Service, &bytes, &mut samples)).map(|_| samples)
     };
     assert_eq!(file(32768), Ok([32768, -32768, 32768]));
     assert_eq!(file(32769), refused(5, 2));
@@ -184,11 +184,11 @@ fn unused_then_below_zero_then_beyond_on_each_axis() {
         ([taken, taken, f32::NAN], 10, 2),
         ([1.0 - below, below, 0.0], 11, 0),
     ] {
-        let answer = plain(dose_float(plane, &records, at));
+        let answer = plain(dose_float(Key::Service, plane, &records, at));
         assert_eq!(answer, refused(number, place), "{at:?}");
     }
     let seven = only(16, &[(0, 7)]);
-    assert_eq!(dose_float(plane, &seven, [taken; 3]), Ok(7.0));
+    assert_eq!(dose_float(Key::Service, plane, &seven, [taken; 3]), Ok(7.0));
 }
 
 #[test]
@@ -324,7 +324,7 @@ fn points_are_counted_by_the_steps_of_their_axis() {
             check(line, &records, at, Dose, printed);
         }
         // 1/64 is a quarter of a step; on an unused axis it is step 4 of 256.
-        let float = |at| plain(dose_float(line, &records, at));
+        let float = |at| plain(dose_float(Key::Service, line, &records, at));
         assert_eq!(float([0.5, 0.0, 0.0]), Ok(50.0));
         assert_eq!(float([1.0 / 64.0, 0.0, 0.0]), Ok(0.0));
         assert_eq!(float([1.0 / 64.0, 0.0, 1.0 / 64.0]), refused(23, 2));
@@ -424,16 +424,22 @@ fn lattices_of_both_lengths_then_room_then_samples() {
 #[test]
 fn totals_of_cells_and_of_a_box() {
     let (line, records) = (cube(1, 3, 3), [1, 2, 3, 4, 5, 6]);
-    let cell = |x| cell_total(line, &records, [x, 0, 0]);
+    let cell = |x| cell_total(Key::Service, line, &records, [x, 0, 0]);
     assert_eq!([cell(0), cell(1)], [Ok(46), Ok(94)]);
-    assert_eq!(box_total(line, &records, ORIGIN, [1, 0, 0]), Ok(140));
+    assert_eq!(
+        box_total(Key::Service, line, &records, ORIGIN, [1, 0, 0]),
+        Ok(140)
+    );
     let straight = [0, 200, 100, 200];
     assert_eq!(
-        box_total(cube(1, 3, 2), &straight, ORIGIN, ORIGIN),
+        box_total(Key::Service, cube(1, 3, 2), &straight, ORIGIN, ORIGIN),
         Ok(1200)
     );
     let curved = [3, 5, 16, 100, -8, 10];
-    assert_eq!(cell_total(cube(1, 5, 2), &curved, ORIGIN), Ok(6284));
+    assert_eq!(
+        cell_total(Key::Service, cube(1, 5, 2), &curved, ORIGIN),
+        Ok(6284)
+    );
 }
 
 #[test]
@@ -447,10 +453,10 @@ fn boxes_after_lengths_and_before_entries() {
         (&beyond, ORIGIN, [0, 0, 1], 29, 2),
         (&beyond, ORIGIN, ORIGIN, 5, 0),
     ] {
-        let said = plain(box_total(plane, records, first, last));
+        let said = plain(box_total(Key::Service, plane, records, first, last));
         assert_eq!(said, refused(number, place), "{first:?} {last:?}");
     }
-    let said = plain(cell_total(plane, &beyond, [0, 1, 0]));
+    let said = plain(cell_total(Key::Service, plane, &beyond, [0, 1, 0]));
     assert_eq!(said, refused(14, 1));
 }
 
@@ -459,7 +465,7 @@ fn place_of_5_in_a_box_is_the_smallest_index() {
     let sheet = shape(2, 3, [3, 4, 1]);
     let said = |indices: [usize; 2], first, last| {
         let records = only(48, &indices.map(|index| (index, 32769)));
-        plain(box_total(sheet, &records, first, last))
+        plain(box_total(Key::Service, sheet, &records, first, last))
     };
     assert_eq!(said([12, 8], ORIGIN, [1, 0, 0]), refused(5, 8));
     assert_eq!(said([0, 32], [1, 1, 0], [1, 1, 0]), refused(5, 32));
@@ -550,7 +556,10 @@ fn place_of_5_in_corner_order() {
 fn shared_nodes_are_read_in_the_upper_cell() {
     let line = cube(1, 3, 3);
     let records = [32769, 0, 7, 0, 9, 0];
-    assert_eq!(dose_float(line, &records, [1.0, 0.0, 0.0]), Ok(7.0));
+    assert_eq!(
+        dose_float(Key::Service, line, &records, [1.0, 0.0, 0.0]),
+        Ok(7.0)
+    );
     for (p, printed) in [(255, refused(5, 0)), (256, Ok(7)), (512, Ok(9))] {
         check(line, &records, Position([p, 0, 0]), Dose, printed);
     }

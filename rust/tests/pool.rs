@@ -5,7 +5,7 @@ mod model;
 
 use common::*;
 use lukhtari::limits::{SAMPLE_LIMIT, WEIGHT_MAX};
-use lukhtari::{estimate, pool, Measurement, Shape};
+use lukhtari::{estimate, pool, Key, Measurement, Shape};
 use model::pool::mean;
 use model::{Answer, Rational};
 
@@ -75,7 +75,12 @@ impl Call {
 fn run_out(call: &Call) -> Answer<Vec<i32>> {
     let expected = model::pool::pool(&call.a.plain(), &call.b.plain(), call.room);
     let mut buffer = Lent::new(call.room);
-    let got = plain(pool(call.a.lent(), call.b.lent(), buffer.slice()));
+    let got = plain(pool(
+        Key::Service,
+        call.a.lent(),
+        call.b.lent(),
+        buffer.slice(),
+    ));
     assert_eq!(got, outcome(&expected));
     buffer.check(expected.as_deref().unwrap_or_default());
     expected
@@ -238,7 +243,10 @@ fn lattices_that_can_be_estimated_are_pooled_to_such_ones() {
             let [a, b] = [3, 4].map(|w| Lattice::new(shape, random.estimable(shape), w));
             let samples = run_out(&Call::new(a, b)).expect("accepted lattices");
             let mut records = vec![0; shape.entries()];
-            assert_eq!(estimate(shape, &samples, &mut records), Ok(()));
+            assert_eq!(
+                estimate(Key::Service, shape, &samples, &mut records),
+                Ok(())
+            );
         }
     }
 }
@@ -274,7 +282,7 @@ fn a_lattice_with_itself_is_given_back() {
                 samples: &samples,
                 weight,
             });
-            assert_eq!(pool(a, b, buffer.slice()), Ok(()));
+            assert_eq!(pool(Key::Service, a, b, buffer.slice()), Ok(()));
             buffer.check(&samples);
         }
     }

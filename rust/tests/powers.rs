@@ -5,7 +5,7 @@ mod model;
 
 use common::*;
 use lukhtari::limits::{POWER_COEFFICIENTS, POWER_COEFFICIENT_LIMIT};
-use lukhtari::{dose_in_cell, estimate, ffi, powers, Shape};
+use lukhtari::{dose_in_cell, estimate, ffi, powers, Key, Shape};
 use model::powers::{cell_powers, value_at};
 use model::stages::{exact, Point};
 use model::{Answer, Rational, Want};
@@ -61,7 +61,13 @@ fn run_out(call: &Call) -> Answer<Vec<i32>> {
     let expected = model::powers::powers(&plain_shape(call.shape), &call.records, cell, room);
     for shape in editions(call.shape) {
         let mut buffer = Lent::new(room);
-        let got = plain(powers(shape, &call.records, cell, buffer.slice()));
+        let got = plain(powers(
+            Key::Service,
+            shape,
+            &call.records,
+            cell,
+            buffer.slice(),
+        ));
         assert_eq!(got, outcome(&expected), "{shape:?} {cell:?}");
         buffer.check(expected.as_deref().unwrap_or_default());
     }
@@ -80,7 +86,7 @@ fn plane(x: u32, y: u32) -> Shape {
 // Estimated records of a table.
 fn records(shape: Shape, samples: &[i32]) -> Vec<i32> {
     let mut records = vec![0; shape.entries()];
-    estimate(shape, samples, &mut records).expect("accepted table");
+    estimate(Key::Service, shape, samples, &mut records).expect("accepted table");
     records
 }
 
@@ -201,7 +207,8 @@ fn doses_are_near_the_polynomial() {
         let call = Call::new(shape, records(shape, &samples), cell);
         let numbers = run_out(&call).expect("accepted cell");
         let [u, v] = [0; 2].map(|_: u32| random.below(257) as u32);
-        let dose = dose_in_cell(shape, &call.records, cell, [u, v, 0]).expect("accepted query");
+        let dose = dose_in_cell(Key::Service, shape, &call.records, cell, [u, v, 0])
+            .expect("accepted query");
         let dose = Rational::whole(dose.value as i64);
         let distance = (dose - polynomial_at(&numbers, u, v)).abs();
         assert!(distance <= distance_bound(2, 0));
@@ -396,6 +403,7 @@ fn place_is_0_when_done() {
     // SAFETY: pointers and lengths are those of the arrays.
     let done = unsafe {
         ffi::lukhtari_powers(
+            SERVICE,
             plane(2, 2),
             records.as_ptr(),
             16,

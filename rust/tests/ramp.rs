@@ -5,7 +5,7 @@ mod model;
 mod ramps;
 
 use common::*;
-use lukhtari::{dose, ramp, Shape};
+use lukhtari::{dose, ramp, Key, Shape};
 use model::query::{last_step, locate, Where};
 use model::ramp::Ramped;
 use ramps::*;
@@ -14,7 +14,7 @@ use ramps::*;
 #[track_caller]
 fn run_accepted(call: &Ramp) -> Ramped {
     let ramped = run_ramp(call).expect("accepted ramp");
-    let own = |at| dose(call.shape, &call.records, at).expect("accepted position");
+    let own = |at| dose(Key::Service, call.shape, &call.records, at).expect("accepted position");
     let own: Vec<i32> = call.list().into_iter().map(|at| own(at).value).collect();
     assert_eq!(ramped.answers, own, "{:?}", call.shape);
     ramped
@@ -272,8 +272,8 @@ fn a_vignette_in_the_largest_table() {
         .map(|step| [16128 - step, 8000 + 2 * step, 3 * step])
         .collect();
     let mut answers = [0; 256];
-    let fetches = ramp(shape, &records, &list, &mut answers).expect("accepted ramp");
-    let own = |&at: &[i32; 3]| dose(shape, &records, at).expect("accepted position");
+    let fetches = ramp(Key::Service, shape, &records, &list, &mut answers).expect("accepted ramp");
+    let own = |&at: &[i32; 3]| dose(Key::Service, shape, &records, at).expect("accepted position");
     let own: Vec<i32> = list.iter().map(|at| own(at).value).collect();
     assert_eq!(answers.to_vec(), own);
     let cell = |&at: &[i32; 3]| locate(&plain_shape(shape), Where::Position(at)).unwrap().0;

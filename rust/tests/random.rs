@@ -87,7 +87,7 @@ fn run_table(random: &mut Random, seed: u64, (degree, axes, kind): (u32, u32, Ki
 fn estimated(random: &mut Random, seed: u64, shape: Shape) -> model::Answer<Vec<i32>> {
     let samples = imported(random, seed, shape);
     let mut records = vec![0; shape.entries()];
-    let got = estimate(shape, &samples, &mut records).map(|()| records);
+    let got = estimate(Key::Service, shape, &samples, &mut records).map(|()| records);
     let expected = model::estimate::estimate(&plain_shape(shape), &samples, shape.entries());
     assert!(plain(got) == expected, "seed {seed}");
     expected
@@ -102,10 +102,10 @@ fn imported(random: &mut Random, seed: u64, shape: Shape) -> Vec<i32> {
     };
     let text = random.typed(&typed);
     let mut samples = vec![0; shape.nodes()];
-    import(shape, &text, &mut samples).expect("accepted text");
+    import(Key::Service, shape, &text, &mut samples).expect("accepted text");
     assert!(samples == typed, "seed {seed}");
     let text = damaged(random, &text);
-    let got = import(shape, &text, &mut samples).map(|()| samples);
+    let got = import(Key::Service, shape, &text, &mut samples).map(|()| samples);
     let expected = model::text::import(&plain_shape(shape), &text, typed.len());
     assert!(plain(got) == expected, "seed {seed}");
     typed
@@ -207,8 +207,10 @@ fn ask(query: &Query, seed: u64) -> model::Answer<i32> {
         })
     };
     let got = match (query.at, query.want) {
-        (Where::Float(p), Want::Dose) => whole(dose_float(shape, records, p)),
-        (Where::Float(p), Want::Slope(axis)) => whole(slope_float(shape, records, p, axis)),
+        (Where::Float(p), Want::Dose) => whole(dose_float(Key::Service, shape, records, p)),
+        (Where::Float(p), Want::Slope(axis)) => {
+            whole(slope_float(Key::Service, shape, records, p, axis))
+        }
         (at, want) => queries::answer(shape, records, at, want),
     };
     let expected = model::query::query(&plain_shape(shape), records, query.at, query.want);
@@ -231,12 +233,12 @@ fn check_distance(query: &Query, answer: i32, seed: u64) {
 fn convert(query: &Query, seed: u64) {
     let shape = query.shape;
     let mut out = vec![0; shape.coefficients()];
-    coefficients(shape, &query.records, [0; 3], &mut out).expect("accepted cell");
+    coefficients(Key::Service, shape, &query.records, [0; 3], &mut out).expect("accepted cell");
     let plain = plain_shape(shape);
     let expected = model::coefficients::coefficients(&plain, &query.records, [0; 3], out.len());
     assert!(Ok(&out) == expected.as_ref(), "seed {seed}");
     let mut back = vec![0; cube(shape.axes, shape.degree, 2).entries()];
-    corners(shape.axes, shape.degree, &out, &mut back).expect("permitted records");
+    corners(Key::Service, shape.axes, shape.degree, &out, &mut back).expect("permitted records");
     let entries = corner_entries(shape, [0; 3]);
     let same = |(entry, (index, _)): (&i32, &(usize, i32))| *entry == query.records[*index];
     assert!(back.iter().zip(&entries).all(same), "seed {seed}");
@@ -253,10 +255,10 @@ fn totals(random: &mut Random, query: &Query, seed: u64) {
             (first[axis], last[axis]) = (first[axis].min(last[axis]), first[axis].max(last[axis]));
         }
     }
-    let got = plain(cell_total(shape, records, last));
+    let got = plain(cell_total(Key::Service, shape, records, last));
     let expected = model::totals::cell_total(&plain_shape(shape), records, last);
     assert_eq!(got, expected, "seed {seed}");
-    let got = plain(box_total(shape, records, first, last));
+    let got = plain(box_total(Key::Service, shape, records, first, last));
     let expected = model::totals::box_total(&plain_shape(shape), records, first, last);
     assert_eq!(got, expected, "seed {seed}");
 }
@@ -270,7 +272,7 @@ fn export(random: &mut Random, query: &Query, seed: u64) {
     }
     let mut buffer = Lent::new(random.pick(&[16, 16, 17, 40, 15]));
     let room = buffer.slice().len();
-    let got = plain(powers(shape, records, cell, buffer.slice()));
+    let got = plain(powers(Key::Service, shape, records, cell, buffer.slice()));
     let expected = model::powers::powers(&plain_shape(shape), records, cell, room);
     assert_eq!(got, outcome(&expected), "seed {seed}");
     buffer.check(expected.as_deref().unwrap_or_default());
@@ -286,7 +288,8 @@ fn along_path(random: &mut Random, query: &Query, seed: u64) {
         spoil(random, &mut call);
     }
     if let Ok(ramped) = run_ramp(&call) {
-        let own = |at| dose(call.shape, &call.records, at).expect("accepted position");
+        let own =
+            |at| dose(Key::Service, call.shape, &call.records, at).expect("accepted position");
         let own: Vec<i32> = call.list().into_iter().map(|at| own(at).value).collect();
         assert_eq!(ramped.answers, own, "seed {seed}");
     }

@@ -5,7 +5,7 @@ mod model;
 mod positions;
 
 use common::*;
-use lukhtari::{dose_float, ffi, slope_float, Shape};
+use lukhtari::{dose_float, ffi, slope_float, Key, Shape};
 use model::query::{last_step, query_float, Where};
 use model::Answer;
 use model::Want::{self, Dose, Slope};
@@ -65,8 +65,8 @@ fn set(query: &mut Query, axis: usize, to: f32) {
 fn call(query: &Query) -> Result<f32, lukhtari::Refusal> {
     let (shape, records, at) = (query.shape, &query.records[..], position(query));
     match query.want {
-        Dose => dose_float(shape, records, at),
-        Slope(axis) => slope_float(shape, records, at, axis),
+        Dose => dose_float(Key::Service, shape, records, at),
+        Slope(axis) => slope_float(Key::Service, shape, records, at, axis),
         _ => panic!("no call by float"),
     }
 }
@@ -79,8 +79,8 @@ fn raw(query: &Query) -> ffi::Real {
     // SAFETY: pointer and length are those of the records.
     unsafe {
         match query.want {
-            Dose => ffi::lukhtari_dose_float(shape, records, len, at),
-            Slope(axis) => ffi::lukhtari_slope_float(shape, records, len, at, axis),
+            Dose => ffi::lukhtari_dose_float(SERVICE, shape, records, len, at),
+            Slope(axis) => ffi::lukhtari_slope_float(SERVICE, shape, records, len, at, axis),
             _ => panic!("no call by float"),
         }
     }

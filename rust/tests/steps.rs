@@ -101,8 +101,8 @@ fn asked(shape: Shape, records: &[i32], at: Where, want: Want) -> Answer<()> {
 #[track_caller]
 fn by_float(shape: Shape, records: &[i32], at: [f32; 3], want: Want) -> Answer<f32> {
     let got = plain(match want {
-        Slope(axis) => slope_float(shape, records, at, axis),
-        _ => dose_float(shape, records, at),
+        Slope(axis) => slope_float(Key::Service, shape, records, at, axis),
+        _ => dose_float(Key::Service, shape, records, at),
     });
     let model = query_float(&plain_shape(shape), records, at, want);
     assert_eq!(got, model, "{shape:?} {at:?} {want:?}");
@@ -248,10 +248,10 @@ fn a_ruler_reads_its_steps() {
             let Estimated { shape, records } = ruler(degree, 64, steps);
             for shape in editions(shape) {
                 for p in 0..=63 * steps {
-                    let dose = dose(shape, &records, [p as i32, 0, 0]);
+                    let dose = dose(Key::Service, shape, &records, [p as i32, 0, 0]);
                     let (value, exact) = (p as i32, true);
                     assert_eq!(dose, Ok(lukhtari::Dose { value, exact }));
-                    let slope = slope(shape, &records, [p as i32, 0, 0], 0);
+                    let slope = slope(Key::Service, shape, &records, [p as i32, 0, 0], 0);
                     assert_eq!(slope, Ok(steps as i32));
                 }
             }
@@ -427,7 +427,7 @@ fn ramps_on_every_choice() {
             let records = random.records(shape);
             let list = random.path(shape, 12);
             let ramped = run_ramp(&Ramp::new(shape, &records, &list)).expect("a ramp");
-            let doses = list.iter().map(|&p| dose(shape, &records, p));
+            let doses = list.iter().map(|&p| dose(Key::Service, shape, &records, p));
             let doses: Vec<i32> = doses.map(|dose| dose.expect("a dose").value).collect();
             assert_eq!(ramped.answers, doses);
         }
@@ -470,15 +470,21 @@ fn records_and_coefficients_do_not_depend_on_them() {
         let whole = |shape: Shape| {
             let Estimated { shape, records } = Estimated::new(shape, &samples);
             let mut numbers = vec![0; shape.coefficients()];
-            coefficients(shape, &records, cell, &mut numbers).expect("coefficients");
+            coefficients(Key::Service, shape, &records, cell, &mut numbers).expect("coefficients");
             let mut exported = vec![0; 16];
-            let powers = powers(shape, &records, cell, &mut exported);
+            let powers = powers(Key::Service, shape, &records, cell, &mut exported);
             assert_eq!(powers.is_ok(), (axes, degree) == (2, 3));
             let text = samples.iter().map(|&units| format!("{units}e-2 "));
             let mut typed = vec![0; samples.len()];
-            import(shape, text.collect::<String>().as_bytes(), &mut typed).expect("samples");
+            import(
+                Key::Service,
+                shape,
+                text.collect::<String>().as_bytes(),
+                &mut typed,
+            )
+            .expect("samples");
             assert_eq!(typed, samples);
-            let total = cell_total(shape, &records, cell).expect("a total");
+            let total = cell_total(Key::Service, shape, &records, cell).expect("a total");
             (records, numbers, exported, total)
         };
         let expected = whole(fine);
@@ -497,7 +503,7 @@ fn the_exported_polynomial_at_steps_of_their_own() {
         let point = any_point(&mut random, shape);
         let (cell, u) = random.pick(&cells_at(shape, point));
         let mut exported = [0; 16];
-        powers(shape, &table.records, cell, &mut exported).expect("coefficients");
+        powers(Key::Service, shape, &table.records, cell, &mut exported).expect("coefficients");
         let [x, y] = [0, 1].map(|axis| Rational::ratio(u[axis] as i64, steps[axis] as i64));
         let plain = plain_shape(shape);
         let at = Where::Cell(cell, u);
@@ -521,7 +527,7 @@ fn files_hold_no_step_numbers() {
                 call.steps = steps;
                 assert_eq!(run_write_bytes(&call).as_ref(), Ok(&bytes), "{steps:?}");
                 let mut samples = vec![0; call.samples.len()];
-                let again = read(&bytes, &mut samples).expect("a table");
+                let again = read(Key::Service, &bytes, &mut samples).expect("a table");
                 assert_eq!(again.steps, finest_steps(axes));
                 assert_eq!(samples, call.samples);
             }
@@ -532,14 +538,14 @@ fn files_hold_no_step_numbers() {
 #[test]
 fn a_table_that_is_read_has_256_steps() {
     let mut samples = [0; 2];
-    let table = read(&words(&EXAMPLE), &mut samples).expect("a file");
+    let table = read(Key::Service, &words(&EXAMPLE), &mut samples).expect("a file");
     assert_eq!(table.steps, [256, 1, 1]);
     for degree in [3, 5] {
         let shape = table.shape(degree);
         assert_eq!(shape, cube(1, degree, 2));
         let mut records = vec![0; shape.entries()];
-        estimate(shape, &samples, &mut records).expect("records");
-        let dose = dose(shape, &records, [64, 0, 0]).expect("a dose");
+        estimate(Key::Service, shape, &samples, &mut records).expect("records");
+        let dose = dose(Key::Service, shape, &records, [64, 0, 0]).expect("a dose");
         assert_eq!(dose.value, 25);
     }
 }
@@ -571,7 +577,15 @@ fn every_call(shape: Shape, lent: &Shape) -> [Answer<()>; CALLS] {
             steps,
             ..
         } = shape;
-        write(axes, counts, steps, shape.second_edition, &samples, out)
+        write(
+            Key::Service,
+            axes,
+            counts,
+            steps,
+            shape.second_edition,
+            &samples,
+            out,
+        )
     };
     let mut file = Lent::new(lent.file_bytes());
     let written = outcome(&plain(written(file.slice())));
@@ -579,12 +593,20 @@ fn every_call(shape: Shape, lent: &Shape) -> [Answer<()>; CALLS] {
         file.check(&[]);
     }
     [
-        filled(lent.entries(), &|out| estimate(shape, &samples, out)),
-        filled(216, &|out| coefficients(shape, &records, [0; 3], out)),
-        filled(16, &|out| powers(shape, &records, [0; 3], out)),
-        filled(lent.nodes(), &|out| import(shape, text.as_bytes(), out)),
+        filled(lent.entries(), &|out| {
+            estimate(Key::Service, shape, &samples, out)
+        }),
+        filled(216, &|out| {
+            coefficients(Key::Service, shape, &records, [0; 3], out)
+        }),
+        filled(16, &|out| {
+            powers(Key::Service, shape, &records, [0; 3], out)
+        }),
+        filled(lent.nodes(), &|out| {
+            import(Key::Service, shape, text.as_bytes(), out)
+        }),
         filled(2, &|out| {
-            ramp(shape, &records, &[[0; 3]; 2], out).map(|_| ())
+            ramp(Key::Service, shape, &records, &[[0; 3]; 2], out).map(|_| ())
         }),
         ask(position, Dose),
         ask(cell, Dose),
@@ -595,8 +617,14 @@ fn every_call(shape: Shape, lent: &Shape) -> [Answer<()>; CALLS] {
         outcome(&by_float(shape, &records, float, Dose)),
         outcome(&by_float(shape, &records, float, Slope(0))),
         written,
-        outcome(&plain(cell_total(shape, &records, [0; 3]))),
-        outcome(&plain(box_total(shape, &records, [0; 3], [0; 3]))),
+        outcome(&plain(cell_total(Key::Service, shape, &records, [0; 3]))),
+        outcome(&plain(box_total(
+            Key::Service,
+            shape,
+            &records,
+            [0; 3],
+            [0; 3],
+        ))),
     ]
 }
 
@@ -677,10 +705,16 @@ fn all_wrong(shape: Shape) -> Vec<Answer<()>> {
     let nan = [f32::NAN; 3];
     all.push(outcome(&by_float(shape, &[], nan, Dose)));
     all.push(outcome(&by_float(shape, &[], nan, Slope(3))));
-    all.push(plain(estimate(shape, &[], &mut [])));
-    all.push(plain(coefficients(shape, &[], [9; 3], &mut [])));
-    all.push(plain(powers(shape, &[], [9; 3], &mut [])));
-    all.push(plain(import(shape, b"x", &mut [])));
+    all.push(plain(estimate(Key::Service, shape, &[], &mut [])));
+    all.push(plain(coefficients(
+        Key::Service,
+        shape,
+        &[],
+        [9; 3],
+        &mut [],
+    )));
+    all.push(plain(powers(Key::Service, shape, &[], [9; 3], &mut [])));
+    all.push(plain(import(Key::Service, shape, b"x", &mut [])));
     let list = Ramp {
         shape,
         records: vec![],
@@ -688,8 +722,19 @@ fn all_wrong(shape: Shape) -> Vec<Answer<()>> {
         room: 0,
     };
     all.push(ramps::run(&list));
-    all.push(outcome(&plain(cell_total(shape, &[], [9; 3]))));
-    all.push(outcome(&plain(box_total(shape, &[], [9; 3], [0; 3]))));
+    all.push(outcome(&plain(cell_total(
+        Key::Service,
+        shape,
+        &[],
+        [9; 3],
+    ))));
+    all.push(outcome(&plain(box_total(
+        Key::Service,
+        shape,
+        &[],
+        [9; 3],
+        [0; 3],
+    ))));
     all
 }
 
@@ -725,7 +770,17 @@ fn directly_after_3_and_before_20_24_and_4() {
 fn writing_tests_them_after_3_and_before_4() {
     for (axes, edition) in files::FILES {
         let counts = cube(axes, 3, 2).counts;
-        let written = |counts, steps| plain(write(axes, counts, steps, edition, &[], &mut []));
+        let written = |counts, steps| {
+            plain(write(
+                Key::Service,
+                axes,
+                counts,
+                steps,
+                edition,
+                &[],
+                &mut [],
+            ))
+        };
         let right = finest_steps(axes);
         assert_eq!(written(counts, right), refused(4, 0));
         for axis in 0..3 {
@@ -754,18 +809,19 @@ int main(void) {
     uint8_t file[LUKHTARI_FILE_BYTES(2, 4, false)];
     lukhtari_index counts = {{2, 2, 1}}, steps = {{16, 64, 1}};
     lukhtari_position quarter = {{4, 64, 0}}, beyond = {{4, 65, 0}};
-    lukhtari_estimate(shape, samples, 4, records, 16);
-    lukhtari_marked dose = lukhtari_dose(shape, records, 16, quarter);
+    lukhtari_estimate(LUKHTARI_SERVICE, shape, samples, 4, records, 16);
+    lukhtari_marked dose = lukhtari_dose(LUKHTARI_SERVICE, shape, records, 16, quarter);
     printf(\"%u %d %d\\n\", (unsigned)dose.number, (int)dose.value, dose.exact);
-    dose = lukhtari_dose(shape, records, 16, beyond);
+    dose = lukhtari_dose(LUKHTARI_SERVICE, shape, records, 16, beyond);
     printf(\"%u %u\\n\", (unsigned)dose.number, (unsigned)dose.place);
-    lukhtari_written written = lukhtari_write(2, counts, steps, false, samples, 4, file, sizeof file);
+    uint32_t key = LUKHTARI_SERVICE;
+    lukhtari_written written = lukhtari_write(key, 2, counts, steps, false, samples, 4, file, sizeof file);
     printf(\"%u %u\\n\", (unsigned)written.number, (unsigned)written.length);
-    lukhtari_table table = lukhtari_read(file, sizeof file, samples, 4);
+    lukhtari_table table = lukhtari_read(LUKHTARI_SERVICE, file, sizeof file, samples, 4);
     printf(\"%u %u %u\\n\", (unsigned)table.steps[0], (unsigned)table.steps[1],
            (unsigned)table.steps[2]);
     steps.at[2] = 0;
-    written = lukhtari_write(2, counts, steps, false, samples, 4, file, sizeof file);
+    written = lukhtari_write(key, 2, counts, steps, false, samples, 4, file, sizeof file);
     printf(\"%u %u\\n\", (unsigned)written.number, (unsigned)written.place);
     return 0;
 }

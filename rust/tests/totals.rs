@@ -5,7 +5,7 @@ mod model;
 
 use common::*;
 use lukhtari::limits::{total_divisor, TOTAL_LIMIT};
-use lukhtari::{box_total, cell_total, estimate, ffi, Shape};
+use lukhtari::{box_total, cell_total, estimate, ffi, Key, Shape};
 use model::totals::cells_of;
 use model::{Answer, Rational};
 
@@ -39,7 +39,7 @@ fn run_box(call: &Call) -> Answer<i64> {
     let records = &call.records;
     let expected = model::totals::box_total(&plain_shape(call.shape), records, first, last);
     for shape in editions(call.shape) {
-        let got = plain(box_total(shape, records, first, last));
+        let got = plain(box_total(Key::Service, shape, records, first, last));
         assert_eq!(got, expected, "{shape:?} {first:?} {last:?}");
     }
     expected
@@ -51,7 +51,7 @@ fn run_cell(call: &Call) -> Answer<i64> {
     let cell = call.first;
     let expected = model::totals::cell_total(&plain_shape(call.shape), &call.records, cell);
     for shape in editions(call.shape) {
-        let got = plain(cell_total(shape, &call.records, cell));
+        let got = plain(cell_total(Key::Service, shape, &call.records, cell));
         assert_eq!(got, expected, "{shape:?} {cell:?}");
     }
     expected
@@ -110,7 +110,7 @@ fn straight_data() {
             let nodes = model::shape::indices(counts);
             let samples: Vec<i32> = nodes.into_iter().map(sample).collect();
             let mut records = vec![0; shape.entries()];
-            estimate(shape, &samples, &mut records).expect("accepted table");
+            estimate(Key::Service, shape, &samples, &mut records).expect("accepted table");
             let mut call = Call::new(shape, records);
             (call.first, call.last) = random_box(&mut random, shape);
             let length = |a: usize| (call.last[a] - call.first[a] + 1) as i64;
@@ -144,7 +144,8 @@ fn random_boxes_and_cells() {
             let total = run_box(&call).expect("permitted records");
             let mut sum = 0;
             for cell in cells_of(call.first, call.last) {
-                sum += cell_total(shape, &call.records, cell).expect("permitted records");
+                sum += cell_total(Key::Service, shape, &call.records, cell)
+                    .expect("permitted records");
             }
             assert_eq!(total, sum);
             assert!(run_cell(&call).is_ok());
@@ -160,7 +161,7 @@ fn cuts() {
             let shape = random.shape(axes, degree, 8);
             let mut call = Call::new(shape, random.records(shape));
             (call.first, call.last) = random_box(&mut random, shape);
-            let total = |first, last| box_total(shape, &call.records, first, last);
+            let total = |first, last| box_total(Key::Service, shape, &call.records, first, last);
             let whole = total(call.first, call.last).expect("permitted records");
             for axis in 0..axes as usize {
                 for cut in call.first[axis]..call.last[axis] {
@@ -182,7 +183,9 @@ fn the_whole_table_is_the_sum_of_all_cells() {
     for (axes, degree) in KINDS {
         let shape = random.shape(axes, degree, 7);
         let call = Call::new(shape, random.records(shape));
-        let one = |cell: [u32; 3]| cell_total(shape, &call.records, cell).expect("permitted");
+        let one = |cell: [u32; 3]| {
+            cell_total(Key::Service, shape, &call.records, cell).expect("permitted")
+        };
         let sum: i64 = cells(shape).into_iter().map(one).sum();
         assert_eq!(run_box(&call), Ok(sum));
     }
@@ -219,7 +222,7 @@ fn largest_totals() {
         }
     };
     let records: Vec<i32> = (0..shape.entries()).map(entry).collect();
-    let total = box_total(shape, &records, [0; 3], [62; 3]).expect("permitted");
+    let total = box_total(Key::Service, shape, &records, [0; 3], [62; 3]).expect("permitted");
     assert_eq!(total, 32768 * 63 * 63 * 63 * total_divisor(3, 5));
     assert!(total < TOTAL_LIMIT);
 }
@@ -384,13 +387,21 @@ fn faults_in_order() {
 fn refused_members_are_0() {
     let (records, cell) = ([7; 4], ffi::Index { at: [1, 0, 0] });
     // SAFETY: pointer and length are those of the array.
-    let total =
-        unsafe { ffi::lukhtari_cell_total(shape(1, 3, [2, 1, 1]), records.as_ptr(), 4, cell) };
+    let total = unsafe {
+        ffi::lukhtari_cell_total(SERVICE, shape(1, 3, [2, 1, 1]), records.as_ptr(), 4, cell)
+    };
     assert_eq!((total.number, total.place, total.numerator), (14, 0, 0));
     let inside = ffi::Index { at: [0; 3] };
     // SAFETY: the same.
     let total = unsafe {
-        ffi::lukhtari_box_total(shape(1, 3, [2, 1, 1]), records.as_ptr(), 4, inside, inside)
+        ffi::lukhtari_box_total(
+            SERVICE,
+            shape(1, 3, [2, 1, 1]),
+            records.as_ptr(),
+            4,
+            inside,
+            inside,
+        )
     };
     // 12 · (7 + 7) of the values, 7 − 7 of the slopes.
     assert_eq!((total.number, total.place, total.numerator), (0, 0, 168));

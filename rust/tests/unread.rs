@@ -9,7 +9,7 @@
 mod common;
 mod model;
 
-use common::{cube, editions, in_steps, KINDS};
+use common::{cube, editions, in_steps, KINDS, SERVICE};
 use lukhtari::ffi::*;
 use std::ptr::{null, null_mut, NonNull};
 
@@ -23,7 +23,7 @@ fn nowhere<T>() -> *mut T {
 
 fn estimate(shape: Shape, samples: usize, room: usize) -> u32 {
     // SAFETY: nothing is read or written.
-    unsafe { lukhtari_estimate(shape, nowhere(), samples, nowhere(), room) }.number
+    unsafe { lukhtari_estimate(SERVICE, shape, nowhere(), samples, nowhere(), room) }.number
 }
 
 fn write(shape: Shape, samples: usize, room: usize) -> u32 {
@@ -31,48 +31,65 @@ fn write(shape: Shape, samples: usize, room: usize) -> u32 {
     let (counts, steps) = (Index { at: shape.counts }, Index { at: shape.steps });
     let (from, to) = (nowhere(), nowhere());
     // SAFETY: nothing is read or written.
-    unsafe { lukhtari_write(axes, counts, steps, edition, from, samples, to, room) }.number
+    unsafe {
+        lukhtari_write(
+            SERVICE, axes, counts, steps, edition, from, samples, to, room,
+        )
+    }
+    .number
 }
 
 fn coefficients(shape: Shape, records: usize, cell: u32, room: usize) -> u32 {
     let cell = Index { at: [cell, 0, 0] };
     // SAFETY: nothing is read or written.
-    unsafe { lukhtari_coefficients(shape, nowhere(), records, cell, nowhere(), room) }.number
+    unsafe { lukhtari_coefficients(SERVICE, shape, nowhere(), records, cell, nowhere(), room) }
+        .number
 }
 
 fn powers(shape: Shape, records: usize, cell: u32, room: usize) -> u32 {
     let cell = Index { at: [cell, 0, 0] };
     // SAFETY: nothing is read or written.
-    unsafe { lukhtari_powers(shape, nowhere(), records, cell, nowhere(), room) }.number
+    unsafe { lukhtari_powers(SERVICE, shape, nowhere(), records, cell, nowhere(), room) }.number
 }
 
 fn total(shape: Shape, records: usize, cell: u32) -> u32 {
     let cell = Index { at: [cell, 0, 0] };
     // SAFETY: nothing is read.
-    unsafe { lukhtari_cell_total(shape, nowhere(), records, cell) }.number
+    unsafe { lukhtari_cell_total(SERVICE, shape, nowhere(), records, cell) }.number
 }
 
 fn total_of_box(shape: Shape, records: usize, first: u32, last: u32) -> u32 {
     let [first, last] = [first, last].map(|at| Index { at: [at, 0, 0] });
     // SAFETY: nothing is read.
-    unsafe { lukhtari_box_total(shape, nowhere(), records, first, last) }.number
+    unsafe { lukhtari_box_total(SERVICE, shape, nowhere(), records, first, last) }.number
 }
 
 fn corners(axes: u32, degree: u32, coefficients: usize, room: usize) -> u32 {
     // SAFETY: nothing is read or written.
-    unsafe { lukhtari_corners(axes, degree, nowhere(), coefficients, nowhere(), room) }.number
+    unsafe {
+        lukhtari_corners(
+            SERVICE,
+            axes,
+            degree,
+            nowhere(),
+            coefficients,
+            nowhere(),
+            room,
+        )
+    }
+    .number
 }
 
 // With a text at no place.
 fn import_nowhere(shape: Shape, length: usize, room: usize) -> u32 {
     // SAFETY: nothing is read or written.
-    unsafe { lukhtari_import(shape, nowhere(), length, nowhere(), room) }.number
+    unsafe { lukhtari_import(SERVICE, shape, nowhere(), length, nowhere(), room) }.number
 }
 
 // With a slice for the samples at no place.
 fn import(shape: Shape, text: &str, room: usize) -> u32 {
     // SAFETY: the text is lent; the samples are neither read nor written.
-    unsafe { lukhtari_import(shape, text.as_ptr(), text.len(), nowhere(), room) }.number
+    unsafe { lukhtari_import(SERVICE, shape, text.as_ptr(), text.len(), nowhere(), room) }.number
 }
 
 #[test]
@@ -109,6 +126,7 @@ fn ramp_nowhere(shape: Shape, records: usize, numbers: usize, room: usize) -> Ra
     // SAFETY: nothing is read or written.
     unsafe {
         lukhtari_ramp(
+            SERVICE,
             shape,
             nowhere(),
             records,
@@ -126,6 +144,7 @@ fn ramp(shape: Shape, positions: &[i32]) -> Ramped {
     // SAFETY: the positions are lent; no record is read and no answer written.
     unsafe {
         lukhtari_ramp(
+            SERVICE,
             shape,
             nowhere(),
             shape.entries(),
@@ -215,7 +234,7 @@ fn writing() {
 fn pool(a: Shape, samples_a: usize, b: Shape, samples_b: usize, w: u32, room: usize) -> u32 {
     let at = nowhere();
     // SAFETY: nothing is read or written.
-    unsafe { lukhtari_pool(a, at, samples_a, 1, b, at, samples_b, w, at, room) }.number
+    unsafe { lukhtari_pool(SERVICE, a, at, samples_a, 1, b, at, samples_b, w, at, room) }.number
 }
 
 #[test]
@@ -335,14 +354,14 @@ fn queries(shape: Shape, records: usize, at: i32, axis: u32) -> [u32; 8] {
     // SAFETY: nothing is read.
     unsafe {
         [
-            lukhtari_dose(shape, r, records, p).number,
-            lukhtari_dose_in_cell(shape, r, records, cell, u).number,
-            lukhtari_dose_float(shape, r, records, f).number,
-            lukhtari_slope(shape, r, records, p, axis).number,
-            lukhtari_slope_in_cell(shape, r, records, cell, u, axis).number,
-            lukhtari_slope_float(shape, r, records, f, axis).number,
-            lukhtari_curvature(shape, r, records, p, axis).number,
-            lukhtari_curvature_in_cell(shape, r, records, cell, u, axis).number,
+            lukhtari_dose(SERVICE, shape, r, records, p).number,
+            lukhtari_dose_in_cell(SERVICE, shape, r, records, cell, u).number,
+            lukhtari_dose_float(SERVICE, shape, r, records, f).number,
+            lukhtari_slope(SERVICE, shape, r, records, p, axis).number,
+            lukhtari_slope_in_cell(SERVICE, shape, r, records, cell, u, axis).number,
+            lukhtari_slope_float(SERVICE, shape, r, records, f, axis).number,
+            lukhtari_curvature(SERVICE, shape, r, records, p, axis).number,
+            lukhtari_curvature_in_cell(SERVICE, shape, r, records, cell, u, axis).number,
         ]
     }
 }
@@ -375,8 +394,8 @@ fn curvatures(shape: Shape, records: usize) -> [u32; 2] {
     // SAFETY: nothing is read.
     unsafe {
         [
-            lukhtari_curvature(shape, nowhere(), records, p, 0).number,
-            lukhtari_curvature_in_cell(shape, nowhere(), records, i, i, 0).number,
+            lukhtari_curvature(SERVICE, shape, nowhere(), records, p, 0).number,
+            lukhtari_curvature_in_cell(SERVICE, shape, nowhere(), records, i, i, 0).number,
         ]
     }
 }
@@ -392,9 +411,9 @@ fn cells_and_floats() {
         // SAFETY: nothing is read.
         let numbers = unsafe {
             [
-                lukhtari_dose_in_cell(shape, r, entries, cell, u).number,
-                lukhtari_dose_float(shape, r, entries, f).number,
-                lukhtari_curvature_in_cell(shape, r, entries, cell, u, 0).number,
+                lukhtari_dose_in_cell(SERVICE, shape, r, entries, cell, u).number,
+                lukhtari_dose_float(SERVICE, shape, r, entries, f).number,
+                lukhtari_curvature_in_cell(SERVICE, shape, r, entries, cell, u, 0).number,
             ]
         };
         assert_eq!(numbers, [14, 10, if degree == 3 { 21 } else { 14 }]);
@@ -405,7 +424,7 @@ fn cells_and_floats() {
 fn reading() {
     for length in 0..4 {
         // SAFETY: nothing is read or written.
-        let table = unsafe { lukhtari_read(nowhere(), length, nowhere(), LONG) };
+        let table = unsafe { lukhtari_read(SERVICE, nowhere(), length, nowhere(), LONG) };
         assert_eq!((table.number, table.place), (6, length as u64));
     }
 }
@@ -418,14 +437,14 @@ fn queries_of_null(shape: Shape) -> [u32; 8] {
     // SAFETY: a slice of length 0 may be NULL.
     unsafe {
         [
-            lukhtari_dose(shape, null(), 0, p).number,
-            lukhtari_dose_in_cell(shape, null(), 0, i, i).number,
-            lukhtari_dose_float(shape, null(), 0, f).number,
-            lukhtari_slope(shape, null(), 0, p, 0).number,
-            lukhtari_slope_in_cell(shape, null(), 0, i, i, 0).number,
-            lukhtari_slope_float(shape, null(), 0, f, 0).number,
-            lukhtari_curvature(shape, null(), 0, p, 0).number,
-            lukhtari_curvature_in_cell(shape, null(), 0, i, i, 0).number,
+            lukhtari_dose(SERVICE, shape, null(), 0, p).number,
+            lukhtari_dose_in_cell(SERVICE, shape, null(), 0, i, i).number,
+            lukhtari_dose_float(SERVICE, shape, null(), 0, f).number,
+            lukhtari_slope(SERVICE, shape, null(), 0, p, 0).number,
+            lukhtari_slope_in_cell(SERVICE, shape, null(), 0, i, i, 0).number,
+            lukhtari_slope_float(SERVICE, shape, null(), 0, f, 0).number,
+            lukhtari_curvature(SERVICE, shape, null(), 0, p, 0).number,
+            lukhtari_curvature_in_cell(SERVICE, shape, null(), 0, i, i, 0).number,
         ]
     }
 }
@@ -440,9 +459,9 @@ fn null_with_length_0_for_tables() {
         // SAFETY: the slices are lent; one of length 0 may be NULL.
         let estimates = unsafe {
             [
-                lukhtari_estimate(shape, null(), 0, null_mut(), 0).number,
-                lukhtari_estimate(shape, null(), 0, records.as_mut_ptr(), entries).number,
-                lukhtari_estimate(shape, samples.as_ptr(), nodes, null_mut(), 0).number,
+                lukhtari_estimate(SERVICE, shape, null(), 0, null_mut(), 0).number,
+                lukhtari_estimate(SERVICE, shape, null(), 0, records.as_mut_ptr(), entries).number,
+                lukhtari_estimate(SERVICE, shape, samples.as_ptr(), nodes, null_mut(), 0).number,
             ]
         };
         assert_eq!(estimates, [4, 4, 9]);
@@ -461,28 +480,28 @@ fn null_with_length_0_for_cells() {
         // SAFETY: the slices are lent; one of length 0 may be NULL.
         let conversions = unsafe {
             [
-                lukhtari_coefficients(shape, null(), 0, cell, null_mut(), 0).number,
-                lukhtari_coefficients(shape, null(), 0, cell, o, room).number,
-                lukhtari_coefficients(shape, r, entries, cell, null_mut(), 0).number,
-                lukhtari_corners(axes, degree, null(), 0, null_mut(), 0).number,
-                lukhtari_corners(axes, degree, null(), 0, o, room).number,
-                lukhtari_corners(axes, degree, r, room, null_mut(), 0).number,
+                lukhtari_coefficients(SERVICE, shape, null(), 0, cell, null_mut(), 0).number,
+                lukhtari_coefficients(SERVICE, shape, null(), 0, cell, o, room).number,
+                lukhtari_coefficients(SERVICE, shape, r, entries, cell, null_mut(), 0).number,
+                lukhtari_corners(SERVICE, axes, degree, null(), 0, null_mut(), 0).number,
+                lukhtari_corners(SERVICE, axes, degree, null(), 0, o, room).number,
+                lukhtari_corners(SERVICE, axes, degree, r, room, null_mut(), 0).number,
             ]
         };
         assert_eq!(conversions, [4, 4, 9, 15, 15, 9]);
         // SAFETY: the same.
         let exports = unsafe {
             [
-                lukhtari_powers(shape, null(), 0, cell, null_mut(), 0).number,
-                lukhtari_powers(shape, null(), 0, cell, o, room).number,
-                lukhtari_powers(shape, r, entries, cell, null_mut(), 0).number,
+                lukhtari_powers(SERVICE, shape, null(), 0, cell, null_mut(), 0).number,
+                lukhtari_powers(SERVICE, shape, null(), 0, cell, o, room).number,
+                lukhtari_powers(SERVICE, shape, r, entries, cell, null_mut(), 0).number,
             ]
         };
         // SAFETY: the same.
         let totals = unsafe {
             [
-                lukhtari_cell_total(shape, null(), 0, cell).number,
-                lukhtari_box_total(shape, null(), 0, cell, cell).number,
+                lukhtari_cell_total(SERVICE, shape, null(), 0, cell).number,
+                lukhtari_box_total(SERVICE, shape, null(), 0, cell, cell).number,
             ]
         };
         assert_eq!(totals, [4; 2]);
@@ -499,14 +518,14 @@ fn null_with_length_0_for_files() {
     // SAFETY: the slices are lent; one of length 0 may be NULL.
     let files = unsafe {
         [
-            lukhtari_write(1, counts, steps, false, null(), 0, null_mut(), 0).number,
-            lukhtari_write(1, counts, steps, false, null(), 0, b, 20).number,
-            lukhtari_write(1, counts, steps, false, s, 2, null_mut(), 0).number,
-            lukhtari_write(1, counts, steps, false, s, 2, b, 20).number,
-            lukhtari_read(null(), 0, null_mut(), 0).number,
-            lukhtari_read(null(), 0, s, 2).number,
-            lukhtari_read(b, 20, null_mut(), 0).number,
-            lukhtari_read(b, 20, s, 2).number,
+            lukhtari_write(SERVICE, 1, counts, steps, false, null(), 0, null_mut(), 0).number,
+            lukhtari_write(SERVICE, 1, counts, steps, false, null(), 0, b, 20).number,
+            lukhtari_write(SERVICE, 1, counts, steps, false, s, 2, null_mut(), 0).number,
+            lukhtari_write(SERVICE, 1, counts, steps, false, s, 2, b, 20).number,
+            lukhtari_read(SERVICE, null(), 0, null_mut(), 0).number,
+            lukhtari_read(SERVICE, null(), 0, s, 2).number,
+            lukhtari_read(SERVICE, b, 20, null_mut(), 0).number,
+            lukhtari_read(SERVICE, b, 20, s, 2).number,
         ]
     };
     assert_eq!(files, [4, 4, 9, 0, 6, 6, 9, 0]);
@@ -520,10 +539,10 @@ fn null_with_length_0_for_texts() {
     // SAFETY: the slices are lent; one of length 0 may be NULL.
     let texts = unsafe {
         [
-            lukhtari_import(shape, null(), 0, null_mut(), 0).number,
-            lukhtari_import(shape, null(), 0, s, 2).number,
-            lukhtari_import(shape, t, 3, null_mut(), 0).number,
-            lukhtari_import(shape, t, 3, s, 2).number,
+            lukhtari_import(SERVICE, shape, null(), 0, null_mut(), 0).number,
+            lukhtari_import(SERVICE, shape, null(), 0, s, 2).number,
+            lukhtari_import(SERVICE, shape, t, 3, null_mut(), 0).number,
+            lukhtari_import(SERVICE, shape, t, 3, s, 2).number,
         ]
     };
     assert_eq!(texts, [4, 4, 9, 0]);
@@ -537,11 +556,24 @@ fn null_with_length_0_for_pooling() {
     // SAFETY: the slices are lent; one of length 0 may be NULL.
     let pooled = unsafe {
         [
-            lukhtari_pool(shape, null(), 0, 1, shape, null(), 0, 1, null_mut(), 0).number,
-            lukhtari_pool(shape, null(), 0, 1, shape, s, 2, 1, o, 2).number,
-            lukhtari_pool(shape, s, 2, 1, shape, null(), 0, 1, o, 2).number,
-            lukhtari_pool(shape, s, 2, 1, shape, s, 2, 1, null_mut(), 0).number,
-            lukhtari_pool(shape, s, 2, 1, shape, s, 2, 1, o, 2).number,
+            lukhtari_pool(
+                SERVICE,
+                shape,
+                null(),
+                0,
+                1,
+                shape,
+                null(),
+                0,
+                1,
+                null_mut(),
+                0,
+            )
+            .number,
+            lukhtari_pool(SERVICE, shape, null(), 0, 1, shape, s, 2, 1, o, 2).number,
+            lukhtari_pool(SERVICE, shape, s, 2, 1, shape, null(), 0, 1, o, 2).number,
+            lukhtari_pool(SERVICE, shape, s, 2, 1, shape, s, 2, 1, null_mut(), 0).number,
+            lukhtari_pool(SERVICE, shape, s, 2, 1, shape, s, 2, 1, o, 2).number,
         ]
     };
     assert_eq!(pooled, [4, 4, 4, 9, 0]);
@@ -559,12 +591,12 @@ fn null_with_length_0_for_ramps() {
         // SAFETY: the slices are lent; one of length 0 may be NULL.
         let ramps = unsafe {
             [
-                lukhtari_ramp(shape, null(), 0, null(), 0, null_mut(), 0).number,
-                lukhtari_ramp(shape, null(), 0, p, 3, a, 1).number,
-                lukhtari_ramp(shape, r, entries, p, 3, null_mut(), 0).number,
-                lukhtari_ramp(shape, r, entries, null(), 0, null_mut(), 0).number,
-                lukhtari_ramp(shape, r, entries, null(), 0, a, 1).number,
-                lukhtari_ramp(shape, r, entries, p, 3, a, 1).number,
+                lukhtari_ramp(SERVICE, shape, null(), 0, null(), 0, null_mut(), 0).number,
+                lukhtari_ramp(SERVICE, shape, null(), 0, p, 3, a, 1).number,
+                lukhtari_ramp(SERVICE, shape, r, entries, p, 3, null_mut(), 0).number,
+                lukhtari_ramp(SERVICE, shape, r, entries, null(), 0, null_mut(), 0).number,
+                lukhtari_ramp(SERVICE, shape, r, entries, null(), 0, a, 1).number,
+                lukhtari_ramp(SERVICE, shape, r, entries, p, 3, a, 1).number,
             ]
         };
         assert_eq!(ramps, [4, 4, 9, 0, 0, 0]);

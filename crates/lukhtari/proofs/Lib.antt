@@ -1,2 +1,4 @@
 pub mod RealLaws
 pub mod MarkedLaws
+pub mod KeyLaws
+pub mod Theorems

@@ -1,1 +1,4 @@
 pub mod Host
+pub mod Rights
+pub mod Calls
+pub mod Promises

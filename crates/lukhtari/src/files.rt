@@ -1,14 +1,15 @@
 // Table files, read and written.
 ghost use mathlib.Core.Path.{_≡_};
 ghost use lib.ListN.{length};
-ghost use Rattle.lattice.specs.Outcome.{whenDone};
-ghost use Rattle.lattice.specs.Buffer.{overwrite};
-ghost use Rattle.table_file.specs.File.{header, readOutcome, samplesIn, writeOutcome, fileOf};
+ghost use Rattle.table_file.specs.File.{header};
 ghost use Rattle.table_file.specs.Answers.{outcomeOfTable, outcomeOfWrite};
+ghost use Rattle.lukhtari.specs.Calls.{reply, left, readFile, writeFile};
 ghost use Rattle.lukhtari.specs.Host.{tableFrom, writtenFrom};
 use crate::Index;
 use crate::Table;
 use crate::Written;
+use crate::keys;
+use crate::keys::Right;
 use table_file::TableAnswer;
 use table_file::WriteAnswer;
 
@@ -60,16 +61,21 @@ fn written_of(a: WriteAnswer) -> Written
 
 // A table file, its samples to the front of `samples`.
 #[no_mangle]
-pub extern "C" fn lukhtari_read(bytes: &[u8], samples: &mut [i32]) -> Table
-    ensures { λ r. ⌜ r ≡ tableFrom (readOutcome (now (bytes .entry)) (length (now (samples .entry)))) ⌝ }
-    ensures { λ _. ⌜ now (samples .exit) ≡ whenDone (readOutcome (now (bytes .entry)) (length (now (samples .entry)))) (overwrite (samplesIn (now (bytes .entry))) (now (samples .entry))) (now (samples .entry)) ⌝ }
+pub extern "C" fn lukhtari_read(key: u32, bytes: &[u8], samples: &mut [i32]) -> Table
+    ensures { λ r. ⌜ r ≡ reply key (readFile (now (bytes .entry))) (now (samples .entry)) ⌝ }
+    ensures { λ _. ⌜ now (samples .exit) ≡ left key (readFile (now (bytes .entry))) (now (samples .entry)) ⌝ }
 {
-    table_of(table_file::read(bytes, samples))
+    if keys::may(key, Right::Read) {
+        table_of(table_file::read(bytes, samples))
+    } else {
+        table_of(TableAnswer::Refused(keys::NO_RIGHT))
+    }
 }
 
 // A table as a file, to the front of `bytes`.
 #[no_mangle]
 pub extern "C" fn lukhtari_write(
+    key: u32,
     axes: u32,
     counts: Index,
     steps: Index,
@@ -77,10 +83,14 @@ pub extern "C" fn lukhtari_write(
     samples: &[i32],
     bytes: &mut [u8],
 ) -> Written
-    ensures { λ r. ⌜ r ≡ writtenFrom (writeOutcome (header axes (counts .at) (steps .at) «second_edition») (now (samples .entry)) (length (now (bytes .entry)))) ⌝ }
-    ensures { λ _. ⌜ now (bytes .exit) ≡ whenDone (writeOutcome (header axes (counts .at) (steps .at) «second_edition») (now (samples .entry)) (length (now (bytes .entry)))) (overwrite (fileOf (header axes (counts .at) (steps .at) «second_edition») (now (samples .entry))) (now (bytes .entry))) (now (bytes .entry)) ⌝ }
+    ensures { λ r. ⌜ r ≡ reply key (writeFile (header axes (counts .at) (steps .at) «second_edition») (now (samples .entry))) (now (bytes .entry)) ⌝ }
+    ensures { λ _. ⌜ now (bytes .exit) ≡ left key (writeFile (header axes (counts .at) (steps .at) «second_edition») (now (samples .entry))) (now (bytes .entry)) ⌝ }
 {
-    let given = counts.at;
-    let fine = steps.at;
-    written_of(table_file::write(axes, given, fine, second_edition, samples, bytes))
+    if keys::may(key, Right::Write) {
+        let given = counts.at;
+        let fine = steps.at;
+        written_of(table_file::write(axes, given, fine, second_edition, samples, bytes))
+    } else {
+        written_of(WriteAnswer::Refused(keys::NO_RIGHT))
+    }
 }

@@ -1,10 +1,12 @@
 // Doses and slopes by float.
 ghost use mathlib.Core.Path.{_≡_};
-ghost use Rattle.evaluate.specs.Evaluate.{dose, slopeAlong};
-ghost use Rattle.float_query.specs.Floats.{floatsAt, byFloat};
+ghost use Rattle.float_query.specs.Floats.{floatsAt};
 ghost use Rattle.float_query.specs.Answers.{outcomeOfFloat};
-ghost use Rattle.lukhtari.specs.Host.{realValue, realOf, realFrom};
+ghost use Rattle.lukhtari.specs.Calls.{reply, doseAtFloat, slopeAtFloat};
+ghost use Rattle.lukhtari.specs.Host.{realValue, realOf};
 use crate::Real;
+use crate::keys;
+use crate::keys::Right;
 use evaluate::Derivative;
 use float_query::FloatPosition;
 use float_query::FloatReading;
@@ -35,29 +37,39 @@ fn real_of(a: FloatReading) -> Real
 // Dose at the step nearest to a position in cells.
 #[no_mangle]
 pub extern "C" fn lukhtari_dose_float(
+    key: u32,
     shape: FullShape,
     records: &[i32],
     position: FloatPosition,
 ) -> Real
-    ensures { λ r. ⌜ realValue r ≡ realFrom (byFloat shape (now (records .entry)) dose (floatsAt position)) ⌝ }
+    ensures { λ r. ⌜ realValue r ≡ reply key (doseAtFloat shape (now (records .entry)) (floatsAt position)) tt ⌝ }
 {
-    let none = Derivative { order: 0, axis: 0 };
-    real_of(float_query::at_float(shape, records, position, none))
+    if keys::may(key, Right::DoseFloat) {
+        let none = Derivative { order: 0, axis: 0 };
+        real_of(float_query::at_float(shape, records, position, none))
+    } else {
+        real_of(FloatReading::Refused(keys::NO_RIGHT))
+    }
 }
 
 // Slope along an axis at the step nearest to a position in cells.
 #[no_mangle]
 pub extern "C" fn lukhtari_slope_float(
+    key: u32,
     shape: FullShape,
     records: &[i32],
     position: FloatPosition,
     axis: u32,
 ) -> Real
-    ensures { λ r. ⌜ realValue r ≡ realFrom (byFloat shape (now (records .entry)) (slopeAlong axis) (floatsAt position)) ⌝ }
+    ensures { λ r. ⌜ realValue r ≡ reply key (slopeAtFloat shape (now (records .entry)) (floatsAt position) axis) tt ⌝ }
 {
-    let along = Derivative {
-        order: 1,
-        axis: axis,
-    };
-    real_of(float_query::at_float(shape, records, position, along))
+    if keys::may(key, Right::SlopeFloat) {
+        let along = Derivative {
+            order: 1,
+            axis: axis,
+        };
+        real_of(float_query::at_float(shape, records, position, along))
+    } else {
+        real_of(FloatReading::Refused(keys::NO_RIGHT))
+    }
 }

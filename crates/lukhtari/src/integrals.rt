@@ -1,11 +1,13 @@
 // The totals of a cell and of a box of cells.
 ghost use mathlib.Core.Path.{_≡_};
 ghost use Rattle.cell.specs.Cell.{placeAt};
-ghost use Rattle.totals.specs.Totals.{cellTotal, boxTotal};
 ghost use Rattle.totals.specs.Answers.{outcomeOfTotal};
+ghost use Rattle.lukhtari.specs.Calls.{reply, totalOfCell, totalOfBox};
 ghost use Rattle.lukhtari.specs.Host.{totalFrom};
 use crate::Index;
 use crate::Total;
+use crate::keys;
+use crate::keys::Right;
 use lattice::FullShape;
 
 fn total_of(a: totals::Total) -> Total
@@ -27,24 +29,38 @@ fn total_of(a: totals::Total) -> Total
 
 // The total of a cell, over 24^n or 120^n.
 #[no_mangle]
-pub extern "C" fn lukhtari_cell_total(shape: FullShape, records: &[i32], cell: Index) -> Total
-    ensures { λ r. ⌜ r ≡ totalFrom (cellTotal shape (now (records .entry)) (placeAt (cell .at))) ⌝ }
+pub extern "C" fn lukhtari_cell_total(
+    key: u32,
+    shape: FullShape,
+    records: &[i32],
+    cell: Index,
+) -> Total
+    ensures { λ r. ⌜ r ≡ reply key (totalOfCell shape (now (records .entry)) (placeAt (cell .at))) tt ⌝ }
 {
-    let at = cell.at;
-    total_of(totals::cell_total(shape, records, at))
+    if keys::may(key, Right::CellTotal) {
+        let at = cell.at;
+        total_of(totals::cell_total(shape, records, at))
+    } else {
+        total_of(totals::Total::Refused(keys::NO_RIGHT))
+    }
 }
 
 // The total of the cells from index `first` to index `last` on each axis, over 24^n or 120^n.
 #[no_mangle]
 pub extern "C" fn lukhtari_box_total(
+    key: u32,
     shape: FullShape,
     records: &[i32],
     first: Index,
     last: Index,
 ) -> Total
-    ensures { λ r. ⌜ r ≡ totalFrom (boxTotal shape (now (records .entry)) (placeAt (first .at)) (placeAt (last .at))) ⌝ }
+    ensures { λ r. ⌜ r ≡ reply key (totalOfBox shape (now (records .entry)) (placeAt (first .at)) (placeAt (last .at))) tt ⌝ }
 {
-    let from = first.at;
-    let to = last.at;
-    total_of(totals::box_total(shape, records, from, to))
+    if keys::may(key, Right::BoxTotal) {
+        let from = first.at;
+        let to = last.at;
+        total_of(totals::box_total(shape, records, from, to))
+    } else {
+        total_of(totals::Total::Refused(keys::NO_RIGHT))
+    }
 }

@@ -4,6 +4,7 @@ pub mod estimation;
 pub mod files;
 pub mod float_queries;
 pub mod integrals;
+pub mod keys;
 pub mod pooling;
 pub mod ramps;
 pub mod text;

@@ -1,14 +1,16 @@
 // Doses, slopes and curvatures in whole numbers, by position and by cell.
 ghost use mathlib.Core.Path.{_≡_};
 ghost use Rattle.cell.specs.Cell.{placeAt};
-ghost use Rattle.evaluate.specs.Evaluate.{dose, slopeAlong, curvatureAlong};
-ghost use Rattle.query.specs.Queries.{byCell, positionAt, byPosition, cellMark, positionMark};
+ghost use Rattle.query.specs.Queries.{positionAt};
 ghost use Rattle.query.specs.Answers.{outcomeOfReading, isExact};
+ghost use Rattle.lukhtari.specs.Calls.{reply, doseAt, slopeAt, curvatureAt, doseInCell, slopeInCell, curvatureInCell};
 ghost use Rattle.lukhtari.specs.Host.{wholeFrom, markedFrom};
 use crate::Index;
 use crate::Marked;
 use crate::Position;
 use crate::Whole;
+use crate::keys;
+use crate::keys::Right;
 use evaluate::Derivative;
 use lattice::FullShape;
 use query::CellQuery;
@@ -59,123 +61,157 @@ fn marked_of(a: Reading) -> Marked
 
 // Dose at a table position.
 #[no_mangle]
-pub extern "C" fn lukhtari_dose(shape: FullShape, records: &[i32], position: Position) -> Marked
-    ensures { λ r. ⌜ r ≡ markedFrom (byPosition shape (now (records .entry)) dose (positionAt (position .at))) (positionMark shape (now (records .entry)) dose (positionAt (position .at))) ⌝ }
+pub extern "C" fn lukhtari_dose(
+    key: u32,
+    shape: FullShape,
+    records: &[i32],
+    position: Position,
+) -> Marked
+    ensures { λ r. ⌜ r ≡ reply key (doseAt shape (now (records .entry)) (positionAt (position .at))) tt ⌝ }
 {
-    let at = position.at;
-    let q = Query {
-        position: at,
-        derivative: Derivative { order: 0, axis: 0 },
-    };
-    marked_of(query::at_position(shape, records, q))
+    if keys::may(key, Right::Dose) {
+        let at = position.at;
+        let q = Query {
+            position: at,
+            derivative: Derivative { order: 0, axis: 0 },
+        };
+        marked_of(query::at_position(shape, records, q))
+    } else {
+        marked_of(Reading::Refused(keys::NO_RIGHT))
+    }
 }
 
 // Slope along an axis at a table position.
 #[no_mangle]
 pub extern "C" fn lukhtari_slope(
+    key: u32,
     shape: FullShape,
     records: &[i32],
     position: Position,
     axis: u32,
 ) -> Whole
-    ensures { λ r. ⌜ r ≡ wholeFrom (byPosition shape (now (records .entry)) (slopeAlong axis) (positionAt (position .at))) ⌝ }
+    ensures { λ r. ⌜ r ≡ reply key (slopeAt shape (now (records .entry)) (positionAt (position .at)) axis) tt ⌝ }
 {
-    let at = position.at;
-    let q = Query {
-        position: at,
-        derivative: Derivative {
-            order: 1,
-            axis: axis,
-        },
-    };
-    whole_of(query::at_position(shape, records, q))
+    if keys::may(key, Right::Slope) {
+        let at = position.at;
+        let q = Query {
+            position: at,
+            derivative: Derivative {
+                order: 1,
+                axis: axis,
+            },
+        };
+        whole_of(query::at_position(shape, records, q))
+    } else {
+        whole_of(Reading::Refused(keys::NO_RIGHT))
+    }
 }
 
 // Curvature along an axis at a table position.
 #[no_mangle]
 pub extern "C" fn lukhtari_curvature(
+    key: u32,
     shape: FullShape,
     records: &[i32],
     position: Position,
     axis: u32,
 ) -> Whole
-    ensures { λ r. ⌜ r ≡ wholeFrom (byPosition shape (now (records .entry)) (curvatureAlong axis) (positionAt (position .at))) ⌝ }
+    ensures { λ r. ⌜ r ≡ reply key (curvatureAt shape (now (records .entry)) (positionAt (position .at)) axis) tt ⌝ }
 {
-    let at = position.at;
-    let q = Query {
-        position: at,
-        derivative: Derivative {
-            order: 2,
-            axis: axis,
-        },
-    };
-    whole_of(query::at_position(shape, records, q))
+    if keys::may(key, Right::Curvature) {
+        let at = position.at;
+        let q = Query {
+            position: at,
+            derivative: Derivative {
+                order: 2,
+                axis: axis,
+            },
+        };
+        whole_of(query::at_position(shape, records, q))
+    } else {
+        whole_of(Reading::Refused(keys::NO_RIGHT))
+    }
 }
 
 // Dose at the steps u within a cell.
 #[no_mangle]
 pub extern "C" fn lukhtari_dose_in_cell(
+    key: u32,
     shape: FullShape,
     records: &[i32],
     cell: Index,
     u: Index,
 ) -> Marked
-    ensures { λ r. ⌜ r ≡ markedFrom (byCell shape (now (records .entry)) dose (placeAt (cell .at)) (placeAt (u .at))) (cellMark shape (now (records .entry)) dose (placeAt (cell .at)) (placeAt (u .at))) ⌝ }
+    ensures { λ r. ⌜ r ≡ reply key (doseInCell shape (now (records .entry)) (placeAt (cell .at)) (placeAt (u .at))) tt ⌝ }
 {
-    let at = cell.at;
-    let step = u.at;
-    let q = CellQuery {
-        cell: at,
-        step: step,
-        derivative: Derivative { order: 0, axis: 0 },
-    };
-    marked_of(query::in_cell(shape, records, q))
+    if keys::may(key, Right::DoseInCell) {
+        let at = cell.at;
+        let step = u.at;
+        let q = CellQuery {
+            cell: at,
+            step: step,
+            derivative: Derivative { order: 0, axis: 0 },
+        };
+        marked_of(query::in_cell(shape, records, q))
+    } else {
+        marked_of(Reading::Refused(keys::NO_RIGHT))
+    }
 }
 
 // Slope along an axis at the steps u within a cell.
 #[no_mangle]
 pub extern "C" fn lukhtari_slope_in_cell(
+    key: u32,
     shape: FullShape,
     records: &[i32],
     cell: Index,
     u: Index,
     axis: u32,
 ) -> Whole
-    ensures { λ r. ⌜ r ≡ wholeFrom (byCell shape (now (records .entry)) (slopeAlong axis) (placeAt (cell .at)) (placeAt (u .at))) ⌝ }
+    ensures { λ r. ⌜ r ≡ reply key (slopeInCell shape (now (records .entry)) (placeAt (cell .at)) (placeAt (u .at)) axis) tt ⌝ }
 {
-    let at = cell.at;
-    let step = u.at;
-    let q = CellQuery {
-        cell: at,
-        step: step,
-        derivative: Derivative {
-            order: 1,
-            axis: axis,
-        },
-    };
-    whole_of(query::in_cell(shape, records, q))
+    if keys::may(key, Right::SlopeInCell) {
+        let at = cell.at;
+        let step = u.at;
+        let q = CellQuery {
+            cell: at,
+            step: step,
+            derivative: Derivative {
+                order: 1,
+                axis: axis,
+            },
+        };
+        whole_of(query::in_cell(shape, records, q))
+    } else {
+        whole_of(Reading::Refused(keys::NO_RIGHT))
+    }
 }
 
 // Curvature along an axis at the steps u within a cell.
 #[no_mangle]
 pub extern "C" fn lukhtari_curvature_in_cell(
+    key: u32,
     shape: FullShape,
     records: &[i32],
     cell: Index,
     u: Index,
     axis: u32,
 ) -> Whole
-    ensures { λ r. ⌜ r ≡ wholeFrom (byCell shape (now (records .entry)) (curvatureAlong axis) (placeAt (cell .at)) (placeAt (u .at))) ⌝ }
+    ensures { λ r. ⌜ r ≡ reply key (curvatureInCell shape (now (records .entry)) (placeAt (cell .at)) (placeAt (u .at)) axis) tt ⌝ }
 {
-    let at = cell.at;
-    let step = u.at;
-    let q = CellQuery {
-        cell: at,
-        step: step,
-        derivative: Derivative {
-            order: 2,
-            axis: axis,
-        },
-    };
-    whole_of(query::in_cell(shape, records, q))
+    if keys::may(key, Right::CurvatureInCell) {
+        let at = cell.at;
+        let step = u.at;
+        let q = CellQuery {
+            cell: at,
+            step: step,
+            derivative: Derivative {
+                order: 2,
+                axis: axis,
+            },
+        };
+        whole_of(query::in_cell(shape, records, q))
+    } else {
+        whole_of(Reading::Refused(keys::NO_RIGHT))
+    }
 }

@@ -15,6 +15,8 @@ static ucontext_t here, there;
 static void (*call)(void);
 
 /* What the calls are lent. */
+enum { KEY = LUKHTARI_SERVICE };
+
 static lukhtari_shape shape;
 static lukhtari_position position;
 static lukhtari_float_position float_position;
@@ -29,83 +31,85 @@ static size_t nodes, entries, cell_numbers, bytes, letters;
 static uint32_t number;
 
 static void estimate(void) {
-    number = lukhtari_estimate(shape, samples, nodes, records, entries).number;
+    number = lukhtari_estimate(KEY, shape, samples, nodes, records, entries).number;
 }
 
 static void forward(void) {
-    number = lukhtari_coefficients(shape, records, entries, cell, coefficients, cell_numbers).number;
+    number = lukhtari_coefficients(KEY, shape, records, entries, cell, coefficients, cell_numbers)
+                 .number;
 }
 
 static void back(void) {
-    number = lukhtari_corners(shape.axes, shape.degree, coefficients, cell_numbers, corners,
+    number = lukhtari_corners(KEY, shape.axes, shape.degree, coefficients, cell_numbers, corners,
                               cell_numbers)
                  .number;
 }
 
 static void powers(void) {
     size_t room = LUKHTARI_POWER_COEFFICIENTS;
-    number = lukhtari_powers(shape, records, entries, cell, corners, room).number;
+    number = lukhtari_powers(KEY, shape, records, entries, cell, corners, room).number;
 }
 
-static void dose(void) { number = lukhtari_dose(shape, records, entries, position).number; }
+static void dose(void) { number = lukhtari_dose(KEY, shape, records, entries, position).number; }
 
 static void slope(void) {
-    number = lukhtari_slope(shape, records, entries, position, slope_axis).number;
+    number = lukhtari_slope(KEY, shape, records, entries, position, slope_axis).number;
 }
 
 static void dose_in_cell(void) {
-    number = lukhtari_dose_in_cell(shape, records, entries, cell, u).number;
+    number = lukhtari_dose_in_cell(KEY, shape, records, entries, cell, u).number;
 }
 
 static void slope_in_cell(void) {
-    number = lukhtari_slope_in_cell(shape, records, entries, cell, u, slope_axis).number;
+    number = lukhtari_slope_in_cell(KEY, shape, records, entries, cell, u, slope_axis).number;
 }
 
 static void curvature(void) {
-    number = lukhtari_curvature(shape, records, entries, position, slope_axis).number;
+    number = lukhtari_curvature(KEY, shape, records, entries, position, slope_axis).number;
 }
 
 static void curvature_in_cell(void) {
-    number = lukhtari_curvature_in_cell(shape, records, entries, cell, u, slope_axis).number;
+    number = lukhtari_curvature_in_cell(KEY, shape, records, entries, cell, u, slope_axis).number;
 }
 
 static void dose_float(void) {
-    number = lukhtari_dose_float(shape, records, entries, float_position).number;
+    number = lukhtari_dose_float(KEY, shape, records, entries, float_position).number;
 }
 
 static void slope_float(void) {
-    number = lukhtari_slope_float(shape, records, entries, float_position, slope_axis).number;
+    number = lukhtari_slope_float(KEY, shape, records, entries, float_position, slope_axis).number;
 }
 
 static void write_file(void) {
     bool edition = shape.second_edition;
-    number = lukhtari_write(shape.axes, counts, steps, edition, samples, nodes, file, sizeof file)
+    number = lukhtari_write(KEY, shape.axes, counts, steps, edition, samples, nodes, file,
+                            sizeof file)
                  .number;
 }
 
-static void read_file(void) { number = lukhtari_read(file, bytes, samples, NODES).number; }
+static void read_file(void) { number = lukhtari_read(KEY, file, bytes, samples, NODES).number; }
 
 static void import(void) {
-    number = lukhtari_import(shape, (const uint8_t *)text, letters, samples, nodes).number;
+    number = lukhtari_import(KEY, shape, (const uint8_t *)text, letters, samples, nodes).number;
 }
 
 static void ramp(void) {
-    number = lukhtari_ramp(shape, records, entries, positions, 3 * LUKHTARI_RAMP_MAX, answers,
+    number = lukhtari_ramp(KEY, shape, records, entries, positions, 3 * LUKHTARI_RAMP_MAX, answers,
                            LUKHTARI_RAMP_MAX)
                  .number;
 }
 
 static void pool(void) {
-    number = lukhtari_pool(shape, samples, nodes, 7, shape, samples, nodes, 3, pooled, nodes)
+    number = lukhtari_pool(KEY, shape, samples, nodes, 7, shape, samples, nodes, 3, pooled, nodes)
                  .number;
 }
 
 static void cell_total(void) {
-    number = lukhtari_cell_total(shape, records, entries, cell).number;
+    number = lukhtari_cell_total(KEY, shape, records, entries, cell).number;
 }
 
 static void box_total(void) {
-    number = lukhtari_box_total(shape, records, entries, cell, last).number;
+    number = lukhtari_box_total(KEY, shape, records, entries, cell, last).number;
 }
 
 enum {

@@ -11,6 +11,9 @@ use std::env;
 use std::fmt::Debug;
 use std::path::{Path, PathBuf};
 
+// The key that holds every right.
+pub const SERVICE: u32 = 3;
+
 // Splitmix64: seeded and reproducible.
 #[derive(Clone)]
 pub struct Random(u64);

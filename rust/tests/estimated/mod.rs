@@ -19,7 +19,7 @@ pub struct Estimated {
 impl Estimated {
     pub fn new(shape: Shape, samples: &[i32]) -> Estimated {
         let mut records = vec![0; shape.entries()];
-        estimate(shape, samples, &mut records).expect("accepted table");
+        estimate(Key::Service, shape, samples, &mut records).expect("accepted table");
         Estimated { shape, records }
     }
 
@@ -27,9 +27,11 @@ impl Estimated {
     pub fn ask(&self, at: Where, want: Want) -> Result<i32, Refusal> {
         let (shape, records) = (self.shape, &self.records[..]);
         match (at, want) {
-            (Where::Float(p), Want::Dose) => dose_float(shape, records, p).map(|x| x as i32),
+            (Where::Float(p), Want::Dose) => {
+                dose_float(Key::Service, shape, records, p).map(|x| x as i32)
+            }
             (Where::Float(p), Want::Slope(axis)) => {
-                slope_float(shape, records, p, axis).map(|x| x as i32)
+                slope_float(Key::Service, shape, records, p, axis).map(|x| x as i32)
             }
             _ => answer(shape, records, at, want),
         }

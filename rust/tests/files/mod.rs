@@ -4,7 +4,7 @@
 
 use crate::common::{outcome, plain, shape, Lent, Random};
 use crate::model;
-use lukhtari::{read, write, Shape};
+use lukhtari::{read, write, Key, Shape};
 use model::file::Table;
 use model::Answer;
 
@@ -27,7 +27,7 @@ pub struct Write {
 // Makes the call, compares answer and buffer with the model's, and returns the table.
 pub fn run_read_table(call: &Read) -> Answer<Table> {
     let mut buffer = Lent::new(call.room);
-    let got = plain(read(&call.bytes, buffer.slice()));
+    let got = plain(read(Key::Service, &call.bytes, buffer.slice()));
     let expected = model::file::read(&call.bytes, call.room);
     let told = |table: &Table| lukhtari::Table {
         axes: table.axes,
@@ -56,7 +56,15 @@ pub fn run_write_bytes(call: &Write) -> Answer<Vec<u8>> {
         ..
     } = *call;
     let (edition, samples) = (call.second_edition, &call.samples);
-    let got = plain(write(axes, counts, steps, edition, samples, buffer.slice()));
+    let got = plain(write(
+        Key::Service,
+        axes,
+        counts,
+        steps,
+        edition,
+        samples,
+        buffer.slice(),
+    ));
     let expected = model::file::write(axes, counts, steps, edition, samples, call.room);
     let length = expected.as_ref().map(|bytes| bytes.len());
     assert_eq!(got, length.map_err(|refusal| *refusal), "{call:?}");

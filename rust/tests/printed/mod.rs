@@ -5,7 +5,9 @@ use crate::files::words;
 use crate::model::query::Where::{self, Cell, Position};
 use crate::model::{Answer, Want};
 use crate::queries::{call, run};
-use lukhtari::{coefficients, corners, estimate, pool, read, write, Measurement, Refusal, Shape};
+use lukhtari::{
+    coefficients, corners, estimate, pool, read, write, Key, Measurement, Refusal, Shape,
+};
 
 pub const ORIGIN: [u32; 3] = [0; 3];
 pub const START: Where = Position([0; 3]);
@@ -34,22 +36,24 @@ fn filled(
 }
 
 pub fn estimated(shape: Shape, samples: &[i32], room: usize) -> Answer<Vec<i32>> {
-    let call = |out: &mut [i32]| estimate(shape, samples, out);
+    let call = |out: &mut [i32]| estimate(Key::Service, shape, samples, out);
     filled(room, shape.entries(), call)
 }
 
 pub fn forward(shape: Shape, records: &[i32], cell: [u32; 3], room: usize) -> Answer<Vec<i32>> {
-    let call = |out: &mut [i32]| coefficients(shape, records, cell, out);
+    let call = |out: &mut [i32]| coefficients(Key::Service, shape, records, cell, out);
     filled(room, shape.coefficients(), call)
 }
 
 pub fn back(axes: u32, degree: u32, numbers: &[i32], room: usize) -> Answer<Vec<i32>> {
-    let call = |out: &mut [i32]| corners(axes, degree, numbers, out);
+    let call = |out: &mut [i32]| corners(Key::Service, axes, degree, numbers, out);
     filled(room, cube(axes, degree, 2).entries(), call)
 }
 
 pub fn pooled(a: Measurement, b: Measurement, room: usize) -> Answer<Vec<i32>> {
-    filled(room, a.samples.len(), |out: &mut [i32]| pool(a, b, out))
+    filled(room, a.samples.len(), |out: &mut [i32]| {
+        pool(Key::Service, a, b, out)
+    })
 }
 
 pub fn written(shape: Shape, samples: &[i32], room: usize) -> Answer<usize> {
@@ -62,6 +66,7 @@ pub fn written(shape: Shape, samples: &[i32], room: usize) -> Answer<usize> {
     } = shape;
     let mut bytes = vec![0; room];
     plain(write(
+        Key::Service,
         axes,
         counts,
         steps,
@@ -73,7 +78,7 @@ pub fn written(shape: Shape, samples: &[i32], room: usize) -> Answer<usize> {
 
 pub fn read_numbers(numbers: &[u32], spare: usize) -> Answer<()> {
     let bytes = [words(numbers), vec![0; spare]].concat();
-    outcome(&plain(read(&bytes, &mut [])))
+    outcome(&plain(read(Key::Service, &bytes, &mut [])))
 }
 
 // All numbers 0 but those given with their index.

@@ -2,9 +2,9 @@
 
 #![allow(dead_code)]
 
-use crate::common::{editions, plain, plain_shape, Query};
+use crate::common::{editions, plain, plain_shape, Query, SERVICE};
 use crate::model;
-use lukhtari::{curvature, curvature_in_cell, dose, dose_in_cell, slope, slope_in_cell};
+use lukhtari::{curvature, curvature_in_cell, dose, dose_in_cell, slope, slope_in_cell, Key};
 use lukhtari::{ffi, Shape};
 use model::query::Where;
 use model::Want::{Curvature, Dose, Slope};
@@ -54,8 +54,8 @@ pub fn marked(
     at: Where,
 ) -> Result<lukhtari::Dose, lukhtari::Refusal> {
     match at {
-        Where::Position(p) => dose(shape, records, p),
-        Where::Cell(cell, u) => dose_in_cell(shape, records, cell, u),
+        Where::Position(p) => dose(Key::Service, shape, records, p),
+        Where::Cell(cell, u) => dose_in_cell(Key::Service, shape, records, cell, u),
         Where::Float(_) => panic!("a float carries no mark"),
     }
 }
@@ -69,10 +69,14 @@ pub fn answer(
 ) -> Result<i32, lukhtari::Refusal> {
     match (at, want) {
         (_, Dose) => marked(shape, records, at).map(|dose| dose.value),
-        (Where::Position(p), Slope(axis)) => slope(shape, records, p, axis),
-        (Where::Position(p), Curvature(axis)) => curvature(shape, records, p, axis),
-        (Where::Cell(cell, u), Slope(axis)) => slope_in_cell(shape, records, cell, u, axis),
-        (Where::Cell(cell, u), Curvature(axis)) => curvature_in_cell(shape, records, cell, u, axis),
+        (Where::Position(p), Slope(axis)) => slope(Key::Service, shape, records, p, axis),
+        (Where::Position(p), Curvature(axis)) => curvature(Key::Service, shape, records, p, axis),
+        (Where::Cell(cell, u), Slope(axis)) => {
+            slope_in_cell(Key::Service, shape, records, cell, u, axis)
+        }
+        (Where::Cell(cell, u), Curvature(axis)) => {
+            curvature_in_cell(Key::Service, shape, records, cell, u, axis)
+        }
         (Where::Float(_), _) => panic!("not a query in whole numbers"),
     }
 }
@@ -100,9 +104,11 @@ fn raw_at(query: &Query, at: ffi::Position) -> ffi::Marked {
     // SAFETY: pointer and length are those of the records.
     unsafe {
         match query.want {
-            Dose => ffi::lukhtari_dose(shape, records, len, at),
-            Slope(axis) => unmarked(ffi::lukhtari_slope(shape, records, len, at, axis)),
-            Curvature(axis) => unmarked(ffi::lukhtari_curvature(shape, records, len, at, axis)),
+            Dose => ffi::lukhtari_dose(SERVICE, shape, records, len, at),
+            Slope(axis) => unmarked(ffi::lukhtari_slope(SERVICE, shape, records, len, at, axis)),
+            Curvature(axis) => unmarked(ffi::lukhtari_curvature(
+                SERVICE, shape, records, len, at, axis,
+            )),
         }
     }
 }
@@ -112,13 +118,15 @@ fn raw_in_cell(query: &Query, cell: ffi::Index, u: ffi::Index) -> ffi::Marked {
     // SAFETY: pointer and length are those of the records.
     unsafe {
         match query.want {
-            Dose => ffi::lukhtari_dose_in_cell(shape, records, len, cell, u),
+            Dose => ffi::lukhtari_dose_in_cell(SERVICE, shape, records, len, cell, u),
             Slope(axis) => {
-                let slope = ffi::lukhtari_slope_in_cell(shape, records, len, cell, u, axis);
+                let slope =
+                    ffi::lukhtari_slope_in_cell(SERVICE, shape, records, len, cell, u, axis);
                 unmarked(slope)
             }
             Curvature(axis) => {
-                let curvature = ffi::lukhtari_curvature_in_cell(shape, records, len, cell, u, axis);
+                let curvature =
+                    ffi::lukhtari_curvature_in_cell(SERVICE, shape, records, len, cell, u, axis);
                 unmarked(curvature)
             }
         }

@@ -2,9 +2,9 @@
 
 #![allow(dead_code)]
 
-use crate::common::{editions, outcome, plain, plain_shape, Lent, Random};
+use crate::common::{editions, outcome, plain, plain_shape, Lent, Random, SERVICE};
 use crate::model;
-use lukhtari::{ffi, ramp, Shape};
+use lukhtari::{ffi, ramp, Key, Shape};
 use model::query::last_step;
 use model::ramp::Ramped;
 use model::Answer;
@@ -78,7 +78,13 @@ fn check_safe(call: &Ramp, expected: &Answer<Ramped>) {
     let list = call.list();
     if call.positions.len() % 3 == 0 {
         let mut buffer = Lent::new(call.room);
-        let got = ramp(call.shape, &call.records, &list, buffer.slice());
+        let got = ramp(
+            Key::Service,
+            call.shape,
+            &call.records,
+            &list,
+            buffer.slice(),
+        );
         let fetches = expected.as_ref().map(|ramped| ramped.fetches);
         assert_eq!(plain(got), fetches.map_err(|refusal| *refusal));
         let answers = expected.as_ref().map(|ramped| &ramped.answers[..]);
@@ -97,6 +103,7 @@ pub fn raw(call: &Ramp, answers: &mut [i32]) -> ffi::Ramped {
     // SAFETY: pointers and lengths are those of the slices.
     unsafe {
         ffi::lukhtari_ramp(
+            SERVICE,
             call.shape,
             records.as_ptr(),
             records.len(),

@@ -4,7 +4,7 @@
 
 use crate::common::{cube, editions, outcome, plain, plain_shape, Lent, Random};
 use crate::model;
-use lukhtari::{import, Shape};
+use lukhtari::{import, Key, Shape};
 use model::Answer;
 
 pub const SEPARATORS: [u8; 4] = *b" \t\n\r";
@@ -38,7 +38,7 @@ pub fn run_samples(call: &Import) -> Answer<Vec<i32>> {
     let expected = model::text::import(&shape, &call.text, call.room);
     for shape in editions(call.shape) {
         let mut buffer = Lent::new(call.room);
-        let got = plain(import(shape, &call.text, buffer.slice()));
+        let got = plain(import(Key::Service, shape, &call.text, buffer.slice()));
         if got != outcome(&expected) {
             let text = call.text.escape_ascii();
             panic!("{got:?} for {:?}: {text}", outcome(&expected));

@@ -1,12 +1,28 @@
 -- `lukhtari::files::lukhtari_read` meets its contract: the struct says what the answer says, and the slice is that of the call.
+use mathlib.Core.Path.{_∙_, ap, refl}
+use Rattle.arith.specs.Choice.{pick}
+use Rattle.lukhtari.proofs.KeyLaws.{as-tested}
 use Rattle.lukhtari.specs.Host.{tableFrom}
-use mathlib.Core.Path.{ap, _∙_}
+use Rattle.lukhtari.specs.declared.keys.Right.the-variants.{Read}
 use borrow.Author.Needs.{needs}
 use Rattle.lukhtari.proofs.files.lukhtari_read.Statement.{statement}
 use Rattle.lukhtari.proofs.files.lukhtari_read.Tie as tie
 
 returns : tie.Need-returns
-returns c = (c .table-of .ensures ∙ ap tableFrom (c .before .before .read .ensures .0), c .before .before .read .ensures .1)
+unfolding pick
+returns c =
+    let b = c .before .before in
+    let i = b .before .before in
+    rw (as-tested (i .before .before .before .args .key) Read (i .before .may .ensures) (i .if1 .taken))
+    (c .table-of .ensures ∙ ap tableFrom (b .read .ensures .0), b .read .ensures .1)
+
+returns-2 : tie.Need-returns-2
+unfolding pick
+returns-2 c =
+    let i = c .before in
+    rw (as-tested (i .before .before .before .args .key) Read (i .before .may .ensures) (i .if1 .left)) (c .table-of2 .ensures, refl)
 
 pub lukhtari-read-spec : {M : Type 1} → statement M
-lukhtari-read-spec = tie.close (tie.spec (λ c κs. search needs) (λ c κs. search needs) (λ c. search needs) returns)
+lukhtari-read-spec = tie.close
+    (tie.spec (λ c κs. search needs) (λ c κs. search needs) (λ c κs. search needs) (λ c κs. search needs) (λ c. search needs) returns
+    returns-2)

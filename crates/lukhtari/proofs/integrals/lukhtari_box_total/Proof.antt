@@ -1,10 +1,27 @@
 -- `lukhtari::integrals::lukhtari_box_total` meets its contract: the struct says what the call says.
-use mathlib.Core.Path.{ap, _∙_}
+use mathlib.Core.Path.{_∙_, ap}
+use Rattle.arith.specs.Choice.{pick}
+use Rattle.lukhtari.proofs.KeyLaws.{as-tested}
 use Rattle.lukhtari.specs.Host.{totalFrom}
+use Rattle.lukhtari.specs.declared.keys.Right.the-variants.{BoxTotal}
 use borrow.Author.Needs.{needs}
 use Rattle.lukhtari.proofs.integrals.lukhtari_box_total.Statement.{statement}
 use Rattle.lukhtari.proofs.integrals.lukhtari_box_total.Tie as tie
 
+returns : tie.Need-returns
+unfolding pick
+returns c =
+    let b = c .before in
+    let i = b .before .before .before in
+    rw (as-tested (i .before .before .args .key) BoxTotal (i .before .may .ensures) (i .if1 .taken))
+    (c .total-of .ensures ∙ ap totalFrom (b .box-total .ensures))
+
+returns-2 : tie.Need-returns-2
+unfolding pick
+returns-2 c =
+    let i = c .before in
+    rw (as-tested (i .before .before .args .key) BoxTotal (i .before .may .ensures) (i .if1 .left)) (c .total-of2 .ensures)
+
 pub lukhtari-box-total-spec : {M : Type 1} → statement M
 lukhtari-box-total-spec = tie.close
-    (tie.spec (λ c κs. search needs) (λ c κs. search needs) (λ c. c .total-of .ensures ∙ ap totalFrom (c .before .box-total .ensures)))
+    (tie.spec (λ c κs. search needs) (λ c κs. search needs) (λ c κs. search needs) (λ c κs. search needs) returns returns-2)
