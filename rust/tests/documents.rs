@@ -17,8 +17,8 @@ const COLUMNS: usize = 100;
 const WORDS: [&str; 6] = ["rt", "cargo", "gcc", "requires", "ensures", "usize"];
 
 // Endings by which a name is a file.
-const ENDINGS: [&str; 9] = [
-    ".rs", ".rt", ".md", ".antt", ".h", ".c", ".toml", ".txt", ".table",
+const ENDINGS: [&str; 10] = [
+    ".rs", ".rt", ".md", ".antt", ".h", ".c", ".toml", ".txt", ".table", ".svg",
 ];
 
 // A line's number and what is wrong with it.
@@ -31,6 +31,8 @@ fn documents() -> Vec<String> {
         let name = entry.expect("an entry").file_name();
         all.push(format!("docs/{}", name.to_string_lossy()));
     }
+    // The folder has a picture too.
+    all.retain(|name| name.ends_with(".md"));
     all.sort();
     all
 }

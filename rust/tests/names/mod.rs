@@ -5,7 +5,7 @@ use std::collections::{BTreeMap, BTreeSet};
 use std::fs;
 
 // Folders whose sources declare names.
-const FOLDERS: [&str; 5] = ["crates", "rust", "bench", "include", "scripts"];
+const FOLDERS: [&str; 6] = ["crates", "rust", "tool", "bench", "include", "scripts"];
 
 // Declared names by the path of their file, and all of them with the crates' names.
 pub struct Names {
