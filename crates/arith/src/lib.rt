@@ -1,4 +1,6 @@
 // Signed whole numbers: rounding to the nearest, size, and two's complement.
+#![tactic(auto)]
+
 ghost use Rattle.std.specs.Prelude.{◌≡◌, ◌+◌, ◌≤◌, ◌<◌, ◌^◌, eqb, nat_abs};
 ghost use Rattle.arith.specs.Int.{round_half_up, round_half_even, rounding_of, divides, unsigned_of};
 

@@ -1,4 +1,6 @@
 // A cell of a table: its index test, where its corner records stand, and the limit test of its corners.
+#![tactic(auto)]
+
 ghost use Rattle.std.specs.Prelude.{◌≡◌, true, [], ◌∷◌, ℕ, ◌+◌, ◌*◌, ◌-◌, ◌/◌, ◌%◌, ◌^◌, ◌<◌, ◌≤◌, leb, ltb, eqb, pos, nat_abs, length, get_or};
 ghost use Rattle.std.specs.Int.Signed.{non_neg};
 ghost use Rattle.arith.specs.Choice.{pick};
@@ -13,7 +15,7 @@ ghost use Rattle.cell.specs.Cell.{place_at, cell_outcome, corners_outcome, Accep
 use lattice::{Check, Shape};
 
 // Where the corner records of a cell stand.
-#[derive(Drop)]
+#[derive(Clone, Copy)]
 pub struct Layout {
     pub orders: usize,
     pub entries: usize,

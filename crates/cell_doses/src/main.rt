@@ -1,4 +1,6 @@
 // Prints the dose at the middle of each cell of the table file on standard input, cubic and quintic.
+#![tactic(auto)]
+
 use libc::STDIN_FILENO;
 
 fn main() {

@@ -1,4 +1,6 @@
 // The program's stored runs: for each file that an argument names, a line with its name and what the program prints for it.
+#![tactic(auto)]
+
 use libc::STDOUT_FILENO;
 
 fn run(i: usize) {

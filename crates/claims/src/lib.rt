@@ -1,4 +1,6 @@
 // Estimation and then a query, with the third demand as the promise.
+#![tactic(auto)]
+
 ghost use Rattle.std.specs.Prelude.{◌≡◌, ℤ};
 ghost use Rattle.lattice.specs.Outcome.{Outcome};
 ghost use Rattle.estimate.specs.Estimate.{estimate_writes};
@@ -15,7 +17,7 @@ use lattice::{Check, FullShape, Refusal};
 use query::{CellQuery, Query, Reading};
 
 // A table position on each axis.
-#[derive(Drop)]
+#[derive(Clone, Copy)]
 pub struct Steps {
     pub x: i32,
     pub y: i32,
@@ -23,7 +25,7 @@ pub struct Steps {
 }
 
 // A cell index or an in-cell step on each axis.
-#[derive(Drop)]
+#[derive(Clone, Copy)]
 pub struct Indices {
     pub x: u32,
     pub y: u32,
@@ -31,7 +33,7 @@ pub struct Indices {
 }
 
 // A query by position, by cell and in-cell step, or by float.
-#[derive(Drop)]
+#[derive(Clone, Copy)]
 pub enum Question {
     Position(Steps),
     Cell(Indices, Indices),
@@ -39,7 +41,7 @@ pub enum Question {
 }
 
 // What a query gives, or the refusal of estimation.
-#[derive(Drop)]
+#[derive(Clone, Copy)]
 pub enum Reply {
     Whole(Reading),
     Float(FloatReading),

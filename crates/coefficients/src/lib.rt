@@ -1,4 +1,6 @@
 // The coefficients of a cell, and what both conversions share: places, passes.
+#![tactic(auto)]
+
 ghost use Rattle.std.specs.Prelude.{◌≡◌, true, false, ℕ, ◌+◌, ◌*◌, ◌/◌, ◌%◌, ◌^◌, ◌<◌, ◌≤◌, leb, eqb, pos, nat_abs, ◌*ℤ◌, length};
 ghost use Rattle.arith.specs.Choice.{pick};
 ghost use Rattle.arith.specs.Int.{◌^ℤ◌};
@@ -39,7 +41,7 @@ pub fn place(m: usize, b: usize, o: usize) -> usize
 }
 
 // The orders along y and z of a row of a block.
-#[derive(Drop)]
+#[derive(Clone, Copy)]
 pub struct Row {
     pub y: usize,
     pub z: usize,

@@ -1,4 +1,6 @@
 // The corner records of a cell from its coefficients.
+#![tactic(auto)]
+
 ghost use Rattle.std.specs.Prelude.{◌≡◌, ℕ, ◌+◌, ◌*◌, ◌^◌, ◌<◌, ◌≤◌, leb, eqb, length};
 ghost use Rattle.arith.specs.Int.{floor_div};
 ghost use Rattle.lattice.specs.Outcome.{done, refuse_unless, first, first_of};

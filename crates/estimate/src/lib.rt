@@ -1,4 +1,6 @@
 // Estimation: all records of a table from its samples.
+#![tactic(auto)]
+
 ghost use Rattle.std.specs.Prelude.{◌≡◌, true, false, ℕ, ◌+◌, ◌*◌, ◌<◌, ◌≤◌, nat_abs, ◌+ℤ◌, ◌-ℤ◌, length};
 ghost use Rattle.lattice.specs.Answers.{outcome_of};
 ghost use Rattle.lattice.specs.Buffer.{at, overwrite};
@@ -9,7 +11,7 @@ ghost use Rattle.estimate.specs.Passes.{pass_limit, placed, since, before, behin
 use lattice::{Check, FullShape, Shape};
 
 // The node counts, and the numbers that a record holds along each axis: 1 along an unused one.
-#[derive(Drop)]
+#[derive(Clone, Copy)]
 struct Grid {
     cx: usize,
     cy: usize,

@@ -1,4 +1,6 @@
 // The stages of a dose, a slope or a curvature in a cell, straight from the records.
+#![tactic(auto)]
+
 ghost use Rattle.std.specs.Prelude.{◌≡◌, true, false, eqb, [], ◌∷◌, ℕ, ◌+◌, ◌*◌, ◌^◌, ◌<◌, ◌≤◌, length, get_or};
 ghost use Rattle.lattice.specs.Buffer.{at};
 ghost use Rattle.lattice.specs.Records.{records_field};
@@ -16,14 +18,14 @@ use hermite::{Basis, Ends, Rounded};
 use lattice::Shape;
 
 // The order of the derivative and its axis; a query for a dose has order 0 and no axis of its own.
-#[derive(Drop)]
+#[derive(Clone, Copy)]
 pub struct Derivative {
     pub order: u32,
     pub axis: u32,
 }
 
 // One axis of a cell: the step in it, and the strides to the next node and to the next order.
-#[derive(Drop)]
+#[derive(Clone, Copy)]
 pub struct Strides {
     pub step: u32,
     pub node: usize,
@@ -31,7 +33,7 @@ pub struct Strides {
 }
 
 // The stage of an axis: the shift of its rounding, the basis of its step, and the strides.
-#[derive(Drop)]
+#[derive(Clone, Copy)]
 pub struct Axis {
     pub shift: u32,
     pub basis: Basis,
@@ -40,7 +42,7 @@ pub struct Axis {
 }
 
 // The axes in the sequence in which they are worked off; of two there is no middle one.
-#[derive(Drop)]
+#[derive(Clone, Copy)]
 pub struct Sequence {
     pub first: Strides,
     pub middle: Strides,
@@ -48,14 +50,14 @@ pub struct Sequence {
 }
 
 // The numbers of one end, and what was dropped of them.
-#[derive(Drop)]
+#[derive(Clone, Copy)]
 pub struct End {
     pub numbers: [i64; 3],
     pub rest: u64,
 }
 
 // A dose or derivative, and whether nothing was dropped of it.
-#[derive(Drop)]
+#[derive(Clone, Copy)]
 pub struct Value {
     pub number: i32,
     pub exact: bool,

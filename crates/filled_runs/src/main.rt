@@ -1,4 +1,6 @@
 // The filled array after k corners for every k, of both degrees and one to three axes: a line of degree, axes, k and all 216 numbers.
+#![tactic(auto)]
+
 ghost use Rattle.std.specs.Prelude.{◌≡◌, ◌<◌, ◌≤◌, length};
 
 use lattice::{Check, FullShape, Shape};

@@ -1,4 +1,6 @@
 // Doses and slopes by three float positions, as floats.
+#![tactic(auto)]
+
 ghost use Rattle.std.specs.Prelude.{◌≡◌, ◌||◌, ℕ, ◌<◌, ◌^◌, eqb, ℤ, nat_abs};
 ghost use Rattle.lattice.specs.Outcome.{done};
 ghost use Rattle.evaluate.specs.Wants.{wanted, want_of};
@@ -14,14 +16,14 @@ use query::{Query, Reading};
 
 // Three positions in cells.
 #[repr(C)]
-#[derive(Drop)]
+#[derive(Clone, Copy)]
 pub struct FloatPosition {
     pub x: f32,
     pub y: f32,
     pub z: f32,
 }
 
-#[derive(Drop)]
+#[derive(Clone, Copy)]
 pub enum FloatReading {
     Dose(f32),
     Slope(f32),

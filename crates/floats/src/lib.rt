@@ -1,4 +1,6 @@
 // Float positions as steps, and whole numbers as floats.
+#![tactic(auto)]
+
 ghost use Rattle.std.specs.Prelude.{◌≡◌, false, not, ◌<◌, ◌^◌, T, pos, nat_abs};
 ghost use Rattle.std.proofs.Math.Option.{some};
 ghost use Rattle.std.specs.Float.{fin};
@@ -9,7 +11,7 @@ ghost use Rattle.floats.specs.Whole.{whole_of};
 ghost use Rattle.floats.specs.Bits.{significand_of, nearest_held};
 
 // A float position: whether it is finite, and its step, 0 where it is not.
-#[derive(Drop)]
+#[derive(Clone, Copy)]
 pub struct FloatStep {
     pub finite: bool,
     pub step: i32,

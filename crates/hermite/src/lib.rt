@@ -1,4 +1,6 @@
 // One axis: the multiplier table, the basis of a step, and a stage.
+#![tactic(auto)]
+
 ghost use Rattle.std.specs.Prelude.{◌≡◌, ℕ, ◌+◌, ◌*◌, ◌-◌, ◌<◌, ◌≤◌, ◌^◌, ◌&&◌, eqb, pos, nat_abs, ◌*ℤ◌};
 ghost use Rattle.arith.specs.Int.{rounding_of, divides, ◌^ℤ◌};
 ghost use Rattle.arith.specs.Sum.{sum, total};
@@ -139,7 +141,7 @@ fn mirror(order: u32, x: [i64; 3]) -> [i64; 3]
 }
 
 // What a stage takes of each number of the low and of the high end.
-#[derive(Drop)]
+#[derive(Clone, Copy)]
 pub struct Basis {
     pub low: [i64; 3],
     pub high: [i64; 3],
@@ -192,7 +194,7 @@ pub fn convert_end(back: bool, m: usize, x: [i64; 3]) -> [i64; 3]
 }
 
 // The numbers of the two ends of a cell along an axis, and what was dropped of them.
-#[derive(Drop)]
+#[derive(Clone, Copy)]
 pub struct Ends {
     pub low: [i64; 3],
     pub high: [i64; 3],
@@ -200,7 +202,7 @@ pub struct Ends {
 }
 
 // The number that a stage gives, and what was dropped of it and of the numbers that it is made of: 0 if nothing was.
-#[derive(Drop)]
+#[derive(Clone, Copy)]
 pub struct Rounded {
     pub number: i64,
     pub rest: u64,

@@ -1,4 +1,6 @@
 // Samples from decimal text: numbers by the grammar of RFC 8259, section 6, in grams per kilogram, with separators between them.
+#![tactic(auto)]
+
 ghost use Rattle.std.specs.Prelude.{◌≡◌, true, ◌+◌, ◌-◌, ◌*◌, ◌≤◌, ◌<◌, pos, neg_ℤ, length, take};
 ghost use Rattle.arith.specs.Choice.{pick};
 ghost use Rattle.lattice.specs.Outcome.{done, first_of};
@@ -181,7 +183,7 @@ fn fits_grammar(token: &[u8]) -> bool
 }
 
 // Digits summed up: the number of those taken, at most MOST; how many are left to take; whether all after them are 0.
-#[derive(Drop)]
+#[derive(Clone, Copy)]
 struct Sum {
     value: u64,
     left: usize,

@@ -1,4 +1,6 @@
 // The table's shape, the refusals, and what every call tests first.
+#![tactic(auto)]
+
 ghost use Rattle.std.specs.Prelude.{◌≡◌, [], ◌∷◌, ◌<◌, ltb, get_or};
 ghost use Rattle.arith.specs.Choice.{pick};
 ghost use Rattle.lattice.specs.Outcome.{refuse_unless, first};
@@ -10,20 +12,20 @@ ghost use Rattle.lattice.specs.Records.{limit_outcome};
 pub const SAMPLE_LIMIT: u64 = 32768;
 
 // A refusal by its number in document 01's list, with the first offending index.
-#[derive(Drop)]
+#[derive(Clone, Copy)]
 pub struct Refusal {
     pub number: u32,
     pub place: usize,
 }
 
-#[derive(Drop)]
+#[derive(Clone, Copy)]
 pub enum Check {
     Done,
     Refused(Refusal),
 }
 
 #[repr(C)]
-#[derive(Drop)]
+#[derive(Clone, Copy)]
 pub struct Shape {
     pub axes: u32,
     pub degree: u32,
@@ -32,7 +34,7 @@ pub struct Shape {
 
 // The shape of document 02: that of document 01, the step numbers and the edition.
 #[repr(C)]
-#[derive(Drop)]
+#[derive(Clone, Copy)]
 pub struct FullShape {
     pub shape: Shape,
     pub steps: [u32; 3],

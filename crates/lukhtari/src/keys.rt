@@ -5,7 +5,7 @@ ghost use Rattle.lukhtari.specs.Rights.{first_key, holds};
 use lattice::Refusal;
 
 // The right to make a call, one for each call of the host.
-#[derive(Drop)]
+#[derive(Clone, Copy)]
 pub enum Right {
     Dose,
     DoseInCell,

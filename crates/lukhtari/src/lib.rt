@@ -1,4 +1,6 @@
 // The calls open to the host: structs of the C interface over the proved calls.
+#![tactic(auto)]
+
 pub mod conversion;
 pub mod estimation;
 pub mod files;
@@ -17,26 +19,26 @@ ghost use Rattle.lukhtari.specs.Host.{done_of};
 use lattice::Check;
 
 #[repr(C)]
-#[derive(Drop)]
+#[derive(Clone, Copy)]
 pub struct Index {
     pub at: [u32; 3],
 }
 
 #[repr(C)]
-#[derive(Drop)]
+#[derive(Clone, Copy)]
 pub struct Position {
     pub at: [i32; 3],
 }
 
 #[repr(C)]
-#[derive(Drop)]
+#[derive(Clone, Copy)]
 pub struct Done {
     pub number: u32,
     pub place: usize,
 }
 
 #[repr(C)]
-#[derive(Drop)]
+#[derive(Clone, Copy)]
 pub struct Whole {
     pub number: u32,
     pub place: usize,
@@ -44,7 +46,7 @@ pub struct Whole {
 }
 
 #[repr(C)]
-#[derive(Drop)]
+#[derive(Clone, Copy)]
 pub struct Marked {
     pub number: u32,
     pub place: usize,
@@ -53,7 +55,7 @@ pub struct Marked {
 }
 
 #[repr(C)]
-#[derive(Drop)]
+#[derive(Clone, Copy)]
 pub struct Real {
     pub number: u32,
     pub place: usize,
@@ -61,7 +63,7 @@ pub struct Real {
 }
 
 #[repr(C)]
-#[derive(Drop)]
+#[derive(Clone, Copy)]
 pub struct Table {
     pub number: u32,
     pub place: usize,
@@ -72,7 +74,7 @@ pub struct Table {
 }
 
 #[repr(C)]
-#[derive(Drop)]
+#[derive(Clone, Copy)]
 pub struct Ramped {
     pub number: u32,
     pub place: usize,
@@ -80,7 +82,7 @@ pub struct Ramped {
 }
 
 #[repr(C)]
-#[derive(Drop)]
+#[derive(Clone, Copy)]
 pub struct Total {
     pub number: u32,
     pub place: usize,
@@ -88,7 +90,7 @@ pub struct Total {
 }
 
 #[repr(C)]
-#[derive(Drop)]
+#[derive(Clone, Copy)]
 pub struct Written {
     pub number: u32,
     pub place: usize,

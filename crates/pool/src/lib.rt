@@ -1,4 +1,6 @@
 // Pooling: two lattices of the same ink, sample by sample, by their weights.
+#![tactic(auto)]
+
 ghost use Rattle.std.specs.Prelude.{◌≡◌, ◌+◌, ◌*◌, ◌/◌, ◌≤◌, nat_abs, length, get_or};
 ghost use Rattle.lattice.specs.Answers.{outcome_of};
 ghost use Rattle.lattice.specs.Buffer.{tabulate, overwrite};

@@ -1,4 +1,6 @@
 // The coefficients of powers of x and y of a two-axis cubic cell, in the order of source document 001, each times 4.
+#![tactic(auto)]
+
 pub mod table;
 
 ghost use Rattle.std.specs.Prelude.{◌≡◌, ◌&&◌, ℕ, ◌+◌, ◌*◌, ◌/◌, ◌%◌, ◌^◌, ◌<◌, ◌≤◌, eqb, length};

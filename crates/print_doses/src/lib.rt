@@ -1,4 +1,6 @@
 // Reads an open file and writes its text to standard output.
+#![tactic(auto)]
+
 use libc::STDOUT_FILENO;
 
 // One byte more than the program holds shows that an input is longer; what comes after it is not read.

@@ -1,4 +1,6 @@
 // Doses, slopes and curvatures by cell and in-cell step, and by table position.
+#![tactic(auto)]
+
 ghost use Rattle.std.specs.Prelude.{◌≡◌, Bool, true, false, List, [], ◌∷◌, ℕ, ◌+◌, ◌*◌, ◌-◌, ◌/◌, ◌^◌, ◌≤◌, ◌<◌, leb, ltb, eqb, ℤ, length, get_or};
 ghost use Rattle.arith.specs.Choice.{pick};
 ghost use Rattle.lattice.specs.Outcome.{done, first, passed};
@@ -16,13 +18,13 @@ use cell::Layout;
 use evaluate::{Derivative, Value};
 use lattice::{Check, FullShape, Refusal, Shape};
 
-#[derive(Drop)]
+#[derive(Clone, Copy)]
 pub struct Query {
     pub position: [i32; 3],
     pub derivative: Derivative,
 }
 
-#[derive(Drop)]
+#[derive(Clone, Copy)]
 pub struct CellQuery {
     pub cell: [u32; 3],
     pub step: [u32; 3],
@@ -30,20 +32,20 @@ pub struct CellQuery {
 }
 
 // Numbers of steps on three axes.
-#[derive(Drop)]
+#[derive(Clone, Copy)]
 pub struct Steps {
     pub x: u32,
     pub y: u32,
     pub z: u32,
 }
 
-#[derive(Drop)]
+#[derive(Clone, Copy)]
 pub enum Finer {
     At(Steps),
     Refused(Refusal),
 }
 
-#[derive(Drop)]
+#[derive(Clone, Copy)]
 pub enum Reading {
     Exact(i32),
     Near(i32),
@@ -345,7 +347,7 @@ fn number_by(cellwise: bool, number: u32, axis: usize, cell: [u32; 3], step: [u3
 }
 
 // A cell and an in-cell step, on three axes.
-#[derive(Drop)]
+#[derive(Clone, Copy)]
 pub struct Spot {
     pub i: u32,
     pub u: u32,

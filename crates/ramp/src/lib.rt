@@ -1,4 +1,6 @@
 // Doses along a list of positions: corner records are fetched only where the cell differs from the one before.
+#![tactic(auto)]
+
 ghost use Rattle.std.specs.Prelude.{◌≡◌, Bool, true, false, ◌&&◌, [], ◌∷◌, ℕ, ◌+◌, ◌*◌, ◌%◌, ◌<◌, ◌≤◌, leb, eqb, length, get_or};
 ghost use Rattle.arith.specs.Choice.{pick};
 ghost use Rattle.arith.specs.Int.{rounding_of};
@@ -21,14 +23,14 @@ use evaluate::{Axis, Strides};
 use hermite::{Ends, Rounded};
 use lattice::{Check, FullShape, Refusal, Shape};
 
-#[derive(Drop)]
+#[derive(Clone, Copy)]
 pub enum Ramped {
     Fetches(usize),
     Refused(Refusal),
 }
 
 // The cell and the in-cell step of a position.
-#[derive(Drop)]
+#[derive(Clone, Copy)]
 pub struct Spot {
     pub cell: [u32; 3],
     pub step: [u32; 3],

@@ -1,4 +1,6 @@
 // The program's text: the dose at the middle of each cell of a table file, cubic and quintic.
+#![tactic(auto)]
+
 ghost use Rattle.std.specs.Prelude.{◌≡◌, ◌+◌, ◌*◌, ◌<◌, ◌≤◌, ltb, length, take};
 ghost use Rattle.arith.specs.Choice.{pick};
 ghost use Rattle.lattice.specs.Buffer.{overwrite};

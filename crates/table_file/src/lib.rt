@@ -1,4 +1,6 @@
 // The table file: reading it into a slice of samples, and writing it into a slice of bytes.
+#![tactic(auto)]
+
 ghost use Rattle.std.specs.Prelude.{◌≡◌, [], ◌+◌, ◌*◌, ◌≤◌, ◌<◌, length, get_or};
 ghost use Rattle.std.proofs.lemmas.List.Edits.{sets};
 ghost use Rattle.lattice.specs.Outcome.{done, first_of, when_done};
@@ -13,7 +15,7 @@ ghost use Rattle.table_file.specs.Parser.{samples_from, shape_in, rest_outcome, 
 use lattice::{Check, FullShape, Refusal, Shape};
 
 // What reading gives: n, three node counts and the edition, or a refusal. The step numbers are 256 on a used axis, 1 on an unused one.
-#[derive(Drop)]
+#[derive(Clone, Copy)]
 pub enum TableAnswer {
     Table {
         axes: u32,
@@ -26,7 +28,7 @@ pub enum TableAnswer {
 }
 
 // What writing gives: the number of bytes, or a refusal.
-#[derive(Drop)]
+#[derive(Clone, Copy)]
 pub enum WriteAnswer {
     Written(usize),
     Refused(Refusal),

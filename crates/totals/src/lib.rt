@@ -1,4 +1,6 @@
 // The totals of a cell and of a box of cells: the integral of the exact interpolant, as a whole numerator over 24^n or 120^n.
+#![tactic(auto)]
+
 ghost use Rattle.std.specs.Prelude.{◌≡◌, ◌&&◌, ℕ, ◌+◌, ◌*◌, ◌-◌, ◌/◌, ◌%◌, ◌^◌, ◌<◌, ◌≤◌, leb, ltb, eqb, nat_abs, ◌+ℤ◌, ◌*ℤ◌, length, get_or};
 ghost use Rattle.arith.specs.Choice.{pick};
 ghost use Rattle.arith.specs.Sum.{total};
@@ -15,7 +17,7 @@ ghost use Rattle.totals.specs.Parts.{taken_at, Boxed, row_count, row_start, acro
 use cell::Layout;
 use lattice::{Check, FullShape, Refusal, Shape};
 
-#[derive(Drop)]
+#[derive(Clone, Copy)]
 pub enum Total {
     Numerator(i64),
     Refused(Refusal),

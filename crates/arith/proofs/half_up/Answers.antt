@@ -13,8 +13,7 @@ use Rattle.arith.specs.Int.{round_half_up}
 use Rattle.arith.proofs.Abs.{abs-add, sfits-abs, sfits_shr}
 use Rattle.arith.proofs.Machine.{power-held, power-double}
 use Rattle.arith.proofs.Round.{round-half}
-use Rattle.arith.proofs.half_up.Statement.{statement}
-use Rattle.arith.proofs.half_up.Tie as tie
+use Rattle.arith.proofs.half_up.Goals as goal
 
 module _ (x : ℤ) (k : ℕ) (f : SFits w64 x) (hk : k ≤ 61) (small : nat_abs x + 2 ^ k < 2 ^ 63) where
   sum_fits : SFits w64 (x +ℤ pos (2 ^ k))
@@ -30,8 +29,8 @@ module _ (x : ℤ) (k : ℕ) (f : SFits w64 x) (hk : k ≤ 61) (small : nat_abs 
       ≡ round_half_up x (2 ^ (k + 1))
   ends = rw (to_z-of_z f, power-held k hk, to_z-of_z sum_fits, to_z-of_z (sfits_shr (x +ℤ pos (2 ^ k)) (2 ^ (k + 1)) sum_fits)) nearest
 
-pub half-up-spec : {M : Type 1} → statement M
-half-up-spec =
-    tie.close (tie.spec (λ c. search rules) (λ c. search rules)
-    (λ c. raised c.args.x c.args.k c.ranges.x c.requires.0 c.requires.1) (λ c. search rules) (λ c. search rules)
-    (λ c. search rules) (λ c. ends c.args.x c.args.k c.ranges.x c.requires.0 c.requires.1))
+pub overflow_add-result : goal.overflow_add-result
+overflow_add-result c = raised c.args.x c.args.k c.ranges.x c.requires.0 c.requires.1
+
+pub returns : goal.returns
+returns c = ends c.args.x c.args.k c.ranges.x c.requires.0 c.requires.1

@@ -17,8 +17,7 @@ use Rattle.arith.proofs.Abs.{abs-minus, sfits-abs, sfits_shr}
 use Rattle.arith.proofs.Quote.{quotes, ring! }
 use Rattle.arith.proofs.Machine.{power-held}
 use Rattle.arith.proofs.Round.{Floor, floor-is, floor-rest, whole_is, rest-none}
-use Rattle.arith.proofs.dropped.Statement.{statement}
-use Rattle.arith.proofs.dropped.Tie as tie
+use Rattle.arith.proofs.dropped.Goals as goal
 
 twice : (x m : ℤ) → m ≡ x -ℤ (x -ℤ m)
 twice x m = ring! (x ∷ m ∷ []) (search quotes depth 40) tt
@@ -89,17 +88,14 @@ module _ (x : ℤ) (k : ℕ) (f : SFits w64 x) (hk : k ≤ 60) (small : nat_abs 
       none : (z : ℤ) → z +ℤ pos 0 ≡ z
       none z = ring! (z ∷ []) (search quotes depth 40) tt
 
-pub dropped-spec : {M : Type 1} → statement M
-dropped-spec =
-    tie.close
-    (tie.spec
-    (λ c. search rules)
-    (λ c. search rules)
-    (λ c. search rules)
-    (λ c. search rules)
-    (λ c. search rules)
-    (λ c. search rules)
-    (λ c. multiple-fits c.args.x c.args.k c.ranges.x c.requires.0 c.requires.1)
-    (λ c. above-fits c.args.x c.args.k c.ranges.x c.requires.0 c.requires.1)
-    (λ c. casts c.args.x c.args.k c.ranges.x c.requires.0 c.requires.1)
-    (λ c. ends c.args.x c.args.k c.ranges.x c.requires.0 c.requires.1))
+pub overflow_mul-result : goal.overflow_mul-result
+overflow_mul-result c = multiple-fits c.args.x c.args.k c.ranges.x c.requires.0 c.requires.1
+
+pub overflow_sub-result : goal.overflow_sub-result
+overflow_sub-result c = above-fits c.args.x c.args.k c.ranges.x c.requires.0 c.requires.1
+
+pub overflow_cast-result : goal.overflow_cast-result
+overflow_cast-result c = casts c.args.x c.args.k c.ranges.x c.requires.0 c.requires.1
+
+pub returns : goal.returns
+returns c = ends c.args.x c.args.k c.ranges.x c.requires.0 c.requires.1

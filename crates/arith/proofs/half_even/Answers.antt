@@ -18,8 +18,7 @@ use Rattle.arith.proofs.Abs.{abs-add, abs-minus, abs-shr, sfits-abs, sfits_shr}
 use Rattle.arith.proofs.Quote.{quotes, ring! }
 use Rattle.arith.proofs.Machine.{power-held, power-double}
 use Rattle.arith.proofs.Editions.{even-half, odd-small, addend_small}
-use Rattle.arith.proofs.half_even.Statement.{statement}
-use Rattle.arith.proofs.half_even.Tie as tie
+use Rattle.arith.proofs.half_even.Goals as goal
 
 -- a number as the machine holds it
 abbrev held : ℤ → ℤ
@@ -119,21 +118,20 @@ module _ (x : ℤ) (k : ℕ) (f : SFits w64 x) (hk : k ≤ 61) (small : nat_abs 
       ∙ ap (λ z. shr_z z (2 ^ (k + 1))) raised_is
       ∙ rw (power-double k) (even-half x (2 ^ k) some)
 
-pub half-even-spec : {M : Type 1} → statement M
-half-even-spec =
-    tie.close
-    (tie.spec
-    (λ c. search rules)
-    (λ c. search rules)
-    (λ c. search rules)
-    (λ c. search rules)
-    (λ c. search rules)
-    (λ c. twice-fits c.args.x c.args.k c.ranges.x c.requires.0 c.requires.1)
-    (λ c. odd-fits c.args.x c.args.k c.ranges.x c.requires.0 c.requires.1)
-    (λ c. less-fits c.args.x c.args.k c.ranges.x c.requires.0 c.requires.1)
-    (λ c. addend-fits c.args.x c.args.k c.ranges.x c.requires.0 c.requires.1)
-    (λ c. raised-fits c.args.x c.args.k c.ranges.x c.requires.0 c.requires.1)
-    (λ c. search rules)
-    (λ c. search rules)
-    (λ c. search rules)
-    (λ c. ends c.args.x c.args.k c.ranges.x c.requires.0 c.requires.1))
+pub overflow_mul-odd : goal.overflow_mul-odd
+overflow_mul-odd c = twice-fits c.args.x c.args.k c.ranges.x c.requires.0 c.requires.1
+
+pub overflow_sub-odd : goal.overflow_sub-odd
+overflow_sub-odd c = odd-fits c.args.x c.args.k c.ranges.x c.requires.0 c.requires.1
+
+pub overflow_sub-result : goal.overflow_sub-result
+overflow_sub-result c = less-fits c.args.x c.args.k c.ranges.x c.requires.0 c.requires.1
+
+pub overflow_sub-result-2 : goal.overflow_sub-result-2
+overflow_sub-result-2 c = addend-fits c.args.x c.args.k c.ranges.x c.requires.0 c.requires.1
+
+pub overflow_add-result : goal.overflow_add-result
+overflow_add-result c = raised-fits c.args.x c.args.k c.ranges.x c.requires.0 c.requires.1
+
+pub returns : goal.returns
+returns c = ends c.args.x c.args.k c.ranges.x c.requires.0 c.requires.1

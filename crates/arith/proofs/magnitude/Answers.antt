@@ -14,8 +14,7 @@ use mir.Syntax.{w64}
 use mir.Val.{Fits, SFits, to_z, of_z}
 use mir.Facts.{to_z-of_z}
 use Rattle.arith.proofs.Choices.{clash}
-use Rattle.arith.proofs.magnitude.Statement.{statement}
-use Rattle.arith.proofs.magnitude.Tie as tie
+use Rattle.arith.proofs.magnitude.Goals as goal
 
 minus_one : (n : ℕ) → negsuc 0 -ℤ negsuc n ≡ pos n
 minus_one n = rw (le-ltb (suc n) 1 (omega arith)) (ap pos (omega arith))
@@ -42,29 +41,27 @@ not-below : (x : ℤ) → SFits w64 x → lt_z x (pos 0) ≡ false → T (non_ne
 not-below (pos n) f e = let h = f.sfits in (tt, omega arith)
 not-below (negsuc n) f e = clash (cc)
 
-cast-result : tie.Need-overflow-cast-result
-cast-result c =
+pub overflow_cast-result : goal.overflow_cast-result
+overflow_cast-result c =
     let f = c.before.ranges.x in
     let h = f.sfits in
-    rw (kept c.before.args.x f c.if1.true) (tt, omega arith)
+    rw (kept c.before.args.x f c.if-x-lt0.true) (tt, omega arith)
 
-add-result : tie.Need-overflow-add-result
-add-result c =
+pub overflow_add-result : goal.overflow_add-result
+overflow_add-result c =
     let f = c.before.ranges.x in
     let h = f.sfits in
-    rw (kept c.before.args.x f c.if1.true) (omega arith)
+    rw (kept c.before.args.x f c.if-x-lt0.true) (omega arith)
 
-cast-result-2 : tie.Need-overflow-cast-result-2
-cast-result-2 c =
+pub overflow_cast-result-else-x-lt0 : goal.overflow_cast-result-else-x-lt0
+overflow_cast-result-else-x-lt0 c =
     let f = c.before.ranges.x in
-    rw (to_z-of_z f) (not-below c.before.args.x f (rw (to_z-of_z f) at c.if1.false))
+    rw (to_z-of_z f) (not-below c.before.args.x f (rw (to_z-of_z f) at c.if-x-lt0.false))
 
-returns : tie.Need-returns
-returns c =
+pub returns-then-x-lt0 : goal.returns-then-x-lt0
+returns-then-x-lt0 c =
     let f = c.before.ranges.x in
-    rw (kept c.before.args.x f c.if1.true) (one_more c.before.args.x f c.if1.true)
+    rw (kept c.before.args.x f c.if-x-lt0.true) (one_more c.before.args.x f c.if-x-lt0.true)
 
-pub magnitude-spec : {M : Type 1} → statement M
-magnitude-spec =
-    tie.close (tie.spec (λ c. rest-fits c.before.args.x c.before.ranges.x c.if1.true) cast-result add-result cast-result-2
-    returns (λ c. search rules))
+pub overflow_sub-result : goal.overflow_sub-result
+overflow_sub-result c = rest-fits c.before.args.x c.before.ranges.x c.if-x-lt0.true
