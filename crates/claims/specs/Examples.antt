@@ -83,8 +83,8 @@ infix 3 ◌gives◌
 abbrev pub ◌gives◌ : Outcome (List ℤ) → List ℤ → Row
 e gives xs = record { computed = e; printed = done xs }
 
-infix 3 ◌refusedAs◌atPlace◌
-abbrev pub ◌refusedAs◌atPlace◌ : Outcome (List ℤ) → ℕ → ℕ → Row
+infix 3 ◌refused_as◌at_place◌
+abbrev pub ◌refused_as◌at_place◌ : Outcome (List ℤ) → ℕ → ℕ → Row
 e refused_as number at_place place = record { computed = e; printed = refused number place }
 
 -- every row computes what is printed

@@ -21,7 +21,7 @@ use Rattle.table_file.specs.File.{read_check, file_of, file_header}
 use Rattle.float_query.specs.Floats.{floats_at}
 use Rattle.claims.specs.Third.{Query, at_position, in_cell, at_floats, queried, allowed_distance, asked}
 use Rattle.claims.specs.Marks.{mark_of}
-use Rattle.claims.specs.Examples.{Table, in_edition, full, listed, Row, ◌gives◌, ◌refusedAs◌atPlace◌, records_from, coefficients_of, back_from, back_into, answer_in, pair, at_x}
+use Rattle.claims.specs.Examples.{Table, in_edition, full, listed, Row, ◌gives◌, ◌refused_as◌at_place◌, records_from, coefficients_of, back_from, back_into, answer_in, pair, at_x}
 
 -- ---- what a row computes
 

@@ -28,8 +28,8 @@ infix 3 ◌gives◌
 abbrev pub ◌gives◌ : String → List ℤ → Row
 text gives xs = record { computed = imported 2 256 2 text; printed = done xs }
 
-infix 3 ◌refusedAs◌atPlace◌
-abbrev pub ◌refusedAs◌atPlace◌ : String → ℕ → ℕ → Row
+infix 3 ◌refused_as◌at_place◌
+abbrev pub ◌refused_as◌at_place◌ : String → ℕ → ℕ → Row
 text refused_as number at_place place = record { computed = imported 2 256 2 text; printed = refused number place }
 
 -- every row computes what is printed

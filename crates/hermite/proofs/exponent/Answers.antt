@@ -1,0 +1,7 @@
+-- `hermite::exponent` meets its contract, by the two degrees.
+use native.Mathlib.Omega.{arith}
+use borrow.Author.Rules.{rules}
+use Rattle.hermite.proofs.exponent.Goals as goal
+
+pub returns : goal.returns
+returns c = let s = c.before in omega (arith, s.requires.0, s.requires.1, s.requires.2, c.if-m-eq2.false)

@@ -1,0 +1,14 @@
+-- `count_tokens` meets its contract. The invariant: the tokens that start before i are counted.
+use mathlib.Core.Logic.{⊎_elim}
+use mathlib.Core.Path.{◌≡◌, sym, ◌∙◌}
+use Prim.Native.Nat.{◌≤◌, ◌-◌}
+use native.Mathlib.Omega.{arith}
+use lib.ListN.{length}
+use Rattle.import.proofs.TokensLaws.{before, before-none, before-start, before-other, before-few, before-all}
+use Rattle.import.proofs.count_tokens.Given as goal
+
+abbrev pub invariant-loop-i : goal.invariant-loop-i
+invariant-loop-i l = (l.i ≤ length l.text) × (l.count ≡ before l.text l.i)
+
+abbrev pub decreases-loop-i : goal.decreases-loop-i
+decreases-loop-i l = length l.text - l.i

@@ -1,0 +1,43 @@
+-- `check_counts` meets its contract. The invariant: no axis below this one is refused.
+use mathlib.Core.Path.{◌≡◌, refl, sym, ap, ◌∙◌}
+use Prim.Native.Nat.{ℕ, ◌≤◌, ◌-◌}
+use native.Mathlib.Omega.{arith}
+use Rattle.lattice.specs.Answers.{outcome_of}
+use Rattle.lattice.specs.Outcome.{done, first_of}
+use Rattle.lattice.proofs.OutcomeLaws.{first_of-stops, first_of-more}
+use Rattle.table_file.specs.File.{count_outcome}
+use borrow.Author.Rules.{rules}
+use Rattle.table_file.proofs.check_counts.Goals as goal
+
+pub loop-axis-init : goal.loop-axis-init
+unfolding first_of
+loop-axis-init c = (omega arith, refl)
+
+pub returns-in-Refused : goal.returns-in-Refused
+returns-in-Refused c =
+    let d = c.before in
+    let l = d.before.before in
+    let g = ap outcome_of c.in-Refused.is in
+    g ∙ sym (first_of-stops _ l.loop-axis.axis (count_outcome l.args.bytes.now) _ _ (omega arith) l.loop-axis.invariant.1
+    (sym d.check_count-counted.ensures ∙ g))
+
+pub loop-axis-preserved : goal.loop-axis-preserved
+loop-axis-preserved c =
+    let d = c.before in
+    let l = d.before.before in (
+      omega arith,
+      first_of-more l.loop-axis.axis (count_outcome l.args.bytes.now) l.loop-axis.invariant.1
+          (sym d.check_count-counted.ensures ∙ ap outcome_of c.in_default.is),
+    )
+
+pub returns : goal.returns
+returns c =
+    let l = c.before in
+    let e : l.loop-axis.axis ≡ l.args.axes = omega arith in
+    sym (ap (λ (k : ℕ). first_of k (count_outcome l.args.bytes.now)) (sym e) ∙ l.loop-axis.invariant.1)
+
+pub overflow_add-axis : goal.overflow_add-axis
+overflow_add-axis c = omega arith
+
+pub loop-axis-smaller : goal.loop-axis-smaller
+loop-axis-smaller c = omega arith

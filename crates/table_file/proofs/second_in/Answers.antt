@@ -1,0 +1,12 @@
+-- `second_in` meets its contract: the bytes after sections one and two are those after `start` numbers.
+use mathlib.Core.Path.{ap}
+use Prim.Native.Nat.{ℕ, ◌*◌}
+use lib.Dec.{ltb}
+use lib.ListN.{length}
+use borrow.Author.Rules.{rules}
+use Rattle.table_file.specs.File.{second_in}
+use Rattle.table_file.proofs.second_in.Goals as goal
+
+pub returns : goal.returns
+unfolding second_in
+returns c = ap (λ (k : ℕ). ltb (4 * k) (length c.args.bytes.now)) c.requires.0
