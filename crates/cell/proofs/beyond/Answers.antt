@@ -10,8 +10,7 @@ use lib.Signed.{non_neg, lt_z, mag}
 use borrow.Author.Tests.{lt-ltb, le-ltb}
 use Rattle.arith.proofs.Choices.{clash}
 use Rattle.arith.proofs.Machine.{element}
-use Rattle.cell.proofs.beyond.Statement.{statement}
-use Rattle.cell.proofs.beyond.Tie as tie
+use Rattle.cell.proofs.beyond.Goals as goal
 
 small : (z : ℤ) → mag z < 2 ^ 31 → non_neg z ≡ true → mag (pos 0 -ℤ z) < 2 ^ 31
 small z h e = rw (+ℤ_idl (neg_ℤ z)) (go z h e)
@@ -39,24 +38,21 @@ below (negsuc k) (pos (suc n)) ok h = go (dec_lt n k)
     go (no m) = le-ltb n k (omega (arith, m)) ∙ sym (le-ltb (suc n) (suc k) (omega (arith, m)))
 below x (negsuc n) ok h = cc
 
-sub-result : tie.Need-overflow-sub-result
-sub-result c = let b = c.before in
+pub overflow_sub-result : goal.overflow_sub-result
+overflow_sub-result c = let b = c.before in
     rw (element b.args.limit b.ranges.limit.sfits) (record { sfits = small b.args.limit b.ranges.limit.sfits b.requires })
 
-returns : tie.Need-returns
-returns c =
+pub returns-then-limit-x : goal.returns-then-limit-x
+returns-then-limit-x c =
     let b = c.before in
     let i = element b.args.x b.ranges.x.sfits in
     let j = element b.args.limit b.ranges.limit.sfits in
-    rw (i, j) (above b.args.x b.args.limit b.requires (rw (i, j) at c.if1.true))
+    rw (i, j) (above b.args.x b.args.limit b.requires (rw (i, j) at c.if-limit-x.true))
 
-returns-2 : tie.Need-returns-2
-returns-2 c =
+pub returns-else-limit-x : goal.returns-else-limit-x
+returns-else-limit-x c =
     let b = c.before in
     let i = element b.args.x b.ranges.x.sfits in
     let j = element b.args.limit b.ranges.limit.sfits in
     let k = element (pos 0 -ℤ b.args.limit) (small b.args.limit b.ranges.limit.sfits b.requires) in
-    rw (i, j, k, +ℤ_idl (neg_ℤ b.args.limit)) (below b.args.x b.args.limit b.requires (rw (i, j) at c.if1.false))
-
-pub beyond-spec : {M : Type 1} → statement M
-beyond-spec = tie.close (tie.spec sub-result returns returns-2)
+    rw (i, j, k, +ℤ_idl (neg_ℤ b.args.limit)) (below b.args.x b.args.limit b.requires (rw (i, j) at c.if-limit-x.false))

@@ -12,8 +12,7 @@ use lib.IntN.{ℤ, pos, negsuc, nat_abs}
 use lib.Signed.{non_neg}
 use Rattle.lattice.specs.Buffer.{at}
 use borrow.Author.Rules.{rules}
-use Rattle.cell.proofs.entry_limits.Statement.{statement}
-use Rattle.cell.proofs.entry_limits.Tie as tie
+use Rattle.cell.proofs.entry_limits.Goals as goal
 
 cubic : List ℤ
 cubic = pos 32768 ∷ pos 65536 ∷ pos 65536 ∷ pos 131072 ∷ pos 65536 ∷ pos 131072 ∷ pos 131072 ∷ pos 262144 ∷ pos 0 ∷ pos 0 ∷ pos 0 ∷ pos
@@ -38,17 +37,13 @@ by-test m n row e l t =
     whole (pos n) h = refl
     whole (negsuc n) h = absurd h
 
-returns : tie.Need-returns
+pub returns-then-m-eq2 : goal.returns-then-m-eq2
 unfolding right all limit_of cubic quintic
-returns c = λ e l. by-test 2 8 cubic e (subst (λ (m : ℕ). e < m ^ 3) c.before.if1.true l) tt
-    ∙ ap (λ (m : ℕ). pos (limit_of m e)) (sym c.before.if1.true)
+returns-then-m-eq2 c = λ e l. by-test 2 8 cubic e (subst (λ (m : ℕ). e < m ^ 3) c.if-m-eq2.true l) tt
+    ∙ ap (λ (m : ℕ). pos (limit_of m e)) (sym c.if-m-eq2.true)
 
-returns-2 : tie.Need-returns-2
+pub returns : goal.returns
 unfolding right all limit_of cubic quintic
-returns-2 c = λ e l.
-    let three : c.before.before.args.m ≡ 3 = omega (arith, c.before.if1.false) in
+returns c = λ e l.
+    let three : c.args.m ≡ 3 = omega (arith, c.if-m-eq2.false) in
     by-test 3 27 quintic e (subst (λ (m : ℕ). e < m ^ 3) three l) tt ∙ ap (λ (m : ℕ). pos (limit_of m e)) (sym three)
-
-pub entry-limits-spec : {M : Type 1} → statement M
-entry-limits-spec =
-    tie.close (tie.spec (λ c. search rules) returns (λ c. search rules) returns-2)
