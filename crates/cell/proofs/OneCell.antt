@@ -72,16 +72,16 @@ module _ (n degree : ℕ) (low : 1 ≤ n) (high : n ≤ 3) where
       ap (λ (k : ℕ). k * orders_of degree ^ n) (by_n (λ (n : ℕ). nodes (one_cell n degree) ≡ 2 ^ n) refl refl refl n low high)
       ∙ sym (count-split (orders_of degree) n)
 
-  pub one_cell : cell_outcome (one_cell n degree) origin ≡ done tt
+  pub one-within : cell_outcome (one_cell n degree) origin ≡ done tt
   unfolding cell_outcome one_cell count first_of pick
-  one_cell = by_n (λ (n : ℕ). cell_outcome (one_cell n degree) origin ≡ done tt) refl refl refl n low high
+  one-within = by_n (λ (n : ℕ). cell_outcome (one_cell n degree) origin ≡ done tt) refl refl refl n low high
 
   pub one-accepted : Accepted (one_cell n degree) origin
   unfolding one_cell
   one-accepted =
       subst (Accepted (one_cell n degree)) only-cell
       (accepted (one_cell n degree) only_cell high
-      (subst (λ (p : Place). cell_outcome (one_cell n degree) p ≡ done tt) (sym only-cell) one_cell))
+      (subst (λ (p : Place). cell_outcome (one_cell n degree) p ≡ done tt) (sym only-cell) one-within))
 
   -- corner after corner
   start_is : (c : ℕ) → c < 2 ^ n → corner_start (one_cell n degree) origin c ≡ entries (one_cell n degree) * c

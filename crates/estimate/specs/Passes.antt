@@ -1,7 +1,7 @@
 -- What the inner functions write. A pass along an axis takes three rows of numbers, at the nodes before, at the nodes and at the nodes
 -- behind, and gives the orders of each; the order is the fastest digit of the index. The axes are worked off in the order z, y, x.
 -- The promises of `estimate` mention none of this.
-use Rattle.std.specs.Prelude.{◌≡◌, ℕ, zero, suc, ◌+◌, ◌-◌, ◌*◌, ◌/◌, ◌%◌, ◌≤◌, ◌<◌, Bool, true, List, leb, ltb, ℤ, ◌+ℤ◌, ◌-ℤ◌, nat_abs, length, set}
+use Rattle.std.specs.Prelude.{◌≡◌, ℕ, zero, suc, ◌+◌, ◌*◌, ◌/◌, ◌%◌, ◌≤◌, ◌<◌, Bool, true, List, leb, ltb, ℤ, ◌+ℤ◌, ◌-ℤ◌, nat_abs, length, set}
 use Rattle.arith.specs.Choice.{pick}
 use Rattle.lattice.specs.declared.Shape.{Shape}
 use Rattle.lattice.specs.Buffer.{at}

@@ -3,12 +3,11 @@ use mathlib.Core.Bool.{Bool, true, false}
 use mathlib.Core.List.{List}
 use mathlib.Core.Logic.{⊎_elim}
 use mathlib.Core.Path.{◌≡◌, sym, ap, subst, ◌∙◌}
-use Prim.Native.Nat.{ℕ, ◌≤◌, ◌<◌, ◌+◌, ◌-◌}
+use Prim.Native.Nat.{ℕ, ◌≤◌, ◌<◌, ◌+◌}
 use native.Mathlib.Nat.{not-suc-le-zero, eq-or-lt_of_le}
 use native.Mathlib.Omega.{arith}
-use lib.ListN.{length, get_or}
+use lib.ListN.{get_or}
 use lib.IntN.{ℤ, pos, nat_abs}
-use borrow.Author.Rules.{rules}
 use Rattle.arith.proofs.Choices.{clash}
 use Rattle.arith.proofs.Machine.{widen-fits, widened}
 use Rattle.lattice.specs.Buffer.{at}
@@ -22,20 +21,18 @@ off e h = clash (cc)
 -- one number more
 more : (xs : List ℤ) (limit i : ℕ) → Within xs limit i → nat_abs (at xs i) ≤ limit → Within xs limit (i + 1)
 more xs limit i h small j l =
-    ⊎_elim​ (λ (e : j ≡ i). subst (λ (k : ℕ). nat_abs (at xs k) ≤ limit) (sym e) small) (λ (k : j < i). h j k) (eq-or-lt_of_le (omega arith))
+    ⊎_elim (λ (e : j ≡ i). subst (λ (k : ℕ). nat_abs (at xs k) ≤ limit) (sym e) small) (λ (k : j < i). h j k) (eq-or-lt_of_le (omega arith))
 
 pub overflow_cast-x : goal.overflow_cast-x
 overflow_cast-x c = widen-fits (get_or c.args.xs.now c.loop-i.i (pos 0)) c.x-1.given
 
 pub loop-i-preserved : goal.loop-i-preserved
 loop-i-preserved c =
-    let m = c.before in
-    let b = m.before.before.before in
-    let xs = b.args.xs.now in
-    let i = b.loop-i.i in
-    let is = m.magnitude.ensures ∙ ap nat_abs (widened (at xs i) m.x-1.given) in (
+    let xs = c.args.xs.now in
+    let i = c.loop-i.i in
+    let is = c.magnitude.ensures ∙ ap nat_abs (widened (at xs i) c.x-1.given) in (
       omega arith,
-      elim c.if-limit-magnitude.branch [ then-limit-magnitude w ↦ off w.??-is | else-limit-magnitude w h ↦ more xs b.args.limit i (b.loop-i.invariant.1 (sym w.1 ∙ h)) (omega (arith, w.0.false, is)) ],
+      elim c.if-limit-magnitude.branch [ then-limit-magnitude w ↦ off w.within-is | else-limit-magnitude w ↦ λ h. more xs c.args.limit i (c.loop-i.invariant.1 (sym w.within-is ∙ h)) (omega (arith, w.if-limit-magnitude.false, is)) ],
     )
 
 pub returns : goal.returns

@@ -1,16 +1,10 @@
 -- `estimate::all_within` meets its contract: while the flag holds, no number so far is beyond the limit.
-use mathlib.Core.Bool.{Bool, true, false}
+use mathlib.Core.Bool.{true}
 use mathlib.Core.List.{List}
-use mathlib.Core.Logic.{⊎_elim}
-use mathlib.Core.Path.{◌≡◌, sym, ap, subst, ◌∙◌}
-use Prim.Native.Nat.{ℕ, ◌≤◌, ◌<◌, ◌+◌, ◌-◌}
-use native.Mathlib.Nat.{not-suc-le-zero, eq-or-lt_of_le}
-use native.Mathlib.Omega.{arith}
-use lib.ListN.{length, get_or}
-use lib.IntN.{ℤ, pos, nat_abs}
-use borrow.Author.Rules.{rules}
-use Rattle.arith.proofs.Choices.{clash}
-use Rattle.arith.proofs.Machine.{widen-fits, widened}
+use mathlib.Core.Path.{◌≡◌}
+use Prim.Native.Nat.{ℕ, ◌≤◌, ◌<◌, ◌-◌}
+use lib.ListN.{length}
+use lib.IntN.{ℤ, nat_abs}
 use Rattle.lattice.specs.Buffer.{at}
 use Rattle.estimate.proofs.all_within.Given as goal
 

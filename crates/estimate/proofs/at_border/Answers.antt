@@ -1,6 +1,5 @@
 -- `estimate::at_border` meets its contract, at the first node and behind it.
 use mathlib.Core.Path.{sym, ◌∙◌}
-use borrow.Author.Rules.{rules}
 use borrow.Author.Tests.{eq-eqb}
 use Rattle.estimate.proofs.PassesLaws.{first-border, later-border}
 use Rattle.estimate.proofs.at_border.Goals as goal

@@ -1,9 +1,8 @@
 -- `estimate::border_pass` meets its contract. The loop's invariant: the orders of the first t numbers are written. Within ±2^19 the
 -- machine's difference is that of the definition.
-use mathlib.Core.Bool.{true}
 use mathlib.Core.List.{List}
 use mathlib.Core.Path.{◌≡◌}
-use Prim.Native.Nat.{ℕ, ◌≤◌, ◌<◌, ◌*◌, ◌-◌}
+use Prim.Native.Nat.{ℕ, ◌≤◌, ◌<◌, ◌*◌}
 use native.Mathlib.Omega.{arith}
 use lib.IntN.{ℤ, nat_abs, ◌-ℤ◌}
 use mir.Syntax.{w32}
@@ -11,24 +10,13 @@ use mir.Val.{SFits, to_z, of_z}
 use Rattle.arith.specs.Choice.{pick}
 use Rattle.arith.proofs.Abs.{abs-minus}
 use Rattle.arith.proofs.Machine.{Size, sizes, sized, s-bits, fits?, value?}
-use Rattle.estimate.specs.Estimate.{by_order}
 use Rattle.estimate.specs.Passes.{pass_limit, since, lower, upper, Read}
-use Rattle.estimate.proofs.PlacedLaws.{Stored, stored-none, stored-length, stored-all, stored-fits, stored-room, stored_more, less-left}
+use Rattle.estimate.proofs.PlacedLaws.{stored-none, stored-length, stored-all, stored-fits, stored-room, stored_more, less-left}
 use Rattle.estimate.proofs.border_pass.Goals as goal
-use Rattle.estimate.proofs.border_pass.Goals.{After-out-1, At-loop-t, In-loop-t, Start}
 
 -- a number as the machine holds it
 abbrev held : ℤ → ℤ
 held x = to_z w32 (of_z w32 x)
-
-abbrev turn : After-out-1 → At-loop-t
-turn c = c.before.before.before.before.before.before.before
-
-abbrev in-turn : After-out-1 → In-loop-t
-in-turn c = c.before.before.before.before.before.before
-
-abbrev begun : After-out-1 → Start
-begun c = c.before.before.before.before.before.before.before.before
 
 -- what a turn reads
 module _ {xs : List ℤ} {low mid high count : ℕ} (read : Read xs low count × Read xs mid count × Read xs high count) {t : ℕ}
@@ -69,18 +57,18 @@ module _ {xs : List ℤ} {low mid high count : ℕ} (read : Read xs low count ×
 
 pub put_straight-requires : goal.put_straight-requires
 put_straight-requires c =
-    let v = c.before.before.before.before.before in
-    let s = v.before in
     let h = c.loop-t-test.true in
-    record { order_count = (s.requires.order_count.0, stored-room v.loop-t.invariant h s.requires.order_count.1); f_bound = within s.requires.read h }
+    record {
+      order_count = (c.requires.order_count.0, stored-room c.loop-t.invariant h c.requires.order_count.1);
+      f_bound = within c.requires.read h;
+    }
 
 pub loop-t-preserved : goal.loop-t-preserved
 unfolding lower upper pick
 loop-t-preserved c =
-    let v = turn c in
-    let h = (in-turn c).loop-t-test.true in
-    let r = v.requires.read in
-    stored_more v.loop-t.invariant h c.put_straight.ensures (λ o i. rw (value r h, rise r h))
+    let h = c.loop-t-test.true in
+    let r = c.requires.read in
+    stored_more c.loop-t.invariant h c.put_straight.ensures (λ o i. rw (value r h, rise r h))
 
 pub loop-t-init : goal.loop-t-init
 loop-t-init c = stored-none
@@ -116,19 +104,13 @@ pub overflow_sub-d : goal.overflow_sub-d
 overflow_sub-d c = difference c.requires.read c.loop-t-test.true
 
 pub overflow_add-p : goal.overflow_add-p
-overflow_add-p c = let s = begun c in
-    omega (
-      arith,
-      stored-fits (turn c).loop-t.invariant
-          (in-turn c).loop-t-test.true s.requires.order_count.1,
-      s.good,
-    )
+overflow_add-p c = omega (arith, stored-fits c.loop-t.invariant c.loop-t-test.true c.requires.order_count.1)
 
 pub overflow_add-t : goal.overflow_add-t
 overflow_add-t c = omega arith
 
 pub loop-t-smaller : goal.loop-t-smaller
-loop-t-smaller c = less-left (in-turn c).loop-t-test.true
+loop-t-smaller c = less-left c.loop-t-test.true
 
 pub shape_of-out : goal.shape_of-out
 shape_of-out c = stored-length c.loop-t.invariant

@@ -1,19 +1,10 @@
 -- `estimate::border_pass` meets its contract. The loop's invariant: the orders of the first t numbers are written. Within ±2^19 the
 -- machine's difference is that of the definition.
 use mathlib.Core.Bool.{true}
-use mathlib.Core.List.{List}
-use mathlib.Core.Path.{◌≡◌}
-use Prim.Native.Nat.{ℕ, ◌≤◌, ◌<◌, ◌*◌, ◌-◌}
-use native.Mathlib.Omega.{arith}
-use lib.IntN.{ℤ, nat_abs, ◌-ℤ◌}
-use mir.Syntax.{w32}
-use mir.Val.{SFits, to_z, of_z}
-use Rattle.arith.specs.Choice.{pick}
-use Rattle.arith.proofs.Abs.{abs-minus}
-use Rattle.arith.proofs.Machine.{Size, sizes, sized, s-bits, fits?, value?}
+use Prim.Native.Nat.{◌-◌}
 use Rattle.estimate.specs.Estimate.{by_order}
-use Rattle.estimate.specs.Passes.{pass_limit, since, lower, upper, Read}
-use Rattle.estimate.proofs.PlacedLaws.{Stored, stored-none, stored-length, stored-all, stored-fits, stored-room, stored_more, less-left}
+use Rattle.estimate.specs.Passes.{since, lower, upper}
+use Rattle.estimate.proofs.PlacedLaws.{Stored}
 use Rattle.estimate.proofs.border_pass.Given as goal
 
 abbrev pub invariant-loop-t : goal.invariant-loop-t

@@ -3,7 +3,6 @@ use mathlib.Core.Path.{sym}
 use lib.Dec.{leb}
 use lib.IntN.{nat_abs}
 use lib.ListN.{length}
-use borrow.Author.Rules.{rules}
 use borrow.Author.Tests.{le-leb}
 use Rattle.lattice.specs.Buffer.{at}
 use Rattle.lattice.specs.Records.{limit_outcome}

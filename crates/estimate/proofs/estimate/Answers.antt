@@ -2,16 +2,11 @@
 -- written.
 use mathlib.Core.Path.{sym, ap, ◌∙◌}
 use lib.ListN.{length}
-use borrow.Author.Rules.{rules}
 use Rattle.lattice.proofs.OutcomeLaws.{when-done, when-refused}
 use Rattle.lattice.specs.Answers.{outcome_of}
 use Rattle.estimate.specs.Estimate.{estimate_writes}
 use Rattle.estimate.proofs.CallLaws.{estimated}
 use Rattle.estimate.proofs.estimate.Goals as goal
-use Rattle.estimate.proofs.estimate.Goals.{After-records-1, Start}
-
-abbrev begun : After-records-1 → Start
-begun c = c.before.before.before.before.before
 
 pub fill_records-requires : goal.fill_records-requires
 fill_records-requires c =
@@ -22,13 +17,14 @@ fill_records-requires c =
 pub returns-in-Done : goal.returns-in-Done
 unfolding estimate_writes
 returns-in-Done c =
-    let b = begun c in
-    let e = c.check_estimate-answer.ensures in record { answer = e; written = c.fill_records.ensures
-          ∙ when-done _ b.args.records.now (sym e ∙ ap outcome_of c.in-Done.is) }
+    let e = c.check_estimate-answer.ensures in
+    record {
+      answer = e;
+      written = c.fill_records.ensures ∙ when-done _ c.args.records.now (sym e ∙ ap outcome_of c.in-Done.is);
+    }
 
 pub returns-in_default : goal.returns-in_default
 unfolding estimate_writes
 returns-in_default c =
-    let b = c.before.before in
     let e = c.check_estimate-answer.ensures in
-    record { answer = e; written = when-refused _ b.args.records.now (sym e ∙ ap outcome_of c.in_default.is) }
+    record { answer = e; written = when-refused _ c.args.records.now (sym e ∙ ap outcome_of c.in_default.is) }

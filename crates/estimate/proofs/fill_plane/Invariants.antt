@@ -2,13 +2,9 @@
 -- what row y asks for.
 use mathlib.Core.Path.{◌≡◌}
 use Prim.Native.Nat.{◌-◌}
-use native.Mathlib.Omega.{arith}
 use lib.ListN.{length}
-use Rattle.estimate.specs.Passes.{row_yz, row_size, row_on, plane_of, Ring}
-use Rattle.estimate.proofs.PassesLaws.{node-high, record-high, row-high, row-z-high, row-yz-high}
-use Rattle.estimate.proofs.RowsLaws.{row_same, rows_in, row_seen}
-use Rattle.estimate.proofs.RingLaws.{ring-first}
-use Rattle.estimate.proofs.PlacedLaws.{Stored, stored-none, stored-length, stored-all, stored-fits, stored-room, stored_more, less-left}
+use Rattle.estimate.specs.Passes.{row_yz, row_size, row_on, Ring}
+use Rattle.estimate.proofs.PlacedLaws.{Stored}
 use Rattle.estimate.proofs.fill_plane.Given as goal
 
 abbrev pub invariant-loop-y : goal.invariant-loop-y

@@ -1,20 +1,11 @@
 -- `estimate::fill_planes` meets its contract. The loop's invariant: the records of the planes before plane z are written.
-use mathlib.Core.Path.{◌≡◌, refl}
-use Prim.Native.Nat.{◌-◌}
+use mathlib.Core.Path.{refl}
 use native.Mathlib.Nat.{zero-add}
 use native.Mathlib.Omega.{arith}
-use lib.ListN.{length}
-use Rattle.estimate.specs.Passes.{plane_size, plane_of, planes_of}
+use Rattle.estimate.specs.Passes.{planes_of}
 use Rattle.estimate.proofs.PassesLaws.{node-high, record-high, row-high, plane-high}
-use Rattle.estimate.proofs.PlacedLaws.{Stored, stored-none, stored-length, stored-all, stored-fits, stored-room, stored_more, less-left}
+use Rattle.estimate.proofs.PlacedLaws.{stored-none, stored-length, stored-all, stored-fits, stored-room, stored_more, less-left}
 use Rattle.estimate.proofs.fill_planes.Goals as goal
-use Rattle.estimate.proofs.fill_planes.Goals.{After-fill_plane-arg-1, At-loop-z, In-loop-z, Start}
-
-abbrev entered : After-fill_plane-arg-1 → In-loop-z
-entered c = c.before.before.before
-
-abbrev begun : At-loop-z → Start
-begun c = c.before.before.before.before.before
 
 pub returns : goal.returns
 unfolding planes_of
@@ -36,21 +27,26 @@ pub loop-z-init : goal.loop-z-init
 loop-z-init c = (stored-none, refl, refl)
 
 pub fill_plane-requires : goal.fill_plane-requires
-fill_plane-requires c = let t = entered c in let l = t.before.before in let s = begun l in record { samples = (s.requires.0, t.loop-z-test.true, stored-room l.loop-z.invariant.0 t.loop-z-test.true (rw zero-add s.requires.1)); ring_len = (l.loop-z.invariant.1, l.loop-z.invariant.2) }
+fill_plane-requires c =
+    let i = c.loop-z.invariant in
+    record {
+      samples = (c.requires.0, c.loop-z-test.true, stored-room i.0 c.loop-z-test.true (rw zero-add c.requires.1));
+      ring_len = (i.1, i.2);
+    }
 
 pub overflow_add-p : goal.overflow_add-p
-overflow_add-p c = let t = entered c.before.before in let l = t.before.before in let s = begun l in
-    omega (arith, stored-fits l.loop-z.invariant.0 t.loop-z-test.true (rw zero-add s.requires.1), s.good)
+overflow_add-p c = omega (arith, stored-fits c.loop-z.invariant.0 c.loop-z-test.true (rw zero-add c.requires.1))
 
 pub overflow_add-z : goal.overflow_add-z
 overflow_add-z c = omega arith
 
 pub loop-z-smaller : goal.loop-z-smaller
-loop-z-smaller c = less-left (entered c.before.before).loop-z-test.true
+loop-z-smaller c = less-left c.loop-z-test.true
 
 pub loop-z-preserved : goal.loop-z-preserved
-loop-z-preserved c = let t = entered c.before.before in let e = c.fill_plane.ensures in
-    (stored_more t.loop-z.invariant.0 t.loop-z-test.true e.out_after (λ o i. refl), e.ring_len_2.0, e.ring_len_2.1)
+loop-z-preserved c =
+    let e = c.fill_plane.ensures in
+    (stored_more c.loop-z.invariant.0 c.loop-z-test.true e.out_after (λ o i. refl), e.ring_len_2.0, e.ring_len_2.1)
 
 pub shape_of-out : goal.shape_of-out
 shape_of-out c = stored-length c.loop-z.invariant.0

@@ -1,12 +1,9 @@
 -- `estimate::fill_planes` meets its contract. The loop's invariant: the records of the planes before plane z are written.
-use mathlib.Core.Path.{◌≡◌, refl}
+use mathlib.Core.Path.{◌≡◌}
 use Prim.Native.Nat.{◌-◌}
-use native.Mathlib.Nat.{zero-add}
-use native.Mathlib.Omega.{arith}
 use lib.ListN.{length}
-use Rattle.estimate.specs.Passes.{plane_size, plane_of, planes_of}
-use Rattle.estimate.proofs.PassesLaws.{node-high, record-high, row-high, plane-high}
-use Rattle.estimate.proofs.PlacedLaws.{Stored, stored-none, stored-length, stored-all, stored-fits, stored-room, stored_more, less-left}
+use Rattle.estimate.specs.Passes.{plane_size, plane_of}
+use Rattle.estimate.proofs.PlacedLaws.{Stored}
 use Rattle.estimate.proofs.fill_planes.Given as goal
 
 abbrev pub invariant-loop-z : goal.invariant-loop-z

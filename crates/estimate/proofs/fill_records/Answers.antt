@@ -7,7 +7,6 @@ use native.Mathlib.Omega.{arith}
 use lib.Dec.{lit<, lit≤}
 use lib.ListN.{length, get_or}
 use lib.IntN.{ℤ}
-use borrow.Author.Rules.{rules}
 use Rattle.lattice.specs.declared.Shape.{Shape}
 use Rattle.lattice.specs.Buffer.{at, overwrite}
 use Rattle.lattice.specs.Shape.{count, size, orders}
@@ -101,25 +100,24 @@ module _ {s : Shape} {xs : List ℤ} (b : List ℤ) (ok : Estimable s xs (length
         ∙ ap (λ (k : ℕ). placed 0 k (planes_of g xs) b) (sym all))
 
 pub fill_row-requires : goal.fill_row-requires
-fill_row-requires c = let o = c.before.before in let t = o.before in
-    line-ready t.args.records.now t.requires t.if-s-eq1.true _ _ o.orders-m.ensures refl
+fill_row-requires c =
+    let r = line-ready c.args.records.now c.requires c.if-s-eq1.true _ _ c.orders-m.ensures refl in
+    record { rows = r.0; read = r.1 }
 
 pub fill_sheet-requires : goal.fill_sheet-requires
-fill_sheet-requires c = let g = c.before in let t = g.before in let s = t.before.before in
-    sheet-ready s.args.records.now s.requires g.grid_of.ensures t.if-s-eq2.true
+fill_sheet-requires c = sheet-ready c.args.records.now c.requires c.grid_of.ensures c.if-s-eq2.true
 
 pub fill_planes-requires : goal.fill_planes-requires
-fill_planes-requires c = let g = c.before in let s = g.before.before.before in ready s.args.records.now s.requires g.grid_of-else-s-eq2.ensures
+fill_planes-requires c = ready c.args.records.now c.requires c.grid_of-else-s-eq2.ensures
 
 pub returns-then-s-eq1 : goal.returns-then-s-eq1
-returns-then-s-eq1 c = let o = c.before.before.before.before in let t = o.before in
-    line-result t.args.records.now t.requires t.if-s-eq1.true _ _ o.orders-m.ensures refl
-    c.fill_row.ensures
+returns-then-s-eq1 c =
+    line-result c.args.records.now c.requires c.if-s-eq1.true _ _ c.orders-m.ensures refl c.fill_row.ensures
 
 pub returns-then-s-eq2 : goal.returns-then-s-eq2
-returns-then-s-eq2 c = let g = c.before.before.before in let t = g.before in let s = t.before.before in
-    sheet-result s.args.records.now s.requires g.grid_of.ensures t.if-s-eq2.true c.fill_sheet.ensures
+returns-then-s-eq2 c =
+    sheet-result c.args.records.now c.requires c.grid_of.ensures c.if-s-eq2.true c.fill_sheet.ensures
 
 pub returns-else-s-eq2 : goal.returns-else-s-eq2
-returns-else-s-eq2 c = let g = c.before.before.before in let s = g.before.before.before in
-    result s.args.records.now s.requires g.grid_of-else-s-eq2.ensures c.fill_planes.ensures
+returns-else-s-eq2 c =
+    result c.args.records.now c.requires c.grid_of-else-s-eq2.ensures c.fill_planes.ensures

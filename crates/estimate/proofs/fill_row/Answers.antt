@@ -6,7 +6,6 @@ use Prim.Native.Nat.{ℕ, suc, ◌≤◌, ◌<◌, ◌+◌, ◌-◌, ◌*◌, �
 use native.Mathlib.Nat.{mul-le-mul, zero-add, mod-lt, div-add-mod, mul-add-div, mul-add-mod_self_left}
 use native.Mathlib.Omega.{arith}
 use lib.IntN.{ℤ, nat_abs}
-use borrow.Author.Rules.{rules}
 use borrow.Author.Tests.{lt-leb, le-leb}
 use Rattle.lattice.specs.Buffer.{at}
 use Rattle.estimate.specs.Passes.{pass_limit, placed, since, grouped, before, behind, at_border, pass_of, row_of, Read, Rows}
@@ -164,16 +163,19 @@ pub pass-requires-2 : goal.pass-requires-2
 pass-requires-2 c = let s = begun c.before in let ok = s.requires.rows.0 in let r = read ok s.requires.read in record { order_count = (ok.orders, omega (arith, entries ok, s.requires.rows.1, c.pass.auto)); read = (r _ _ (omega arith), r _ _ (omega arith), r _ _ (omega arith)) }
 
 pub pass-requires-3 : goal.pass-requires-3
-pass-requires-3 c = let s = begun c.before.before.before.before in let ok = s.requires.rows.0 in let r = read ok s.requires.read in record { order_count = (
-        ok.orders,
-        omega (
-          arith,
-          entries ok,
-          s.requires.rows.1,
-          c.pass-2.auto,
-          c.pass.auto,
-        ),
-      ); read = (r _ _ (omega arith), r _ _ (omega arith), r _ _ (omega arith)) }
+pass-requires-3 c = let s = begun c.before.before.before.before in let ok = s.requires.rows.0 in let r = read ok s.requires.read in record {
+  order_count = (
+    ok.orders,
+    omega (
+      arith,
+      entries ok,
+      s.requires.rows.1,
+      c.pass-2.auto,
+      c.pass.auto,
+    ),
+  );
+  read = (r _ _ (omega arith), r _ _ (omega arith), r _ _ (omega arith));
+}
 
 pub returns : goal.returns
 returns c = let s = (pass-before c).before.before in

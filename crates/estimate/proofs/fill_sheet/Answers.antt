@@ -1,19 +1,15 @@
 -- `estimate::fill_sheet` meets its contract. The loop's invariant: the records of the rows before row y are written.
 use mathlib.Core.Path.{◌≡◌, refl, ap}
 use mathlib.Core.List.{List}
-use Prim.Native.Nat.{ℕ, ◌+◌, ◌-◌, ◌*◌, ◌≤◌}
+use Prim.Native.Nat.{ℕ, ◌+◌, ◌*◌, ◌≤◌}
 use native.Mathlib.Nat.{zero-add, mul-one, one-mul, mul-le-mul}
 use native.Mathlib.Omega.{arith}
 use lib.IntN.{ℤ}
-use lib.ListN.{length}
-use borrow.Author.Rules.{rules}
-use Rattle.lattice.specs.Buffer.{at}
 use Rattle.estimate.specs.declared.Grid.{Grid}
-use Rattle.estimate.specs.Passes.{row_yz, node_size, row_size, row_on, plane_of, Grids}
+use Rattle.estimate.specs.Passes.{row_yz, node_size, plane_of, Grids}
 use Rattle.estimate.proofs.RowsLaws.{row_same, rows_in, row_seen}
 use Rattle.estimate.proofs.PlacedLaws.{Stored, stored-none, stored-length, stored-all, stored-fits, stored-room, stored_more, less-left}
 use Rattle.estimate.proofs.fill_sheet.Goals as goal
-use Rattle.estimate.proofs.fill_sheet.Goals.{After-out-1, After-row_y, At-loop-y, In-loop-y, Start}
 
 -- a node of a row holds the orders along y
 numbers : (g : Grid) → g.mz ≡ 1 → node_size g ≡ g.my
@@ -28,45 +24,27 @@ entries-high g ok = mul-le-mul ok.mx.1 ok.my.1
 step-high : (g : Grid) → Grids g → g.mx * g.my * g.cx ≤ 576
 step-high g ok = mul-le-mul (entries-high g ok) ok.x-high
 
-abbrev begun : At-loop-y → Start
-begun c = c.before.before.before
-
-abbrev entered : After-row_y → In-loop-y
-entered c = c.before.before
-
-abbrev turn : After-row_y → At-loop-y
-turn c = (entered c).before.before
-
-abbrev row-y-before : After-out-1 → After-row_y
-row-y-before c = c.before.before.before.before.before
-
 stored_at : {k n count y p q : ℕ} {f : ℕ → ℕ → ℤ} {old new : List ℤ} → p ≡ q → Stored k n f old count y p new
     → Stored k n f old count y q new
 stored_at e h = rw (← e) h
 
 pub fill_row-requires : goal.fill_row-requires
 fill_row-requires c =
-    let q = c.before.before.before in
-    let l = turn q in
-    let s = begun l in
-    let g = s.args.g in
-    let ok = s.requires.0 in
-    rw (← numbers g s.requires.1) (
-      (rows_in g ok.grid, stored-room l.loop-y.invariant.0 (entered q).loop-y-test.true (rw zero-add s.requires.3)),
-      row_seen ok l.loop-y.y 0 q.row_y.ensures
-          (rw (s.requires.1, one-mul g.cx) (let h = row-y-high g ok.grid in omega (arith, q.row_y.auto, l.loop-y.invariant.1))),
-    )
+    let g = c.args.g in
+    let ok = c.requires.0 in
+    rw (← numbers g c.requires.1) record {
+      rows = (rows_in g ok.grid, stored-room c.loop-y.invariant.0 c.loop-y-test.true (rw zero-add c.requires.3));
+      read = row_seen ok c.loop-y.y 0 c.row_y.ensures
+          (rw (c.requires.1, one-mul g.cx) (let h = row-y-high g ok.grid in omega (arith, c.row_y.auto, c.loop-y.invariant.1)));
+    }
 
 pub loop-y-preserved : goal.loop-y-preserved
 loop-y-preserved c =
-    let q = row-y-before c in
-    let l = turn q in
-    let s = begun l in
-    let g = s.args.g in (
-      stored_at (ap (λ (n : ℕ). l.loop-y.p + g.mx * n * g.cx) (numbers g s.requires.1))
-          (stored_more l.loop-y.invariant.0 (entered q).loop-y-test.true (rw (← numbers g s.requires.1) at c.fill_row.ensures)
-          (row_same g s.requires.0.grid _ (row_yz g s.args.xs.now l.loop-y.y 0) q.row_y.ensures)),
-      omega (arith, q.row_y.auto, l.loop-y.invariant.1),
+    let g = c.args.g in (
+      stored_at (ap (λ (n : ℕ). c.loop-y.p + g.mx * n * g.cx) (numbers g c.requires.1))
+          (stored_more c.loop-y.invariant.0 c.loop-y-test.true (rw (← numbers g c.requires.1) at c.fill_row.ensures)
+          (row_same g c.requires.0.grid _ (row_yz g c.args.xs.now c.loop-y.y 0) c.row_y.ensures)),
+      omega (arith, c.row_y.auto, c.loop-y.invariant.1),
     )
 
 pub returns : goal.returns
@@ -74,31 +52,31 @@ unfolding plane_of
 returns c = stored-all c.loop-y.invariant.0 c.loop-y-test.false
 
 pub overflow_mul-step : goal.overflow_mul-step
-overflow_mul-step c = let s = c.before in omega (arith, entries-high s.args.g s.requires.0.grid)
+overflow_mul-step c = omega (arith, entries-high c.args.g c.requires.0.grid)
 
 pub overflow_mul-step-2 : goal.overflow_mul-step-2
-overflow_mul-step-2 c = let s = c.before.before in omega (arith, step-high s.args.g s.requires.0.grid)
+overflow_mul-step-2 c = omega (arith, step-high c.args.g c.requires.0.grid)
 
 pub loop-y-init : goal.loop-y-init
 loop-y-init c = (stored-none, refl)
 
 pub row_y-requires : goal.row_y-requires
-row_y-requires c = let t = c.before in let l = t.before.before in let s = begun l in
-    (s.requires.0, t.loop-y-test.true, s.requires.1, s.requires.2, omega (arith, row-y-high s.args.g s.requires.0.grid, l.loop-y.invariant.1))
+row_y-requires c =
+    let s = c.requires in
+    (s.0, c.loop-y-test.true, s.1, s.2, omega (arith, row-y-high c.args.g s.0.grid, c.loop-y.invariant.1))
 
 pub overflow_add-p : goal.overflow_add-p
-overflow_add-p c = let q = row-y-before c in let s = begun (turn q) in
+overflow_add-p c =
     omega (
       arith,
-      rw (numbers s.args.g s.requires.1) at (stored-fits (turn q).loop-y.invariant.0 (entered q).loop-y-test.true (rw zero-add s.requires.3)),
-      s.good,
+      rw (numbers c.args.g c.requires.1) at (stored-fits c.loop-y.invariant.0 c.loop-y-test.true (rw zero-add c.requires.3)),
     )
 
 pub overflow_add-y : goal.overflow_add-y
 overflow_add-y c = omega arith
 
 pub loop-y-smaller : goal.loop-y-smaller
-loop-y-smaller c = less-left (entered (row-y-before c)).loop-y-test.true
+loop-y-smaller c = less-left c.loop-y-test.true
 
 pub shape_of-out : goal.shape_of-out
 shape_of-out c = stored-length c.loop-y.invariant.0

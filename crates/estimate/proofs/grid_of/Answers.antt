@@ -1,5 +1,4 @@
 -- `estimate::grid_of` meets its contract.
-use borrow.Author.Rules.{rules}
 use Rattle.lattice.specs.Shape.{count}
 use Rattle.estimate.specs.Passes.{grid_of}
 use Rattle.estimate.proofs.grid_of.Goals as goal

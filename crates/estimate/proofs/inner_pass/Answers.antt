@@ -1,36 +1,26 @@
 -- `estimate::inner_pass` meets its contract. The loop's invariant: the orders of the first t numbers are written.
-use mathlib.Core.Bool.{false}
-use Prim.Native.Nat.{◌-◌}
 use native.Mathlib.Omega.{arith}
 use Rattle.arith.specs.Choice.{pick}
-use Rattle.estimate.specs.Estimate.{by_order}
-use Rattle.estimate.specs.Passes.{since, lower, upper}
+use Rattle.estimate.specs.Passes.{lower, upper}
 use Rattle.estimate.proofs.PassesLaws.{read-value, read_small}
-use Rattle.estimate.proofs.PlacedLaws.{Stored, stored-none, stored-length, stored-all, stored-fits, stored-room, stored_more, less-left}
+use Rattle.estimate.proofs.PlacedLaws.{stored-none, stored-length, stored-all, stored-fits, stored-room, stored_more, less-left}
 use Rattle.estimate.proofs.inner_pass.Goals as goal
-use Rattle.estimate.proofs.inner_pass.Goals.{After-out-1, After-put_orders-arg-in-loop-t-3-1, At-loop-t, In-loop-t, Start}
-
-abbrev turn : After-out-1 → At-loop-t
-turn c = c.before.before.before.before.before.before.before
-
-abbrev in-turn : After-out-1 → In-loop-t
-in-turn c = c.before.before.before.before.before.before
-
-abbrev begun : After-put_orders-arg-in-loop-t-3-1 → Start
-begun c = c.before.before.before.before.before.before
 
 pub put_orders-requires : goal.put_orders-requires
 put_orders-requires c =
-    let s = begun c in
-    let h = c.loop-t-test.true in record { order_count = (s.requires.order_count.0, stored-room c.loop-t.invariant h s.requires.order_count.1); l_bound = (read_small s.requires.read.0 h, read_small s.requires.read.1 h, read_small s.requires.read.2 h) }
+    let h = c.loop-t-test.true in
+    let r = c.requires.read in
+    record {
+      order_count = (c.requires.order_count.0, stored-room c.loop-t.invariant h c.requires.order_count.1);
+      l_bound = (read_small r.0 h, read_small r.1 h, read_small r.2 h);
+    }
 
 pub loop-t-preserved : goal.loop-t-preserved
 unfolding lower upper pick
 loop-t-preserved c =
-    let s = begun c.before.before in
-    let h = (in-turn c).loop-t-test.true in
-    stored_more (turn c).loop-t.invariant h c.put_orders.ensures
-    (λ o i. rw (read-value s.requires.read.0 h, read-value s.requires.read.1 h, read-value s.requires.read.2 h))
+    let h = c.loop-t-test.true in
+    let r = c.requires.read in
+    stored_more c.loop-t.invariant h c.put_orders.ensures (λ o i. rw (read-value r.0 h, read-value r.1 h, read-value r.2 h))
 
 pub loop-t-init : goal.loop-t-init
 loop-t-init c = stored-none
@@ -63,19 +53,13 @@ pub bounds-xs-high : goal.bounds-xs-high
 bounds-xs-high c = omega arith
 
 pub overflow_add-p : goal.overflow_add-p
-overflow_add-p c = let s = begun c.before.before in
-    omega (
-      arith,
-      stored-fits (turn c).loop-t.invariant
-          (in-turn c).loop-t-test.true s.requires.order_count.1,
-      s.good,
-    )
+overflow_add-p c = omega (arith, stored-fits c.loop-t.invariant c.loop-t-test.true c.requires.order_count.1)
 
 pub overflow_add-t : goal.overflow_add-t
 overflow_add-t c = omega arith
 
 pub loop-t-smaller : goal.loop-t-smaller
-loop-t-smaller c = less-left (in-turn c).loop-t-test.true
+loop-t-smaller c = less-left c.loop-t-test.true
 
 pub shape_of-out : goal.shape_of-out
 shape_of-out c = stored-length c.loop-t.invariant

@@ -1,12 +1,9 @@
 -- `estimate::inner_pass` meets its contract. The loop's invariant: the orders of the first t numbers are written.
 use mathlib.Core.Bool.{false}
 use Prim.Native.Nat.{◌-◌}
-use native.Mathlib.Omega.{arith}
-use Rattle.arith.specs.Choice.{pick}
 use Rattle.estimate.specs.Estimate.{by_order}
 use Rattle.estimate.specs.Passes.{since, lower, upper}
-use Rattle.estimate.proofs.PassesLaws.{read-value, read_small}
-use Rattle.estimate.proofs.PlacedLaws.{Stored, stored-none, stored-length, stored-all, stored-fits, stored-room, stored_more, less-left}
+use Rattle.estimate.proofs.PlacedLaws.{Stored}
 use Rattle.estimate.proofs.inner_pass.Given as goal
 
 abbrev pub invariant-loop-t : goal.invariant-loop-t

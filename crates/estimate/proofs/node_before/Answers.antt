@@ -1,6 +1,5 @@
 -- `estimate::node_before` meets its contract.
 use native.Mathlib.Omega.{arith}
-use borrow.Author.Rules.{rules}
 use Rattle.estimate.proofs.PassesLaws.{before-is, before-none}
 use Rattle.estimate.proofs.node_before.Goals as goal
 

@@ -1,5 +1,4 @@
 -- `estimate::node_behind` meets its contract.
-use borrow.Author.Rules.{rules}
 use Rattle.estimate.proofs.PassesLaws.{behind-is, behind-none}
 use Rattle.estimate.proofs.node_behind.Goals as goal
 

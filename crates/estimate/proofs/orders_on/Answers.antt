@@ -1,7 +1,6 @@
 -- `estimate::orders_on` meets its contract, on a used axis and on an unused one.
 use mathlib.Core.Path.{sym, ◌∙◌}
 use native.Mathlib.Omega.{arith}
-use borrow.Author.Rules.{rules}
 use Rattle.estimate.proofs.EntryLaws.{orders-used, orders-unused}
 use Rattle.estimate.proofs.orders_on.Goals as goal
 

@@ -6,7 +6,6 @@ use Prim.Native.Nat.{ℕ, ◌≤◌, ◌+◌, ◌*◌}
 use native.Mathlib.Omega.{arith}
 use lib.IntN.{ℤ}
 use lib.ListN.{length}
-use borrow.Author.Rules.{rules}
 use Rattle.estimate.specs.Passes.{placed, since, pass_of, OrderCount}
 use Rattle.estimate.proofs.pass.Goals as goal
 use Rattle.estimate.proofs.pass.Goals.{Start}

@@ -8,7 +8,6 @@ use lib.ListN.{set, length-set}
 use lib.IntN.{ℤ, pos, nat_abs, ◌+ℤ◌, ◌-ℤ◌, ◌*ℤ◌}
 use mir.Syntax.{w32}
 use mir.Val.{SFits, to_z, of_z}
-use borrow.Author.Rules.{rules}
 use Rattle.arith.proofs.Machine.{Size, sizes, sized, s-mul, s-bits, fits?, value?}
 use Rattle.estimate.specs.Estimate.{by_order}
 use Rattle.estimate.specs.Passes.{pass_limit, placed}

@@ -3,7 +3,6 @@ use mathlib.Core.Path.{◌≡◌}
 use Prim.Native.Nat.{◌*◌}
 use native.Mathlib.Nat.{one-mul}
 use native.Mathlib.Omega.{arith}
-use borrow.Author.Rules.{rules}
 use Rattle.estimate.specs.declared.Grid.{Grid}
 use Rattle.estimate.proofs.RingLaws.{Three, plain-three, reads, made}
 use Rattle.estimate.proofs.row_y.Goals as goal
@@ -42,10 +41,10 @@ returns c =
 
 pub row_start-low-requires : goal.row_start-low-requires
 row_start-low-requires c = let s = c.before in (
-      s.requires.0.grid,
-      (let h = c.node_before.ensures.1 in let l = s.requires.1 in omega arith),
-      (let h = s.requires.3 in omega arith),
-    )
+  s.requires.0.grid,
+  (let h = c.node_before.ensures.1 in let l = s.requires.1 in omega arith),
+  (let h = s.requires.3 in omega arith),
+)
 
 pub row_start-mid-requires : goal.row_start-mid-requires
 row_start-mid-requires c = let s = c.before.before in (s.requires.0.grid, s.requires.1, (let h = s.requires.3 in omega arith))

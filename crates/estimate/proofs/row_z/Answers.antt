@@ -5,7 +5,6 @@ use mathlib.Core.Path.{◌≡◌, ◌∙◌}
 use Prim.Native.Nat.{ℕ, ◌*◌, ◌<◌}
 use native.Mathlib.Omega.{arith}
 use lib.IntN.{ℤ}
-use borrow.Author.Rules.{rules}
 use Rattle.estimate.specs.declared.Grid.{Grid}
 use Rattle.estimate.specs.Passes.{placed, since, before, behind, at_border, pass_of, orders_of_row, row_start, row_z, Read, Grids}
 use Rattle.estimate.proofs.PlacedLaws.{placed_same}
@@ -18,8 +17,11 @@ pass-requires c =
     let s = n.before.before.before.before in
     let a = s.args in
     let read : (k : ℕ) → k < a.g.cz → Read a.xs.now (row_start a.g a.y k) a.g.cx =
-    λ k l. row_read a.g a.xs.now a.y k s.requires.samples s.requires.y_lt_cy.0 l in record { order_count = (s.requires.samples.grid.mz, s.requires.y_lt_cy.2); read = rw (n.row_start-low.ensures, n.row_start-mid.ensures, c.row_start-high.ensures)
-          (read _ (omega arith), read _ s.requires.y_lt_cy.1, read _ n.node_behind.ensures.1) }
+    λ k l. row_read a.g a.xs.now a.y k s.requires.samples s.requires.y_lt_cy.0 l in record {
+      order_count = (s.requires.samples.grid.mz, s.requires.y_lt_cy.2);
+      read = rw (n.row_start-low.ensures, n.row_start-mid.ensures, c.row_start-high.ensures)
+          (read _ (omega arith), read _ s.requires.y_lt_cy.1, read _ n.node_behind.ensures.1);
+    }
 
 -- the pass gives the row
 made : {g : Grid} → Grids g → (xs b : List ℤ) (y z k : ℕ) {next : List ℤ} {border : Bool} {low mid high u v : ℕ}

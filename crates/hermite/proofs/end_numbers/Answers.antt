@@ -63,7 +63,7 @@ pub overflow_mul-d-2 : goal.overflow_mul-d-2
 overflow_mul-d-2 c = (solved-by c.before.before.before).px
 
 pub overflow_sub-d : goal.overflow_sub-d
-overflow_sub-d c = (solved-by c.before.before.before).d-1
+overflow_sub-d c = (solved-by c.before.before.before).d
 
 pub overflow_mul-result : goal.overflow_mul-result
 overflow_mul-result c = (solved-by c.before.before.before.before).zz

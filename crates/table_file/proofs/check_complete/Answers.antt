@@ -1,5 +1,4 @@
 -- `check_complete` meets its contract: one test.
-use borrow.Author.Rules.{rules}
 use Rattle.table_file.specs.File.{complete}
 use Rattle.table_file.proofs.check_complete.Goals as goal
 

@@ -7,13 +7,7 @@ use Rattle.lattice.specs.Outcome.{done, refuse_unless}
 use Rattle.lattice.proofs.OutcomeLaws.{refused-first}
 use Rattle.table_file.specs.File.{complete, count_outcome}
 use Rattle.table_file.proofs.ReadLaws.{complete-holds, count-tested}
-use borrow.Author.Rules.{rules}
 use Rattle.table_file.proofs.check_count.Goals as goal
-use Rattle.table_file.proofs.check_count.Goals.{In_default}
-
-whole : (d : In_default)
-    → complete d.args.bytes.now (2 + d.args.axis) ≡ done tt
-whole d = sym d.check_complete-whole.ensures ∙ ap outcome_of d.in_default.is
 
 pub returns-in-Refused : goal.returns-in-Refused
 unfolding count_outcome
@@ -22,11 +16,14 @@ returns-in-Refused c = let g = ap outcome_of c.in-Refused.is in g
 
 pub returns : goal.returns
 returns c =
-    let d = c.before.before.before in
-    let b = d.before.before.before in
-    c.refuse_unless.ensures ∙ ap (λ t. refuse_unless t 3 b.args.axis) c.count_allowed.ensures
-    ∙ count-tested b.args.bytes.now b.args.axes b.args.axis _ b.requires.0 b.requires.1 c.number_at.ensures
-    (whole d)
+    let a = c.args in
+    let whole : complete a.bytes.now (2 + c.args.axis) ≡ done tt = sym c.check_complete-whole.ensures ∙ ap outcome_of c.in_default.is in
+    c.refuse_unless.ensures ∙ ap (λ t. refuse_unless t 3 a.axis) c.count_allowed.ensures
+    ∙ count-tested a.bytes.now a.axes a.axis _ c.requires.0 c.requires.1 c.number_at.ensures
+    whole
 
 pub number_at-requires : goal.number_at-requires
-number_at-requires c = omega (arith, complete-holds _ _ (whole c))
+number_at-requires c =
+    let a = c.args in
+    let whole : complete a.bytes.now (2 + c.args.axis) ≡ done tt = sym c.check_complete-whole.ensures ∙ ap outcome_of c.in_default.is in
+    omega (arith, complete-holds _ _ whole)

@@ -1,17 +1,10 @@
 -- `check_samples` meets its contract. The invariant: no sample below i is beyond its limit.
-use mathlib.Core.List.{List}
-use mathlib.Core.Path.{◌≡◌, refl, sym, ap, ◌∙◌}
+use mathlib.Core.Path.{◌≡◌}
 use Prim.Native.Nat.{◌≤◌, ◌-◌}
-use native.Mathlib.Omega.{arith}
-use lib.IntN.{ℤ, nat_abs}
-use Rattle.arith.proofs.Machine.{widen-fits, widened}
-use Rattle.lattice.specs.Buffer.{at}
 use Rattle.lattice.specs.Outcome.{done, first_of}
 use Rattle.lattice.specs.Records.{sample_limit}
-use Rattle.lattice.proofs.RecordsLaws.{limit_test, limit-stops, limit-more, limit-ends}
+use Rattle.lattice.proofs.RecordsLaws.{limit_test}
 use Rattle.table_file.specs.Parser.{samples_from}
-use Rattle.table_file.proofs.ReadLaws.{length-samples, sample-is}
-use borrow.Author.Rules.{rules}
 use Rattle.table_file.proofs.check_samples.Given as goal
 
 abbrev pub invariant-loop-i : goal.invariant-loop-i

@@ -10,7 +10,6 @@ use Rattle.lattice.proofs.ShapeLaws.{shaped}
 use Rattle.lattice.proofs.StepLaws.{full-shape}
 use Rattle.table_file.specs.File.{header}
 use Rattle.table_file.proofs.WriteLaws.{write-is, AfterShape, after-shape}
-use borrow.Author.Rules.{rules}
 use Rattle.table_file.proofs.check_write.Goals as goal
 use Rattle.table_file.proofs.check_write.Goals.{After-three_numbers-three, In_default}
 

@@ -2,7 +2,6 @@
 use mathlib.Core.Path.{sym, ◌∙◌}
 use native.Mathlib.Omega.{arith}
 use Rattle.table_file.proofs.ReadLaws.{count-read, count-absent}
-use borrow.Author.Rules.{rules}
 use Rattle.table_file.proofs.count_in.Goals as goal
 
 pub returns-then-axis-axes : goal.returns-then-axis-axes

@@ -1,22 +1,13 @@
 -- `fill` meets its contract. The invariant: the front of the slice holds the samples below i.
-use mathlib.Core.List.{List}
 use mathlib.Core.Path.{◌≡◌, subst, ◌∙◌}
-use Prim.Native.Nat.{ℕ, ◌≤◌, ◌+◌, ◌-◌}
+use Prim.Native.Nat.{ℕ}
 use native.Mathlib.Omega.{arith}
-use lib.IntN.{ℤ, pos}
-use lib.ListN.{length}
+use lib.IntN.{pos}
 use Rattle.arith.proofs.Machine.{element}
 use Rattle.lattice.proofs.BufferLaws.{Filled, filled_none, filled_more, filled-length, filled-all}
-use Rattle.table_file.specs.Numbers.{signed_of}
-use Rattle.table_file.specs.File.{file_number}
 use Rattle.table_file.specs.Parser.{samples_from}
 use Rattle.table_file.proofs.fill.Invariants.{sample}
 use Rattle.table_file.proofs.fill.Goals as goal
-use Rattle.table_file.proofs.fill.Goals.{At-loop-i}
-
-same : (l : At-loop-i) → length l.loop-i.samples ≡ length l.args.samples.now
-same l = filled-length (sample l.args.bytes.now l.args.start) _ l.loop-i.i l.loop-i.samples
-    (omega arith) l.loop-i.invariant.1
 
 pub loop-i-preserved : goal.loop-i-preserved
 loop-i-preserved c =
@@ -49,7 +40,10 @@ pub offset_bounds-samples-i : goal.offset_bounds-samples-i
 offset_bounds-samples-i c = omega arith
 
 pub bounds-samples-i : goal.bounds-samples-i
-bounds-samples-i c = omega (arith, same c.before.before)
+bounds-samples-i c =
+    let a = c.args in
+    let l = c.loop-i in
+    omega (arith, filled-length (sample a.bytes.now a.start) a.samples.now l.i l.samples (omega arith) l.invariant.1)
 
 pub overflow_add-i : goal.overflow_add-i
 overflow_add-i c = omega arith
@@ -58,4 +52,7 @@ pub loop-i-smaller : goal.loop-i-smaller
 loop-i-smaller c = omega arith
 
 pub shape_of-samples : goal.shape_of-samples
-shape_of-samples c = same c.before
+shape_of-samples c =
+    let a = c.args in
+    let l = c.loop-i in
+    filled-length (sample a.bytes.now a.start) a.samples.now l.i l.samples (omega arith) l.invariant.1

@@ -1,15 +1,10 @@
 -- `fill` meets its contract. The invariant: the front of the slice holds the samples below i.
 use mathlib.Core.List.{List}
-use mathlib.Core.Path.{◌≡◌, subst, ◌∙◌}
 use Prim.Native.Nat.{ℕ, ◌≤◌, ◌+◌, ◌-◌}
-use native.Mathlib.Omega.{arith}
-use lib.IntN.{ℤ, pos}
-use lib.ListN.{length}
-use Rattle.arith.proofs.Machine.{element}
-use Rattle.lattice.proofs.BufferLaws.{Filled, filled_none, filled_more, filled-length, filled-all}
+use lib.IntN.{ℤ}
+use Rattle.lattice.proofs.BufferLaws.{Filled}
 use Rattle.table_file.specs.Numbers.{signed_of}
 use Rattle.table_file.specs.File.{file_number}
-use Rattle.table_file.specs.Parser.{samples_from}
 use Rattle.table_file.proofs.fill.Given as goal
 
 abbrev pub sample : List ℕ → ℕ → ℕ → ℤ

@@ -3,7 +3,6 @@ use Rattle.table_file.proofs.NumberLaws.{stores-are}
 use Prim.Native.Nat.{◌*◌}
 use native.Mathlib.Omega.{arith}
 use lib.ListN.{length-set}
-use borrow.Author.Rules.{rules}
 use Rattle.table_file.proofs.put_number.Goals as goal
 
 pub bounds-bytes-at-2 : goal.bounds-bytes-at-2

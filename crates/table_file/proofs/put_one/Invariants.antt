@@ -1,13 +1,9 @@
 -- `put_one` meets its contract. The invariant: the first a counts stand after n.
-use mathlib.Core.Path.{◌≡◌, refl, ◌∙◌}
-use Prim.Native.Nat.{◌≤◌, ◌+◌, ◌-◌, ◌*◌}
-use native.Mathlib.Omega.{arith}
+use mathlib.Core.Path.{◌≡◌}
+use Prim.Native.Nat.{◌≤◌, ◌-◌}
 use lib.ListN.{length, take}
 use lib.Seq.{sets}
 use Rattle.table_file.specs.Numbers.{bytes_of_all}
-use Rattle.table_file.specs.File.{section_one}
-use Rattle.table_file.proofs.WriteLaws.{put_first, put_next}
-use borrow.Author.Rules.{rules}
 use Rattle.table_file.proofs.put_one.Given as goal
 
 abbrev pub invariant-loop-a : goal.invariant-loop-a

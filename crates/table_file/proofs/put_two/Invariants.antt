@@ -1,17 +1,11 @@
 -- `put_two` meets its contract. The invariant: the first i samples stand after their number.
 use mathlib.Core.List.{map}
-use mathlib.Core.Path.{◌≡◌, refl, sym, ap, ◌∙◌}
+use mathlib.Core.Path.{◌≡◌}
 use Prim.Native.Nat.{◌≤◌, ◌+◌, ◌-◌, ◌*◌}
-use native.Mathlib.Omega.{arith}
-use lib.ListN.{length, take, length-map}
-use lib.Seq.{sets, take_all}
+use lib.ListN.{length, take}
+use lib.Seq.{sets}
 use Rattle.arith.specs.Int.{unsigned_of}
-use Rattle.arith.proofs.Machine.{element}
-use Rattle.lattice.specs.Buffer.{at}
 use Rattle.table_file.specs.Numbers.{bytes_of_all}
-use Rattle.table_file.specs.File.{section_two}
-use Rattle.table_file.proofs.WriteLaws.{put_first, put_next, sample-number}
-use borrow.Author.Rules.{rules}
 use Rattle.table_file.proofs.put_two.Given as goal
 
 abbrev pub invariant-loop-i : goal.invariant-loop-i

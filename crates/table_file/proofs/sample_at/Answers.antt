@@ -1,6 +1,5 @@
 -- `sample_at` meets its contract, from those of `number_at` and `signed`.
 use mathlib.Core.Path.{ap, ◌∙◌}
-use borrow.Author.Rules.{rules}
 use Rattle.arith.proofs.Machine.{element}
 use Rattle.table_file.specs.Numbers.{signed_of}
 use Rattle.table_file.proofs.sample_at.Goals as goal

@@ -1,7 +1,6 @@
 -- `shape_in` meets its contract: n and the three node counts.
 use mathlib.Core.Path.{refl, ◌∙◌}
 use native.Mathlib.Omega.{arith}
-use borrow.Author.Rules.{rules}
 use Rattle.table_file.proofs.ReadLaws.{one-sizes, shape_is}
 use Rattle.table_file.proofs.shape_in.Goals as goal
 

@@ -3,7 +3,6 @@ use Rattle.table_file.proofs.Twos.{signed_is, signed-fits, high_fits, high_held}
 use mir.Facts.{to_z-of_z}
 use native.Mathlib.Omega.{arith}
 use mir.Syntax.{w32}
-use borrow.Author.Rules.{rules}
 use Rattle.table_file.proofs.signed.Goals as goal
 
 pub overflow_cast-result-else-v-lt2147483648-2 : goal.overflow_cast-result-else-v-lt2147483648-2

@@ -1,11 +1,11 @@
 -- `put_bytes` meets its contract. The invariant: the first i bytes stand from `at` on.
 use mathlib.Core.List.{List}
-use lib.Seq.{sets, take-length}
+use lib.Seq.{take-length}
 use Rattle.lattice.proofs.BufferLaws.{sets-next}
 use mathlib.Core.Path.{◌≡◌, refl, ap, ◌∙◌}
-use Prim.Native.Nat.{ℕ, ◌≤◌, ◌+◌, ◌-◌}
+use Prim.Native.Nat.{ℕ, ◌+◌}
 use native.Mathlib.Omega.{arith}
-use lib.ListN.{take, length, get_or, set, length-set}
+use lib.ListN.{length, get_or, set, length-set}
 use Rattle.text.proofs.put_bytes.Goals as goal
 
 pub loop-i-preserved : goal.loop-i-preserved

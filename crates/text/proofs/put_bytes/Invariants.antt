@@ -1,11 +1,8 @@
 -- `put_bytes` meets its contract. The invariant: the first i bytes stand from `at` on.
-use mathlib.Core.List.{List}
-use lib.Seq.{sets, take-length}
-use Rattle.lattice.proofs.BufferLaws.{sets-next}
-use mathlib.Core.Path.{◌≡◌, refl, ap, ◌∙◌}
-use Prim.Native.Nat.{ℕ, ◌≤◌, ◌+◌, ◌-◌}
-use native.Mathlib.Omega.{arith}
-use lib.ListN.{take, length, get_or, set, length-set}
+use lib.Seq.{sets}
+use mathlib.Core.Path.{◌≡◌}
+use Prim.Native.Nat.{◌≤◌, ◌-◌}
+use lib.ListN.{take, length}
 use Rattle.text.proofs.put_bytes.Given as goal
 
 abbrev pub invariant-loop-i : goal.invariant-loop-i

@@ -1,0 +1,25 @@
+-- `cell::all_within` meets its contract: no record of a row before the one at hand has an entry beyond its limit.
+use mathlib.Core.Path.{◌≡◌, refl, sym, ap, ap₂, subst, ◌∙◌}
+use mathlib.Core.List.{List}
+use Prim.Native.Nat.{ℕ, ◌≤◌, ◌+◌, ◌*◌, ◌-◌}
+use native.Mathlib.Omega.{arith}
+use borrow.Author.Tests.{eq-eqb, ne_eqb}
+use lib.Dec.{eqb}
+use lib.IntN.{ℤ}
+use lib.ListN.{length}
+use Rattle.lattice.specs.Outcome.{Check, done, first, first_of, passed}
+use Rattle.lattice.proofs.OutcomeLaws.{passed-done, first_of-fails, first_of-more, first_of-pairs}
+use Rattle.cell.specs.declared.Layout.{Layout}
+use Rattle.cell.specs.Cell.{start_of, limit_in, record_outcome}
+use Rattle.cell.proofs.LayoutLaws.{corner_test, neighbour}
+use Rattle.cell.proofs.all_within.Given as goal
+
+-- the limit tests of the two records of a row
+abbrev pub row_test : List ℤ → ℕ → List ℤ → Layout → ℕ → Check
+row_test limits n rs l r = first (corner_test limits n rs l (2 * r)) (corner_test limits n rs l (2 * r + 1))
+
+abbrev pub invariant-loop-row : goal.invariant-loop-row
+invariant-loop-row q = (q.row ≤ q.rows) × (first_of q.row (row_test q.limits q.n q.records q.l) ≡ done tt)
+
+abbrev pub decreases-loop-row : goal.decreases-loop-row
+decreases-loop-row q = q.rows - q.row

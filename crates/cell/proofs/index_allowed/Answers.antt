@@ -1,0 +1,6 @@
+-- `cell::index_allowed` meets its contract: the tests of a used and of an unused axis.
+use borrow.Author.Rules.{rules}
+use Rattle.cell.proofs.index_allowed.Goals as goal
+
+pub returns : goal.returns
+returns c = c.by_use.ensures

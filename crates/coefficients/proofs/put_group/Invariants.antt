@@ -1,0 +1,16 @@
+-- `coefficients::put_group` meets its contract: the numbers are scattered to their rows.
+use mathlib.Core.Path.{◌≡◌, refl, ap, ◌∙◌}
+use Prim.Native.Nat.{ℕ, ◌≤◌, ◌<◌, ◌+◌, ◌-◌, ◌*◌, zero-le}
+use native.Mathlib.Omega.{arith}
+use Rattle.arith.proofs.Machine.{read}
+use Rattle.lattice.specs.Buffer.{at}
+use Rattle.lattice.proofs.DigitsLaws.{pair-in}
+use Rattle.coefficients.specs.Blocks.{scatter}
+use Rattle.coefficients.proofs.SpotLaws.{scatter-more}
+use Rattle.coefficients.proofs.put_group.Given as goal
+
+abbrev pub invariant-loop-k : goal.invariant-loop-k
+invariant-loop-k l = (l.k ≤ l.m) × (l.zs ≡ scatter l.k (λ j. l.r * j + l.g) (at l.z) l.initial.zs)
+
+abbrev pub decreases-loop-k : goal.decreases-loop-k
+decreases-loop-k l = l.m - l.k
