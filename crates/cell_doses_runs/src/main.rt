@@ -2,9 +2,8 @@
 #![tactic(auto)]
 
 use std::env::FillError;
-use std::io;
 use std::rt::{Env, Files};
-use std::{fs, str};
+use std::{fs, io, str};
 
 // A file that cannot be opened has a line on standard error.
 fn run<R: Files + Print + Eprint>(rt: &R, path: &[u8]) -> io::Result<()> {
