@@ -9,12 +9,11 @@ use Rattle.lattice.proofs.ShapeLaws.{axes-range}
 use Rattle.corners.specs.Corners.{numbers_outcome}
 use mathlib.Core.Path.{◌≡◌, sym, ap, ap₂, ◌∙◌}
 use Prim.Native.Nat.{ℕ}
-use borrow.Author.Rules.{rules}
-use Rattle.corners.proofs.check_numbers.Statement.{statement}
-use Rattle.corners.proofs.check_numbers.Tie as tie
+use Rattle.corners.proofs.check_numbers.Goals as goal
+use Rattle.corners.proofs.check_numbers.Goals.{After-check_lengths, After-earlier-kind, In_default, Start}
 
-abbrev begun : tie.After-check-lengths → tie.Start
-begun c = c.before.before.before.before.before.before
+abbrev begun : After-check_lengths → Start
+begun c = c.before.before.before.before.before
 
 -- 15 and 9 after 1 and 2
 lengths_of : ℕ → ℕ → ℕ → ℕ → Check
@@ -28,48 +27,32 @@ unfolding numbers_outcome lengths_of
 regroup n degree given room = sym (first-assoc (axes_outcome n) (degree_outcome degree) (lengths_of n degree given room))
 
 -- 1 and 2
-kind-is : (c : tie.After-earlier)
-    → outcome_of c.earlier.result ≡ first (axes_outcome c.before.before.before.args.axes)
-    (degree_outcome c.before.before.before.args.degree)
-kind-is c = c.earlier.ensures ∙ ap₂ first c.before.before.check-axes.ensures c.before.check-degree.ensures
+kind-is : (c : After-earlier-kind)
+    → outcome_of c.earlier-kind.result ≡ first (axes_outcome c.args.axes)
+    (degree_outcome c.args.degree)
+kind-is c = c.earlier-kind.ensures ∙ ap₂ first c.check_axes.ensures c.check_degree.ensures
 
-kind-done : (c : tie.After-enum-told2)
-    → first (axes_outcome c.before.before.before.before.before.args.axes)
-    (degree_outcome c.before.before.before.before.before.args.degree) ≡ done tt
-kind-done c = sym (kind-is c.before.before) ∙ ap outcome_of c.enum-told2.given.1
+kind-done : (c : In_default)
+    → first (axes_outcome c.args.axes)
+    (degree_outcome c.args.degree) ≡ done tt
+kind-done c = sym (kind-is c.before) ∙ ap outcome_of c.in_default.is
 
-enum_told : tie.Need-enum-told
-enum_told c = search rules
-
-returns : tie.Need-returns
-returns c =
-    let a = c.before.before.before.before.before.args in
-    let e = ap outcome_of c.enum_told.given.1 in
+pub returns-in-Refused : goal.returns-in-Refused
+returns-in-Refused c =
+    let a = c.args in
+    let e = ap outcome_of c.in-Refused.is in
     e ∙ sym (regroup a.axes a.degree a.given a.room
-    ∙ refused-first (lengths_of a.axes a.degree a.given a.room) (sym (kind-is c.before.before) ∙ e))
+    ∙ refused-first (lengths_of a.axes a.degree a.given a.room) (sym (kind-is c.before) ∙ e))
 
-check-lengths-requires : tie.Need-check-lengths-requires
-check-lengths-requires c κs = let s = c.before.before.before.before.before in
+pub check_lengths-requires : goal.check_lengths-requires
+check_lengths-requires c = let s = c in
     axes-range s.args.axes (first_done (axes_outcome s.args.axes) (degree_outcome s.args.degree) tt (kind-done c)).0
 
-returns-2 : tie.Need-returns-2
+pub returns : goal.returns
 unfolding lengths_of
-returns-2 c =
+returns c =
     let a = (begun c).args in
-    c.check-lengths.ensures
+    c.check_lengths.ensures
     ∙ sym (regroup a.axes a.degree a.given a.room
     ∙ first-passed (first (axes_outcome a.axes) (degree_outcome a.degree)) (lengths_of a.axes a.degree a.given a.room)
     (kind-done c.before))
-
-pub check-numbers-spec : {M : Type 1} → statement M
-check-numbers-spec =
-    tie.close
-    (tie.spec
-    (λ c κs. search rules)
-    (λ c κs. search rules)
-    (λ c κs. search rules)
-    enum_told
-    returns
-    (λ c. search rules)
-    check-lengths-requires
-    returns-2)

@@ -11,9 +11,7 @@ use Prim.Native.Nat.{ℕ, ◌≤◌, ◌<◌, ◌^◌, ◌*◌, ◌/◌, ◌%◌
 use lib.IntN.{ℤ, nat_abs}
 use mir.Syntax.{w64}
 use mir.Val.{SFits, to_z, of_z}
-use borrow.Author.Rules.{rules}
-use Rattle.corners.proofs.whole_within.Statement.{statement}
-use Rattle.corners.proofs.whole_within.Tie as tie
+use Rattle.corners.proofs.whole_within.Goals as goal
 
 -- the divisor of the code
 some : (n : ℕ) → n ≤ 3 → 0 < 1 * 2 ^ n % 18446744073709551616
@@ -30,17 +28,18 @@ module _ (n limit size : ℕ) (z : ℤ) (h : n ≤ 3) (fit : SFits w64 z) (is : 
   rest = rw (shifted n h, size_is)
       (λ e. ne_eqb (nat_abs z % 2 ^ n) 0 e ∙ sym (ap (λ (t : Bool). t && leb (nat_abs z / 2 ^ n) limit) (ne_eqb (nat_abs z % 2 ^ n) 0 e)))
 
-returns : tie.Need-returns
-returns c = let s = c.before.before in
-    no-rest s.args.n s.args.limit c.before.magnitude.result s.args.z s.requires s.ranges.z c.before.magnitude.ensures
-    c.if1.true
+pub returns-then-size-d-eq0 : goal.returns-then-size-d-eq0
+returns-then-size-d-eq0 c = let s = c in
+    no-rest s.args.n s.args.limit c.magnitude-size.result s.args.z s.requires s.ranges.z c.magnitude-size.ensures
+    c.if-size-d-eq0.true
 
-returns-2 : tie.Need-returns-2
-returns-2 c = let s = c.before.before in
-    rest s.args.n s.args.limit c.before.magnitude.result s.args.z s.requires s.ranges.z c.before.magnitude.ensures
-    c.if1.false
+pub returns-else-size-d-eq0 : goal.returns-else-size-d-eq0
+returns-else-size-d-eq0 c = let s = c in
+    rest s.args.n s.args.limit c.magnitude-size.result s.args.z s.requires s.ranges.z c.magnitude-size.ensures
+    c.if-size-d-eq0.false
 
-pub whole-within-spec : {M : Type 1} → statement M
-whole-within-spec =
-    tie.close (tie.spec (λ c κs. search rules) (λ c. search rules) (λ c. some c.before.args.n c.before.requires)
-    (λ c. some c.before.before.args.n c.before.before.requires) returns returns-2)
+pub nonzero_rem-size : goal.nonzero_rem-size
+nonzero_rem-size c = some c.args.n c.requires
+
+pub nonzero_div-result : goal.nonzero_div-result
+nonzero_div-result c = some c.args.n c.requires

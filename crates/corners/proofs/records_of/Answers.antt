@@ -12,12 +12,11 @@ use Rattle.corners.specs.Corners.{possible_outcome}
 use Rattle.coefficients.specs.Blocks.{Sizes}
 use Rattle.coefficients.proofs.BlockLaws.{sizes}
 use Rattle.corners.specs.Back.{entry_of}
-use borrow.Author.Rules.{rules}
-use Rattle.corners.proofs.records_of.Statement.{statement}
-use Rattle.corners.proofs.records_of.Tie as tie
+use Rattle.corners.proofs.records_of.Goals as goal
+use Rattle.corners.proofs.records_of.Goals.{Start}
 
 -- by the number of orders
-module _ (s : tie.Start) (m : ℕ) (e : s.args.m ≡ m) where
+module _ (s : Start) (m : ℕ) (e : s.args.m ≡ m) where
   -- what the call asks for
   asked : (r : ℕ) → r ≡ m ^ (s.args.n - 1)
       → Sizes m s.args.n r × (length s.args.cs.now ≡ coefficient_count m s.args.n) × (length s.args.out.now ≡ 216)
@@ -36,24 +35,18 @@ module _ (s : tie.Start) (m : ℕ) (e : s.args.m ≡ m) where
   gives : (r : Check) (xs : List ℤ) → Gives r xs m → Gives r xs s.args.m
   gives r xs = subst (Gives r xs) (sym e)
 
-corner-records-requires : tie.Need-corner-records-requires
-corner-records-requires c κs = asked c.before.before.before 2 (omega arith) c.before.power.result c.before.power.ensures
+pub corner_records-requires : goal.corner_records-requires
+corner_records-requires c = asked c.before.before.before 2 (omega arith) c.power.result c.power.ensures
 
-returns : tie.Need-returns
+pub returns-then-m-eq2 : goal.returns-then-m-eq2
+returns-then-m-eq2 c =
+    let g = c.corner_records in let both = gives c.before.before.before.before 2 (omega arith) _ g.new.out (g.ensures.result_value, g.ensures.i_after) in
+    record { result_value = both.0; i_after = both.1 }
+
+pub corner_records-requires-2 : goal.corner_records-requires-2
+corner_records-requires-2 c = asked c.before.before.before 3 (omega arith) c.power-2.result c.power-2.ensures
+
+pub returns : goal.returns
 returns c =
-    let g = c.corner-records in
-    gives c.before.before.before.before 2 (omega arith) _ g.new.1.1.1.1.0 g.ensures
-
-corner-records-requires-2 : tie.Need-corner-records-requires-2
-corner-records-requires-2 c κs = asked c.before.before.before 3 (omega arith) c.before.power2.result c.before.power2.ensures
-
-returns-2 : tie.Need-returns-2
-returns-2 c =
-    let g = c.corner-records2 in
-    gives c.before.before.before.before 3 (omega arith) _ g.new.1.1.1.1.0 g.ensures
-
-pub records-of-spec : {M : Type 1} → statement M
-records-of-spec =
-    tie.close
-    (tie.spec (λ c. search rules) (λ c κs. search rules) corner-records-requires returns (λ c. search rules)
-    (λ c κs. search rules) corner-records-requires-2 returns-2)
+    let g = c.corner_records-2 in let both = gives c.before.before.before.before 3 (omega arith) _ g.new.out (g.ensures.result_value, g.ensures.i_after) in
+    record { result_value = both.0; i_after = both.1 }
