@@ -22,7 +22,7 @@ use Rattle.cell.specs.Cell.{place_at, corner_place, corners_outcome, Accepted}
 use Rattle.cell.specs.Coefficients.{coefficient_count}
 use Rattle.cell.specs.Corners.{corner_numbers, corner_records, one_cell}
 use Rattle.cell.proofs.CornerRecords.{records-length, records-at, corner-permitted, corners-accepted}
-use Rattle.cell.proofs.OneCell.{only_cell, only-cell, one-shape, one-shaped, one_size, one_cell, one-accepted, one_entry}
+use Rattle.cell.proofs.OneCell.{only_cell, only-cell, one-shape, one-shaped, one_size, one-within, one-accepted, one_entry}
 use Rattle.coefficients.specs.Coefficients.{coefficient_list, request_outcome, coefficients_outcome}
 use Rattle.coefficients.proofs.TableCell.{list_length, list_same}
 use Rattle.coefficients.proofs.CallLaws.{Asked, asked}
@@ -154,7 +154,7 @@ module _ (n degree : ℕ) (cs : List ℤ) (room : ℕ) (passed : back_outcome n 
             (passes (eqb (length records) (size s)) 4 0 (eq-eqb (length records) (size s) many))
             ∙ first-passed (refuse_unless (leb (coefficient_count (orders_of degree) n) room') 9 0) _
             (passes (leb (coefficient_count (orders_of degree) n) room') 9 0 (le-leb (coefficient_count (orders_of degree) n) room' fits))
-            ∙ one_cell n degree range-axes.0 range-axes.1
+            ∙ one-within n degree range-axes.0 range-axes.1
 
     pub forward-of-written : (room' : ℕ) → coefficient_count (orders_of degree) n ≤ room' → Forward room' (place_at only_cell)
     forward-of-written room' fits = subst (Forward room') (sym only-cell) (forward-of-records room' fits)

@@ -172,15 +172,15 @@ add-part h l w ds k =
 
 -- ---- the digits that are read
 
-is_digit : (b : ℕ) → is_digit b ≡ true → Digit b
+digit_of : (b : ℕ) → is_digit b ≡ true → Digit b
 unfolding is_digit
-is_digit b e = let h = both (leb 48 b) (leb b 57) e in (leb-true 48 b h.0, leb-true b 57 h.1)
+digit_of b e = let h = both (leb 48 b) (leb b 57) e in (leb-true 48 b h.0, leb-true b 57 h.1)
 
 pub digits_are : (l : List ℕ) → Digits (leading is_digit l)
 unfolding leading
 digits_are [] = no-digits
 digits_are (b ∷ bs) =
-    on-pick Digits (is_digit b) (b ∷ leading is_digit bs) [] (λ e. digit (is_digit b e) (digits_are bs)) (λ _. no-digits)
+    on-pick Digits (is_digit b) (b ∷ leading is_digit bs) [] (λ e. digit (digit_of b e) (digits_are bs)) (λ _. no-digits)
 
 -- a number whose digits are all taken
 pub read_all : (ds : List ℕ) → (add_digits (sum 0 (length ds) true) ds).value ≡ capped (decimal ds)

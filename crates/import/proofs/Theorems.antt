@@ -2,7 +2,7 @@
 use mathlib.Core.Path.{◌≡◌, refl, sym, ap, subst, ◌∙◌}
 use mathlib.Core.Bool.{Bool, true, false, ◌||◌, or-true}
 use mathlib.Core.List.{List}
-use mathlib.Core.Logic.{◌⊎◌, ⊎_elim}
+use mathlib.Core.Logic.{⊎_elim}
 use Prim.Native.Nat.{ℕ, zero, suc, ◌+◌, ◌-◌, ◌*◌, ◌/◌, ◌%◌, ◌^◌, ◌<◌}
 use native.Mathlib.Nat.{div-add-mod', mul-div_cancel, mul-mod_left, mul_assoc, mul-one, mul-div-mul_right, mul-add-mod_self_right, mod-eq_of_lt, mod-lt, mul-lt-mul_of_pos_right, eq-or-lt_of_le}
 use native.Mathlib.Omega.{arith}

@@ -138,10 +138,10 @@ fn after_digits(bytes: &[u8]) -> &[u8]
 fn fits_exp(part: &[u8]) -> bool
     ensures { result ≡ fits_exp part.now }
 {
-    if !leads_with(part, b'e', b'e') {
+    if !leads_with(part, b'e', b'E') {
         return part.len() == 0;
     }
-    let number = skipped(skipped(part, b'e', b'e'), b'+', b'-');
+    let number = skipped(skipped(part, b'e', b'E'), b'+', b'-');
     if digits_of(number).len() == 0 {
         return false;
     }
@@ -259,7 +259,7 @@ fn digits_kept(whole: usize, part: &[u8]) -> usize
     requires { whole ≤ 64 }
     ensures { result ≡ kept_of whole part.now }
 {
-    let signed = skipped(part, b'e', b'e');
+    let signed = skipped(part, b'e', b'E');
     let number = digits_of(skipped(signed, b'+', b'-'));
     let none = Sum {
         value: 0,

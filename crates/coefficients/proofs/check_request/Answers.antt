@@ -11,7 +11,6 @@ use Rattle.lattice.proofs.ShapeLaws.{shaped}
 use Rattle.lattice.proofs.StepLaws.{full-shape}
 use Rattle.coefficients.specs.Coefficients.{request_outcome}
 use mathlib.Core.Path.{sym, ap, ap₂, ◌∙◌}
-use borrow.Author.Rules.{rules}
 use Rattle.coefficients.proofs.check_request.Goals as goal
 
 pub returns-in-Refused : goal.returns-in-Refused

@@ -3,7 +3,6 @@ use lib.Dec.{leb, eqb}
 use Rattle.lattice.specs.Outcome.{refuse_unless, first}
 use mathlib.Core.Path.{ap, ap₂, ◌∙◌}
 use Prim.Native.Nat.{ℕ}
-use borrow.Author.Rules.{rules}
 use Rattle.coefficients.proofs.check_sizes.Goals as goal
 
 pub returns : goal.returns

@@ -4,7 +4,6 @@ use Prim.Native.Nat.{ℕ, ◌≤◌, ◌^◌, ◌*◌}
 use native.Mathlib.Omega.{arith}
 use lib.Dec.{lit<}
 use Rattle.lattice.proofs.ShapeLaws.{orders-range, pow-range}
-use borrow.Author.Rules.{rules}
 use Rattle.coefficients.proofs.coefficient_count.Goals as goal
 use Rattle.coefficients.proofs.coefficient_count.Goals.{After-orders}
 

@@ -20,7 +20,6 @@ use Rattle.coefficients.specs.Blocks.{cell_coefficient, Filled, Gathered}
 use Rattle.coefficients.proofs.SpotLaws.{filled-all}
 use Rattle.coefficients.proofs.TableCell.{corners-gathered}
 use Rattle.coefficients.proofs.CallLaws.{Asked, asked, list-is}
-use borrow.Author.Rules.{rules}
 use Rattle.coefficients.proofs.coefficients.Goals as goal
 use Rattle.coefficients.proofs.coefficients.Goals.{In_default, In_default-tested, Start}
 
@@ -124,7 +123,9 @@ returns c =
     let a = s.args in
     let f = facts d in
     let l = t.layout_of-l in
-    let h = outcome d ∙ tested t in record { result_value = ap outcome_of t.in_default-tested.is ∙ sym h; out_after = c.copy_out.ensures
+    let h = outcome d ∙ tested t in record {
+      result_value = ap outcome_of t.in_default-tested.is ∙ sym h;
+      out_after = c.copy_out.ensures
           ∙ ap (λ (k : ℕ). overwrite (tabulate k (at x.filled-xs.result)) a.out.now) n.coefficient_count.ensures.0
           ∙ ap (λ (ys : List ℤ). overwrite ys a.out.now)
           (list-is a.t.shape f.shape (place_at a.cell) f.here a.records.now f.many l.result l.ensures
@@ -135,10 +136,11 @@ returns c =
           (subst (λ (k : ℕ). Filled l.result.orders a.t.shape.axes
           (cell_coefficient l.result.orders a.t.shape.axes l.result a.records.now)
           k x.filled-xs.result) x.power.ensures x.filled-xs.ensures)))
-          ∙ when-done (written s) a.out.now h }
+          ∙ when-done (written s) a.out.now h;
+    }
 
 pub layout_of-l-requires : goal.layout_of-l-requires
-layout_of-l-requires c = record { shaped = (facts c).shape; accepted = (facts c).here }
+layout_of-l-requires c = record { shaped = (facts c.before).shape; accepted = (facts c.before).here }
 
 pub power-requires : goal.power-requires
 power-requires c = (lit≤ tt, (facts (two c.before)).shape.axes-high)

@@ -1,6 +1,6 @@
 -- `coefficients::convert_axis` meets its contract: group after group, each row of the results is filled by one number more.
 use mathlib.Core.Path.{◌≡◌, ap, ◌∙◌}
-use Prim.Native.Nat.{ℕ, ◌≤◌, ◌<◌, ◌+◌, ◌-◌, ◌*◌, zero-le}
+use Prim.Native.Nat.{ℕ, ◌≤◌, ◌<◌, ◌+◌, ◌*◌, zero-le}
 use native.Mathlib.Nat.{not-suc-le-zero}
 use native.Mathlib.Omega.{arith}
 use lib.ListN.{length}
@@ -10,7 +10,7 @@ use Rattle.lattice.proofs.DigitsLaws.{group-room}
 use Rattle.hermite.specs.Hermite.{end_rule}
 use Rattle.hermite.proofs.EndLaws.{end-depends}
 use Rattle.coefficients.proofs.SpotLaws.{scatter-length}
-use Rattle.coefficients.proofs.BlockLaws.{Rows, rows_more, rows_all}
+use Rattle.coefficients.proofs.BlockLaws.{rows_more, rows_all}
 use Rattle.coefficients.proofs.convert_axis.Goals as goal
 use Rattle.coefficients.proofs.convert_axis.Goals.{After-convert_end-z, In-loop-g, Start}
 

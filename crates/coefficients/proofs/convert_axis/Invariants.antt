@@ -1,16 +1,10 @@
 -- `coefficients::convert_axis` meets its contract: group after group, each row of the results is filled by one number more.
-use mathlib.Core.Path.{◌≡◌, ap, ◌∙◌}
-use Prim.Native.Nat.{ℕ, ◌≤◌, ◌<◌, ◌+◌, ◌-◌, ◌*◌, zero-le}
-use native.Mathlib.Nat.{not-suc-le-zero}
-use native.Mathlib.Omega.{arith}
+use mathlib.Core.Path.{◌≡◌}
+use Prim.Native.Nat.{◌≤◌, ◌+◌, ◌-◌, ◌*◌}
 use lib.ListN.{length}
 use Rattle.lattice.specs.Buffer.{at}
-use Rattle.lattice.specs.Flat.{pass}
-use Rattle.lattice.proofs.DigitsLaws.{group-room}
 use Rattle.hermite.specs.Hermite.{end_rule}
-use Rattle.hermite.proofs.EndLaws.{end-depends}
-use Rattle.coefficients.proofs.SpotLaws.{scatter-length}
-use Rattle.coefficients.proofs.BlockLaws.{Rows, rows_more, rows_all}
+use Rattle.coefficients.proofs.BlockLaws.{Rows}
 use Rattle.coefficients.proofs.convert_axis.Given as goal
 
 abbrev pub invariant-loop-g : goal.invariant-loop-g

@@ -1,10 +1,11 @@
 -- `coefficients::copy_out` meets its contract: the slice is filled from the front.
 use mir.Facts.{to_z-of_z}
+use mir.Syntax.{w32}
 use borrow.Author.Rules.{sfits_of}
 use Rattle.lattice.specs.Buffer.{at}
 use Rattle.lattice.proofs.BufferLaws.{Filled, filled_none, filled_more, filled-length, filled-all}
 use mathlib.Core.Path.{◌≡◌, subst}
-use Prim.Native.Nat.{ℕ, ◌≤◌, ◌-◌, zero-le}
+use Prim.Native.Nat.{ℕ, zero-le}
 use native.Mathlib.Omega.{arith}
 use lib.IntN.{pos}
 use Rattle.coefficients.proofs.copy_out.Goals as goal
@@ -17,7 +18,7 @@ pub loop-k-preserved : goal.loop-k-preserved
 loop-k-preserved c = let s = c in let w = c.loop-k in (
   omega arith,
   filled_more (at s.args.xs.now) s.args.out.now w.k w.out _ (pos 0) (omega arith) w.invariant.1
-      (to_z-of_z (sfits_of c.out-1.given)),
+      (to_z-of_z {w = w32} (sfits_of c.out-1.given)),
 )
 
 pub shape_of-out : goal.shape_of-out

@@ -1,12 +1,7 @@
 -- `coefficients::copy_out` meets its contract: the slice is filled from the front.
-use mir.Facts.{to_z-of_z}
-use borrow.Author.Rules.{sfits_of}
 use Rattle.lattice.specs.Buffer.{at}
-use Rattle.lattice.proofs.BufferLaws.{Filled, filled_none, filled_more, filled-length, filled-all}
-use mathlib.Core.Path.{◌≡◌, subst}
-use Prim.Native.Nat.{ℕ, ◌≤◌, ◌-◌, zero-le}
-use native.Mathlib.Omega.{arith}
-use lib.IntN.{pos}
+use Rattle.lattice.proofs.BufferLaws.{Filled}
+use Prim.Native.Nat.{◌≤◌, ◌-◌}
 use Rattle.coefficients.proofs.copy_out.Given as goal
 
 abbrev pub invariant-loop-k : goal.invariant-loop-k

@@ -5,7 +5,6 @@ use native.Mathlib.Omega.{arith}
 use Rattle.lattice.specs.Digits.{number, digit}
 use Rattle.coefficients.specs.Blocks.{reversed, corner_at}
 use Rattle.coefficients.proofs.SpotLaws.{corner-below}
-use borrow.Author.Rules.{rules}
 use Rattle.coefficients.proofs.corner_at.Goals as goal
 use Rattle.coefficients.proofs.corner_at.Goals.{Start}
 

@@ -1,9 +1,7 @@
 -- `coefficients::filled` meets its contract: the array starts with zeros.
 use mathlib.Core.Path.{refl}
-use Prim.Native.Nat.{◌-◌}
 use Rattle.lattice.proofs.BufferLaws.{noughts-at}
 use Rattle.coefficients.proofs.BlockLaws.{sizes}
-use borrow.Author.Rules.{rules}
 use Rattle.coefficients.proofs.filled.Goals as goal
 
 pub fill-requires : goal.fill-requires

@@ -7,7 +7,7 @@ use native.Mathlib.Decide.{dec_lt}
 use native.Mathlib.Omega.{arith}
 use mathlib.Core.Bool.{false}
 use lib.Dec.{eqb, lit<, lit≤}
-use lib.IntN.{ℤ, ◌*ℤ◌, nat_abs}
+use lib.IntN.{◌*ℤ◌, nat_abs}
 use lib.ListN.{length}
 use mir.Syntax.{w64}
 use mir.Val.{SFits}
@@ -18,7 +18,7 @@ use Rattle.hermite.specs.Hermite.{end_rule}
 use Rattle.hermite.proofs.DotLaws.{held}
 use Rattle.hermite.proofs.EndLaws.{end-depends}
 use Rattle.coefficients.specs.Blocks.{RowOf, block_sign, signed_record, AllWithin}
-use Rattle.coefficients.proofs.BlockLaws.{orders-some, size_low, entries-low, corner-low, row_room, first-row, row-orders, Rows, rows_more, rows_all}
+use Rattle.coefficients.proofs.BlockLaws.{orders-some, size_low, entries-low, corner-low, row_room, first-row, row-orders, rows_more, rows_all}
 use Rattle.coefficients.proofs.SignLaws.{row_one, both_one, both-fit, row_number}
 use Rattle.coefficients.proofs.SpotLaws.{scatter-length}
 use Rattle.coefficients.proofs.first_axis.Goals as goal
@@ -156,25 +156,28 @@ unfolding pass
 returns c =
     let b = c.args in
     let w = c.loop-g in
-    let e : w.g ≡ b.r = omega arith in record { starts_with = record {
+    let e : w.g ≡ b.r = omega arith in record {
+      starts_with = record {
         long = w.invariant.2;
         is =
             rows_all b.m b.r
             (λ k j. end_rule false b.m (λ t. signed_record b.m b.c b.start b.records.now (b.m * j + t)) k)
             w.zs (λ k j l q. w.invariant.3 k j l (omega arith));
-      }; all_within = (λ j l. w.invariant.4 j (rw e l)) }
+      };
+      all_within = (λ j l. w.invariant.4 j (rw e l));
+    }
 
 pub sign-along_x-requires : goal.sign-along_x-requires
 sign-along_x-requires c = (mod-lt c.args.c (lit< tt), lit< tt)
 
 pub loop-g-init : goal.loop-g-init
 loop-g-init c = let st = c in (
-      zero-le,
-      first-row st.args.m (orders-some st.requires.0),
-      st.requires.3,
-      (λ k j l q. absurd (not-suc-le-zero q)),
-      λ j l. absurd (omega arith),
-    )
+  zero-le,
+  first-row st.args.m (orders-some st.requires.0),
+  st.requires.3,
+  (λ k j l q. absurd (not-suc-le-zero q)),
+  λ j l. absurd (omega arith),
+)
 
 pub overflow_mul-s : goal.overflow_mul-s
 overflow_mul-s c = both-fits c

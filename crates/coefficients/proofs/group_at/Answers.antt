@@ -10,7 +10,6 @@ use Rattle.arith.proofs.Machine.{kept, kept_low}
 use Rattle.lattice.specs.Buffer.{at}
 use Rattle.hermite.proofs.DotLaws.{held}
 use Rattle.coefficients.specs.Blocks.{AllWithin}
-use borrow.Author.Rules.{rules}
 use Rattle.coefficients.proofs.group_at.Goals as goal
 use Rattle.coefficients.proofs.group_at.Goals.{Start}
 

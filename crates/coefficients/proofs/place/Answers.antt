@@ -4,7 +4,6 @@ use Prim.Native.Nat.{ℕ, zero, suc, ◌<◌, ◌+◌, ◌-◌, ◌*◌}
 use native.Mathlib.Omega.{arith}
 use Rattle.coefficients.specs.Blocks.{coefficient_number}
 use Rattle.coefficients.proofs.SpotLaws.{mirror-low, mirror-high}
-use borrow.Author.Rules.{rules}
 use Rattle.coefficients.proofs.place.Goals as goal
 use Rattle.coefficients.proofs.place.Goals.{Start}
 

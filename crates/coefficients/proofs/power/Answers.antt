@@ -4,7 +4,7 @@ use native.Mathlib.Numerals.{add-one}
 use lib.Dec.{lit<}
 use mir.Facts.{Fits-le, Fits-lit}
 use mathlib.Core.Path.{◌≡◌, sym, ap, subst, ◌∙◌}
-use Prim.Native.Nat.{ℕ, suc, ◌≤◌, ◌^◌, ◌-◌, ◌*◌}
+use Prim.Native.Nat.{ℕ, suc, ◌≤◌, ◌^◌, ◌*◌}
 use native.Mathlib.Omega.{arith}
 use Rattle.coefficients.proofs.power.Goals as goal
 use Rattle.coefficients.proofs.power.Goals.{In-loop-i}

@@ -1,6 +1,6 @@
 -- `coefficients::put_group` meets its contract: the numbers are scattered to their rows.
 use mathlib.Core.Path.{◌≡◌, refl, ap, ◌∙◌}
-use Prim.Native.Nat.{ℕ, ◌≤◌, ◌<◌, ◌+◌, ◌-◌, ◌*◌, zero-le}
+use Prim.Native.Nat.{ℕ, ◌<◌, ◌+◌, ◌*◌, zero-le}
 use native.Mathlib.Omega.{arith}
 use Rattle.arith.proofs.Machine.{read}
 use Rattle.lattice.specs.Buffer.{at}

@@ -1,12 +1,8 @@
 -- `coefficients::put_group` meets its contract: the numbers are scattered to their rows.
-use mathlib.Core.Path.{◌≡◌, refl, ap, ◌∙◌}
-use Prim.Native.Nat.{ℕ, ◌≤◌, ◌<◌, ◌+◌, ◌-◌, ◌*◌, zero-le}
-use native.Mathlib.Omega.{arith}
-use Rattle.arith.proofs.Machine.{read}
+use mathlib.Core.Path.{◌≡◌}
+use Prim.Native.Nat.{◌≤◌, ◌+◌, ◌-◌, ◌*◌}
 use Rattle.lattice.specs.Buffer.{at}
-use Rattle.lattice.proofs.DigitsLaws.{pair-in}
 use Rattle.coefficients.specs.Blocks.{scatter}
-use Rattle.coefficients.proofs.SpotLaws.{scatter-more}
 use Rattle.coefficients.proofs.put_group.Given as goal
 
 abbrev pub invariant-loop-k : goal.invariant-loop-k

@@ -1,6 +1,6 @@
 -- `coefficients::row_at` meets its contract: two or three numbers of a record, each by its sign.
 use mathlib.Core.Path.{◌≡◌, sym, ap, ◌∙◌}
-use Prim.Native.Nat.{ℕ, ◌≤◌, ◌<◌, ◌+◌, ◌^◌, ◌*◌}
+use Prim.Native.Nat.{ℕ, ◌≤◌, ◌<◌, ◌+◌, ◌^◌}
 use native.Mathlib.Nat.{add-zero, le_of_eq, le_trans}
 use native.Mathlib.Omega.{arith}
 use lib.Dec.{eqb, lit<, lit≤}
@@ -13,7 +13,6 @@ use Rattle.lattice.specs.Buffer.{at}
 use Rattle.hermite.proofs.DotLaws.{held}
 use Rattle.coefficients.specs.Blocks.{AllWithin}
 use Rattle.coefficients.proofs.SignLaws.{sign_kept}
-use borrow.Author.Rules.{rules}
 use Rattle.coefficients.proofs.row_at.Goals as goal
 use Rattle.coefficients.proofs.row_at.Goals.{After-by_sign-d, After-by_sign-f, Start}
 

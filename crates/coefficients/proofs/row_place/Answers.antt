@@ -6,7 +6,6 @@ use native.Mathlib.Omega.{arith}
 use Rattle.lattice.specs.Digits.{number, digit}
 use Rattle.lattice.proofs.DigitsLaws.{high_digit, low_digit}
 use Rattle.coefficients.specs.Blocks.{coefficient_number, block_numbers, coefficient_index}
-use borrow.Author.Rules.{rules}
 use Rattle.coefficients.proofs.row_place.Goals as goal
 use Rattle.coefficients.proofs.row_place.Goals.{After-place-2, Start}
 

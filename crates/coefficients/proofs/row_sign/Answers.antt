@@ -6,7 +6,6 @@ use native.Mathlib.Omega.{arith}
 use lib.Dec.{lit≤}
 use lib.IntN.{nat_abs, ◌*ℤ◌}
 use Rattle.coefficients.proofs.SignLaws.{sign-size, sign_fits, sign_kept}
-use borrow.Author.Rules.{rules}
 use Rattle.coefficients.proofs.row_sign.Goals as goal
 use Rattle.coefficients.proofs.row_sign.Goals.{After-sign-2}
 

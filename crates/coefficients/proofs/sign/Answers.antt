@@ -9,7 +9,6 @@ use Rattle.arith.specs.Int.{◌^ℤ◌}
 use Rattle.arith.proofs.Abs.{sfits-abs}
 use Rattle.arith.proofs.Choices.{by_2, by-3}
 use Rattle.coefficients.specs.Blocks.{end_sign}
-use borrow.Author.Rules.{rules}
 use Rattle.coefficients.proofs.sign.Goals as goal
 
 twice : (b : ℕ) → b < 2 → SFits w64 (pos 2 *ℤ to_z w64 b)

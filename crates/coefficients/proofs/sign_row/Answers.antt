@@ -14,7 +14,6 @@ use Rattle.hermite.proofs.DotLaws.{held}
 use Rattle.coefficients.specs.Blocks.{scatter}
 use Rattle.coefficients.proofs.SignLaws.{sign_kept}
 use Rattle.coefficients.proofs.SpotLaws.{scatter-more}
-use borrow.Author.Rules.{rules}
 use Rattle.coefficients.proofs.sign_row.Goals as goal
 use Rattle.coefficients.proofs.sign_row.Goals.{Start}
 

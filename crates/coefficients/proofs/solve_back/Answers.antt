@@ -12,7 +12,7 @@ use Rattle.lattice.specs.Buffer.{at}
 use Rattle.coefficients.specs.Blocks.{AllWithin}
 use Rattle.coefficients.proofs.BlockLaws.{size_low, After, after_first, after_next, after-low, after-all}
 use Rattle.coefficients.proofs.solve_back.Goals as goal
-use Rattle.coefficients.proofs.solve_back.Goals.{After-solve_axis, After-solve_axis-2, After-solve_axis-3, Start}
+use Rattle.coefficients.proofs.solve_back.Goals.{After-solve_axis-2, After-solve_axis-3, Start}
 
 -- what is asked of the sizes
 module _ (s : Start) where
@@ -29,26 +29,16 @@ module _ (s : Start) where
   low : (i : ℕ) → i ≤ 3 → (zs : List ℤ) → Passed i zs → AllWithin (2 ^ 50) (s.args.m * s.args.r) (at zs)
   low = after-low true s.requires.sizes.0 (at s.args.xs.now) s.requires.sizes.1
 
--- two axes
-module _ (c : After-solve_axis) where
-  abbrev S : Start
-  S = c.before.before.before
-
-  abbrev first : List ℤ
-  first = c.solve_axis.new.zs
-
-  once : Passed S 1 first
-  once = after_first true S.requires.sizes.0 (at S.args.xs.now) first c.solve_axis.ensures
-
 pub returns-then-n-eq2 : goal.returns-then-n-eq2
 returns-then-n-eq2 c =
-    let w = c.before.before.before in
-    let s = S w in
+    let a = c.args in
+    let ok = c.requires.sizes.0 in
+    let first = c.solve_axis.new.zs in
+    let once = after_first true ok (at a.xs.now) first c.solve_axis.ensures in
     let second = c.solve_axis-then-n-eq2.new.zs in
-    let twice = after_next true s.requires.sizes.0 (at s.args.xs.now) 1 (first w) second (once w) c.solve_axis-then-n-eq2.ensures in
-    let r = after-all true s.requires.sizes.0 (at s.args.xs.now) s.requires.sizes.1 2 (sym w.if-n-eq2.true)
-    second twice in
-    record { starts_with = r.0; xs_len_2 = (s.requires.xs_len.0, r.1) }
+    let twice = after_next true ok (at a.xs.now) 1 first second once c.solve_axis-then-n-eq2.ensures in
+    let r = after-all true ok (at a.xs.now) c.requires.sizes.1 2 (sym c.if-n-eq2.true) second twice in
+    record { starts_with = r.0; xs_len_2 = (c.requires.xs_len.0, r.1) }
 
 -- one axis or three
 module _ (c : After-solve_axis-2) where
@@ -96,7 +86,15 @@ pub solve_axis-requires : goal.solve_axis-requires
 solve_axis-requires c = let s = c.before.before in record { le_m = sizes s; all_within = (start-low s, refl) }
 
 pub solve_axis-requires-then-n-eq2 : goal.solve_axis-requires-then-n-eq2
-solve_axis-requires-then-n-eq2 c = let w = c.before.before in record { le_m = sizes (S w); all_within = (low (S w) 1 (lit≤ tt) (first w) (once w), (S w).requires.xs_len.1) }
+solve_axis-requires-then-n-eq2 c =
+    let a = c.args in
+    let ok = c.requires.sizes.0 in
+    let first = c.solve_axis.new.zs in
+    let once = after_first true ok (at a.xs.now) first c.solve_axis.ensures in
+    record {
+      le_m = (ok.orders-low, ok.orders-high, size_low ok);
+      all_within = (after-low true ok (at a.xs.now) c.requires.sizes.1 1 (lit≤ tt) first once, c.requires.xs_len.1);
+    }
 
 pub solve_axis-requires-2 : goal.solve_axis-requires-2
 solve_axis-requires-2 c = let s = c.before.before in record { le_m = sizes s; all_within = (start-low s, s.requires.xs_len.1) }

@@ -2,7 +2,7 @@
 use mathlib.Core.Path.{◌≡◌, sym, ap, subst, ◌∙◌}
 use mathlib.Core.List.{List}
 use lib.IntN.{ℤ}
-use Prim.Native.Nat.{ℕ, ◌≤◌, ◌<◌, ◌+◌, ◌^◌, ◌-◌, ◌*◌, zero-le}
+use Prim.Native.Nat.{ℕ, ◌≤◌, ◌<◌, ◌+◌, ◌^◌, ◌*◌, zero-le}
 use native.Mathlib.Nat.{mul-zero, lt_of_lt_of_le}
 use native.Mathlib.Omega.{arith}
 use Rattle.lattice.specs.Buffer.{at}
@@ -41,19 +41,22 @@ store_row-requires c =
     let p = (s i).requires in
     let ok = p.0 in
     let h = room i in
-    let e = entries-low ok in record { le_m = (
+    let e = entries-low ok in record {
+      le_m = (
         ok.orders-low,
         ok.orders-high,
         corner-low ok a.c p.1,
         i.loop-g.invariant.1.low,
         z-low i,
         ap (λ (g : ℕ). a.m * g) i.loop-g.invariant.1.number_is,
-      ); m_bound = (
+      );
+      m_bound = (
         omega arith,
         λ t l. p.2 (a.m * i.loop-g.g + t) (omega arith),
         λ t l. lt_of_lt_of_le (spot_in a.m a.n (orders-some ok) a.c (a.m * i.loop-g.g + t) p.1 (omega arith)
             ok.axes-low ok.axes-high) (count_low ok),
-      ) }
+      );
+    }
 
 pub next_row-o-requires : goal.next_row-o-requires
 next_row-o-requires c =

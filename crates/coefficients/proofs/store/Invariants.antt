@@ -1,15 +1,8 @@
 -- `coefficients::store` meets its contract: row after row, the numbers are scattered to their places.
-use mathlib.Core.Path.{◌≡◌, sym, ap, subst, ◌∙◌}
-use mathlib.Core.List.{List}
-use lib.IntN.{ℤ}
-use Prim.Native.Nat.{ℕ, ◌≤◌, ◌<◌, ◌+◌, ◌^◌, ◌-◌, ◌*◌, zero-le}
-use native.Mathlib.Nat.{mul-zero, lt_of_lt_of_le}
-use native.Mathlib.Omega.{arith}
+use mathlib.Core.Path.{◌≡◌}
+use Prim.Native.Nat.{◌≤◌, ◌-◌, ◌*◌}
 use Rattle.lattice.specs.Buffer.{at}
 use Rattle.coefficients.specs.Blocks.{RowOf, coefficient_index, scatter}
-use Rattle.coefficients.proofs.BlockLaws.{orders-some, entries-low, count_low, corner-low, row_room, first-row, row-orders}
-use Rattle.coefficients.proofs.SpotLaws.{spot_in, scatter-add}
-use Rattle.lattice.proofs.DigitsLaws.{next-group}
 use Rattle.coefficients.proofs.store.Given as goal
 
 abbrev pub invariant-loop-g : goal.invariant-loop-g

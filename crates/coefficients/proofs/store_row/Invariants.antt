@@ -1,18 +1,8 @@
 -- `coefficients::store_row` meets its contract: the numbers of a row are scattered to their places.
-use mathlib.Core.Path.{◌≡◌, refl, sym, ap, ◌∙◌}
-use Prim.Native.Nat.{ℕ, ◌≤◌, ◌<◌, ◌+◌, ◌^◌, ◌-◌, zero-le}
-use native.Mathlib.Nat.{mod-lt}
-use native.Mathlib.Omega.{arith}
-use lib.Dec.{lit<}
-use lib.IntN.{ℤ, nat_abs}
-use mir.Syntax.{w32, w64}
-use mir.Val.{to_z, of_z}
-use mir.Facts.{to_z-of_z}
-use Rattle.arith.proofs.Abs.{sfits-abs}
-use Rattle.arith.proofs.Machine.{kept}
+use mathlib.Core.Path.{◌≡◌}
+use Prim.Native.Nat.{◌≤◌, ◌+◌, ◌-◌}
 use Rattle.lattice.specs.Buffer.{at}
 use Rattle.coefficients.specs.Blocks.{coefficient_index, scatter}
-use Rattle.coefficients.proofs.SpotLaws.{scatter-more}
 use Rattle.coefficients.proofs.store_row.Given as goal
 
 abbrev pub invariant-loop-t : goal.invariant-loop-t

@@ -62,8 +62,8 @@ returns-then-m-eq2 c =
     let s = d.before.before.before.before.before.before.before in
     let u = d.first-a in
     let v = d.first-b in
-    let a = reads s s.args.p u.result u.ensures c.type_inv.a.0.1 in
-    let b = reads s (s.args.p + s.args.order) v.result v.ensures c.type_inv.b.0.1 in record { end = end-of-two s.args.m (number s) s.args.p s.args.order _ _ a.0 b.0 d.if-m-eq2.true; rest_value = rest-of-two s.args.m (keeps s) s.args.p s.args.order u.result.rest v.result.rest a.1 b.1 d.if-m-eq2.true }
+    let a = reads s s.args.p u.result u.ensures c.struct_told-1.given.0.1 in
+    let b = reads s (s.args.p + s.args.order) v.result v.ensures c.struct_told-then-m-eq2-1.given.0.1 in record { end = end-of-two s.args.m (number s) s.args.p s.args.order _ _ a.0 b.0 d.if-m-eq2.true; rest_value = rest-of-two s.args.m (keeps s) s.args.p s.args.order u.result.rest v.result.rest a.1 b.1 d.if-m-eq2.true }
 
 pub returns : goal.returns
 returns c =
@@ -74,9 +74,9 @@ returns c =
     let v = e.first-b in
     let w = d.first-c in
     let t = c in
-    let a = reads s s.args.p u.result u.ensures t.type_inv.a.0.1 in
-    let b = reads s (s.args.p + s.args.order) v.result v.ensures t.type_inv.b.0.1 in
-    let f = reads s (s.args.p + 2 * s.args.order) w.result w.ensures t.type_inv.c.0.1 in
+    let a = reads s s.args.p u.result u.ensures c.struct_told-2-1.given.0.1 in
+    let b = reads s (s.args.p + s.args.order) v.result v.ensures c.struct_told-3-1.given.0.1 in
+    let f = reads s (s.args.p + 2 * s.args.order) w.result w.ensures c.struct_told-4-1.given.0.1 in
     let m3 = three s d.if-m-eq2.false in record { end = end-of-three s.args.m (number s) s.args.p s.args.order _ _ a.0 b.0 m3 _ f.0; rest_value = rest-of-three s.args.m (keeps s) s.args.p s.args.order u.result.rest v.result.rest a.1 b.1 m3
           w.result.rest f.1 }
 

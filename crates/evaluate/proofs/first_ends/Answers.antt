@@ -28,7 +28,7 @@ returns c =
     let d = c in
     let low = d.first_end-low in
     let high = d.first_end-high in
-    let a = d.args in record { are_ends = record { low = low.ensures.0; high = high.ensures.0 }; rest_value = or-none high.result.rest low.result.rest ∙ ap₂ ◌&&◌ high.ensures.1 low.ensures.1
+    let a = d.args in record { are_ends = record { low = low.ensures.end; high = high.ensures.end }; rest_value = or-none high.result.rest low.result.rest ∙ ap₂ ◌&&◌ high.ensures.rest_value low.ensures.rest_value
           ∙ sym (all-ends a.m a.order a.node (cleanly a.m a.k a.x (at a.records.now) (λ i. true)) a.p) }
 
 pub first_end-low-requires : goal.first_end-low-requires

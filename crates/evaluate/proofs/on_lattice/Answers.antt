@@ -27,8 +27,9 @@ use Rattle.evaluate.proofs.Answering.{IsAxis, AreAxes, are-axes, workable-in, re
 use Rattle.evaluate.proofs.EndLaws.{part}
 use Rattle.evaluate.proofs.Parts.{workable-part, worked-off-part}
 use Rattle.evaluate.proofs.StageOrder.{axes-before, beside-low}
+use lib.Signed.{mag}
 use Rattle.evaluate.proofs.on_lattice.Goals as goal
-use Rattle.evaluate.proofs.on_lattice.Goals.{After-in_sequence-sequence, After-last_axis-last, After-struct_told-1, Start}
+use Rattle.evaluate.proofs.on_lattice.Goals.{After-in_sequence-sequence, After-last_axis-last, Start}
 
 low : (b : Start) → b.args.l.orders ≤ 3
 low b = let a = b.args in
@@ -74,15 +75,15 @@ module _ (c : After-in_sequence-sequence) where
   named i j e h v k = subst (Is j) (sym (k ∙ ap (of_axis _ _ _) e)) (axis j h)
 
   is-first : Is (beside 0 last) c.in_sequence-sequence.result.first
-  is-first = named (beside 0 f.last-axis.result) (beside 0 last) (ap (beside 0) f.last-axis.ensures) (beside-low 0 last (lit< tt))
+  is-first = named (beside 0 f.last_axis-last.result) (beside 0 last) (ap (beside 0) f.last_axis-last.ensures) (beside-low 0 last (lit< tt))
       c.in_sequence-sequence.result.first c.in_sequence-sequence.ensures.0
 
   is-middle : Is (beside 2 last) c.in_sequence-sequence.result.middle
-  is-middle = named (beside 2 f.last-axis.result) (beside 2 last) (ap (beside 2) f.last-axis.ensures) (beside-low 2 last (lit< tt))
+  is-middle = named (beside 2 f.last_axis-last.result) (beside 2 last) (ap (beside 2) f.last_axis-last.ensures) (beside-low 2 last (lit< tt))
       c.in_sequence-sequence.result.middle c.in_sequence-sequence.ensures.1
 
   is_last : Is last c.in_sequence-sequence.result.last
-  is_last = named f.last-axis.result last f.last-axis.ensures last-low.1 c.in_sequence-sequence.result.last
+  is_last = named f.last_axis-last.result last f.last_axis-last.ensures last-low.1 c.in_sequence-sequence.result.last
       c.in_sequence-sequence.ensures.2
 
   abbrev others : List Strides
@@ -140,30 +141,26 @@ module _ (c : After-in_sequence-sequence) where
       b.requires.ready n last refl refl a.order (order-last a.order a.axis) c.in_sequence-sequence.result.last others is_last are r
       (worked-off-part a.records.now a.l.base r h)
 
-module _ (c : After-struct_told-1) where
-  abbrev worked-off : After-in_sequence-sequence
-  worked-off = c.before.before.before.before.before.before.before
-
-  abbrev r : Rounded
-  r = c.more_axes-r.result
-
+module _ (w : After-in_sequence-sequence) (r : Rounded) (ok : mag r.number < 2 ^ 63)
+    (e : WorkedOff (b w).args.l.orders (b w).args.order w.in_sequence-sequence.result.last (others w)
+      (Reports (rounding_of (b w).args.even) (b w).args.l.orders (at (here w)) 0 r)) where
   fits_in : SFits w32 (to_z w64 (of_z w64 r.number))
   fits_in =
-      let s = b worked-off in
+      let s = b w in
       let a = s.args in
-      fits (edition-sound a.even) a.s a.records.now (place_at a.cell) a.step a.order a.axis a.l s.requires.ready
-      r.number c.type_inv.r.0.1 (gives worked-off r c.more_axes-r.ensures).0
+      fits (edition-sound a.even) a.s a.records.now (place_at a.cell) a.step a.order a.axis a.l s.requires.ready r.number ok (gives w r e).0
 
-  answers : to_z w32 (of_z w32 (to_z w64 (of_z w64 r.number)))
-      ≡ answer_by (rounding_of (b worked-off).args.even) (asked worked-off) (field worked-off)
+  answers : to_z w32 (of_z w32 (to_z w64 (of_z w64 r.number))) ≡ answer_by (rounding_of (b w).args.even) (asked w) (field w)
   answers =
-      let s = b worked-off in
+      let s = b w in
       let a = s.args in
-      cast (edition-sound a.even) a.s a.records.now (place_at a.cell) a.step a.order a.axis a.l s.requires.ready
-      r.number c.type_inv.r.0.1 (gives worked-off r c.more_axes-r.ensures).0
+      cast (edition-sound a.even) a.s a.records.now (place_at a.cell) a.step a.order a.axis a.l s.requires.ready r.number ok (gives w r e).0
 
 pub returns : goal.returns
-returns c = let d = c.before in record { number_value = answers d; exact_value = (gives (worked-off d) (r d) d.more_axes-r.ensures).1 }
+returns c =
+    let w = c.before.before.before.before.before.before.before.before in
+    let r = c.more_axes-r in
+    record { number_value = answers w r.result c.struct_told-1.given.0.1 r.ensures; exact_value = (gives w r.result r.ensures).1 }
 
 pub strides_of-x-requires : goal.strides_of-x-requires
 strides_of-x-requires c = (low c.before, lit< tt)
@@ -190,4 +187,4 @@ pub more_axes-r-requires : goal.more_axes-r-requires
 more_axes-r-requires c = asks c.before.before.before.before
 
 pub overflow_cast-result : goal.overflow_cast-result
-overflow_cast-result c = fits_in c
+overflow_cast-result c = fits_in c.before.before.before.before.before.before.before.before c.more_axes-r.result c.type_inv.r.0.1 c.more_axes-r.ensures

@@ -19,8 +19,10 @@ use Rattle.evaluate.specs.Stages.{Workable, WorkedOff, Reports}
 use Rattle.evaluate.specs.Wants.{want_of}
 use Rattle.evaluate.proofs.AnswerLaws.{order-last}
 use Rattle.evaluate.proofs.Answering.{IsAxis, workable-in, reported-in, orders-low, found, fits, cast}
+use lib.Signed.{mag}
+use Prim.Native.Nat.{◌<◌, ◌^◌}
 use Rattle.evaluate.proofs.on_line.Goals as goal
-use Rattle.evaluate.proofs.on_line.Goals.{After-strides_of-x, After-struct_told-1, Start}
+use Rattle.evaluate.proofs.on_line.Goals.{After-strides_of-x, Start}
 
 module _ (c : After-strides_of-x) where
   abbrev b : Start
@@ -61,30 +63,26 @@ module _ (c : After-strides_of-x) where
       a.l
       b.requires.ready 1 0 b.requires.axes_value only a.order (order-last a.order a.axis) c.strides_of-x.result [] is tt
 
-module _ (c : After-struct_told-1) where
-  abbrev worked-off : After-strides_of-x
-  worked-off = c.before.before.before
-
-  abbrev r : Rounded
-  r = c.one_axis_by_kind-r.result
-
+module _ (w : After-strides_of-x) (r : Rounded) (ok : mag r.number < 2 ^ 63)
+    (e : WorkedOff (b w).args.l.orders (b w).args.order w.strides_of-x.result []
+      (Reports (rounding_of (b w).args.even) (b w).args.l.orders (at (b w).args.records.now) (b w).args.l.base r)) where
   fits_in : SFits w32 (to_z w64 (of_z w64 r.number))
   fits_in =
-      let s = b worked-off in
+      let s = b w in
       let a = s.args in
-      fits (edition-sound a.even) a.s a.records.now (place_at a.cell) a.step a.order a.axis a.l s.requires.ready
-      r.number c.type_inv.r.0.1 (gives worked-off r c.one_axis_by_kind-r.ensures).0
+      fits (edition-sound a.even) a.s a.records.now (place_at a.cell) a.step a.order a.axis a.l s.requires.ready r.number ok (gives w r e).0
 
-  answers : to_z w32 (of_z w32 (to_z w64 (of_z w64 r.number)))
-      ≡ answer_by (rounding_of (b worked-off).args.even) (asked worked-off) (field worked-off)
+  answers : to_z w32 (of_z w32 (to_z w64 (of_z w64 r.number))) ≡ answer_by (rounding_of (b w).args.even) (asked w) (field w)
   answers =
-      let s = b worked-off in
+      let s = b w in
       let a = s.args in
-      cast (edition-sound a.even) a.s a.records.now (place_at a.cell) a.step a.order a.axis a.l s.requires.ready
-      r.number c.type_inv.r.0.1 (gives worked-off r c.one_axis_by_kind-r.ensures).0
+      cast (edition-sound a.even) a.s a.records.now (place_at a.cell) a.step a.order a.axis a.l s.requires.ready r.number ok (gives w r e).0
 
 pub returns : goal.returns
-returns c = let d = c.before in record { number_value = answers d; exact_value = (gives (worked-off d) (r d) d.one_axis_by_kind-r.ensures).1 }
+returns c =
+    let w = c.before.before.before.before in
+    let r = c.one_axis_by_kind-r in
+    record { number_value = answers w r.result c.struct_told-1.given.0.1 r.ensures; exact_value = (gives w r.result r.ensures).1 }
 
 pub strides_of-x-requires : goal.strides_of-x-requires
 strides_of-x-requires c = let a = c.args in (
@@ -96,4 +94,4 @@ pub one_axis_by_kind-r-requires : goal.one_axis_by_kind-r-requires
 one_axis_by_kind-r-requires c = asks c
 
 pub overflow_cast-result : goal.overflow_cast-result
-overflow_cast-result c = fits_in c
+overflow_cast-result c = fits_in c.before.before.before.before c.one_axis_by_kind-r.result c.type_inv.r.0.1 c.one_axis_by_kind-r.ensures

@@ -1,6 +1,6 @@
 -- `evaluate::second_ends` meets its contract: the second stage gives the numbers of both ends, one after the other.
 use mathlib.Core.Path.{◌≡◌, refl, sym, ap, ap₂, subst, ◌∙◌}
-use mathlib.Core.Bool.{Bool, ◌&&◌}
+use mathlib.Core.Bool.{true, Bool, ◌&&◌}
 use mathlib.Core.List.{[], ◌∷◌}
 use Prim.Native.Nat.{ℕ, suc, ◌+◌, ◌*◌, ◌-◌, ◌≤◌, ◌<◌}
 use native.Mathlib.Nat.{not-suc-le-zero}
@@ -19,8 +19,13 @@ use Rattle.lattice.specs.Buffer.{at}
 use Rattle.lattice.proofs.BufferLaws.{fill}
 use Rattle.evaluate.specs.Stages.{place_of, all_at, after, clean_after, Safe}
 use Rattle.evaluate.proofs.EndLaws.{place-low, place-high, at_place, safe-index, end-of-two, end-of-three}
+use lib.Signed.{mag}
+use Prim.Native.Nat.{◌^◌}
+use Rattle.hermite.specs.Stage.{shift_of}
+use Rattle.evaluate.specs.Stages.{Reported}
+use Rattle.hermite.specs.declared.Rounded.{Rounded}
 use Rattle.evaluate.proofs.second_ends.Goals as goal
-use Rattle.evaluate.proofs.second_ends.Goals.{After-loop-t, After-place_at-place, After-result-7-1, After-struct_told-1, Else-m-eq2, In-loop-t, Start}
+use Rattle.evaluate.proofs.second_ends.Goals.{After-loop-t, After-place_at-place, After-result-7-1, Else-m-eq2, In-loop-t, Start}
 
 abbrev of_three : After-result-7-1 → Else-m-eq2
 of_three c = c.before.before.before.before.before.before
@@ -91,23 +96,20 @@ first_stages-r-requires c =
           (safe s (t c.before) c.loop-t-test.true) }
 
 -- what is reported of its number
-module _ (c : After-struct_told-1) where
-  abbrev found : After-place_at-place
-  found = c.before.before
-
+module _ (found : After-place_at-place) (r : Rounded) (ok : mag r.number < 2 ^ 63)
+    (told : Reported (rounding_of found.args.even) found.args.m (shift_of 0 found.args.m true true) found.args.y (found.args.x ∷ [])
+    (at found.args.records.now) (found.args.p + found.place_at-place.result) r) where
   abbrev turn : In-loop-t
   turn = found.before
 
-  number-here : to_z w64 (of_z w64 c.first_stages-r.result.number)
-      ≡ number (start turn) ((start turn).args.p + place (start turn) (t turn))
+  number-here : to_z w64 (of_z w64 r.number) ≡ number (start turn) ((start turn).args.p + place (start turn) (t turn))
   unfolding after
   number-here =
-      read c.first_stages-r.result.number c.type_inv.r.0.1 ∙ c.first_stages-r.ensures.number_is
-      ∙ ap (λ (k : ℕ). number (start turn) ((start turn).args.p + k)) (here found)
+      read r.number ok ∙ told.number_is ∙ ap (λ (k : ℕ). number (start turn) ((start turn).args.p + k)) (here found)
 
-  rest-here : eqb c.first_stages-r.result.rest 0 ≡ keeps (start turn) ((start turn).args.p + place (start turn) (t turn))
+  rest-here : eqb r.rest 0 ≡ keeps (start turn) ((start turn).args.p + place (start turn) (t turn))
   unfolding after clean_after
-  rest-here = c.first_stages-r.ensures.rest-is ∙ ap (λ (k : ℕ). keeps (start turn) ((start turn).args.p + k)) (here found)
+  rest-here = told.rest-is ∙ ap (λ (k : ℕ). keeps (start turn) ((start turn).args.p + k)) (here found)
 
 pub loop-t-preserved : goal.loop-t-preserved
 unfolding all
@@ -120,8 +122,8 @@ loop-t-preserved c =
       omega (arith, d.loop-t-test.true),
       simp length-set i.invariant.1,
       fill i.n i.t (λ j. number s (s.args.p + place s j)) (to_z w64 (of_z w64 f.first_stages-r.result.number))
-          (let e = i.invariant.1 in let h = few d in omega arith) i.invariant.2 (number-here c.before),
-      or-none f.first_stages-r.result.rest i.rest ∙ ap₂ ◌&&◌ (rest-here c.before) i.invariant.3
+          (let e = i.invariant.1 in let h = few d in omega arith) i.invariant.2 (number-here c.before.before.before f.first_stages-r.result c.struct_told-1.given.0.1 f.first_stages-r.ensures),
+      or-none f.first_stages-r.result.rest i.rest ∙ ap₂ ◌&&◌ (rest-here c.before.before.before f.first_stages-r.result c.struct_told-1.given.0.1 f.first_stages-r.ensures) i.invariant.3
           ∙ ap (λ (n : ℕ). all n keep) {x = suc i.t} {y = i.t + 1} (omega arith),
     )
 
@@ -200,10 +202,10 @@ pub overflow_add-p : goal.overflow_add-p
 overflow_add-p c = let h = here-index c in omega arith
 
 pub offset_bounds-n-t : goal.offset_bounds-n-t
-offset_bounds-n-t c = let h = few c.before.before.before in omega arith
+offset_bounds-n-t c = let h = few c.before.before.before.before in omega arith
 
 pub bounds-n-t : goal.bounds-n-t
-bounds-n-t c = few c.before.before.before
+bounds-n-t c = few c.before.before.before.before
 
 pub overflow_add-t : goal.overflow_add-t
 overflow_add-t c = let h = few c.before.before.before.before in omega arith

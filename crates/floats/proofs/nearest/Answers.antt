@@ -12,7 +12,7 @@ use lib.Ieee.Bits.{of_bits-to_bits}
 use mir.Syntax.{w32, w64}
 use mir.Val.{SFits, to_z, of_z}
 use mir.Facts.{to_z-of_z}
-use borrow.Author.Rules.{rules, sfits_of}
+use borrow.Author.Rules.{sfits_of}
 use borrow.Author.Tests.{le-leb, lt-leb}
 use Rattle.arith.specs.Int.{round_half_up}
 use Rattle.arith.proofs.Abs.{sfits-abs}

@@ -26,33 +26,41 @@ abbrev two-to-8 : Float
 two-to-8 = of_bits binary32 1132462080
 
 pub returns-then-steps-lt16 : goal.returns-then-steps-lt16
+unfolding of_bits
 returns-then-steps-lt16 c = let l = c.if-steps-lt16.true in
     other c.args.steps two-to-8 refl (λ e. omega arith) (λ e. omega arith)
     (λ e. omega arith) (λ e. omega arith)
 
 pub returns-then-steps-gt128 : goal.returns-then-steps-gt128
+unfolding of_bits
 returns-then-steps-gt128 c = let l = c.if-steps-gt128.true in
     other c.args.steps two-to-8 refl (λ e. omega arith) (λ e. omega arith)
     (λ e. omega arith) (λ e. omega arith)
 
 pub returns-then-steps-eq16 : goal.returns-then-steps-eq16
+unfolding of_bits power_of pick
 returns-then-steps-eq16 c = at 4 16 _ (of_bits binary32 1098907648) refl c.if-steps-eq16.true refl
 
 pub returns-then-steps-eq32 : goal.returns-then-steps-eq32
+unfolding of_bits power_of pick
 returns-then-steps-eq32 c = at 5 32 _ (of_bits binary32 1107296256) refl c.if-steps-eq32.true refl
 
 pub returns-else-steps-eq32 : goal.returns-else-steps-eq32
+unfolding of_bits
 returns-else-steps-eq32 c = let l = c.if-steps-lt64.true in
     other c.args.steps two-to-8 refl c.if-steps-eq16.false
     c.if-steps-eq32.false (λ e. omega arith) (λ e. omega arith)
 
 pub returns-then-steps-eq64 : goal.returns-then-steps-eq64
+unfolding of_bits power_of pick
 returns-then-steps-eq64 c = at 6 64 _ (of_bits binary32 1115684864) refl c.if-steps-eq64.true refl
 
 pub returns-then-steps-eq128 : goal.returns-then-steps-eq128
+unfolding of_bits power_of pick
 returns-then-steps-eq128 c = at 7 128 _ (of_bits binary32 1124073472) refl c.if-steps-eq128.true refl
 
 pub returns-else-steps-eq128 : goal.returns-else-steps-eq128
+unfolding of_bits
 returns-else-steps-eq128 c = let l = c.if-steps-lt64.false in
     other c.args.steps two-to-8 refl (λ e. omega arith)
     (λ e. omega arith) c.if-steps-eq64.false c.if-steps-eq128.false

@@ -2,7 +2,6 @@
 use mathlib.Core.Path.{sym, ap, ◌∙◌}
 use Prim.Native.Nat.{ℕ, ◌+◌, ◌-◌, ◌*◌}
 use native.Mathlib.Omega.{arith}
-use borrow.Author.Rules.{rules}
 use Rattle.import.specs.Parts.{capped, sum}
 use Rattle.import.proofs.SumLaws.{capped-high, taken, tested}
 use Rattle.import.proofs.add_digit.Goals as goal

@@ -1,13 +1,8 @@
 -- `add_digits` meets its contract. The invariant: the digits from i on are left to add.
-use mathlib.Core.Path.{◌≡◌, refl, ap, ◌∙◌}
-use mathlib.Core.List.{List}
-use Prim.Native.Nat.{ℕ, ◌≤◌, ◌+◌, ◌-◌}
-use native.Mathlib.Numerals.{add-one}
-use native.Mathlib.Omega.{arith}
-use lib.ListN.{length, get_or, drop, drop_of_length-le}
-use lib.Seq.{drop-cons}
-use Rattle.import.specs.declared.Sum.{Sum}
-use Rattle.import.specs.Parts.{add_digit, add_digits}
+use mathlib.Core.Path.{◌≡◌}
+use Prim.Native.Nat.{◌≤◌, ◌-◌}
+use lib.ListN.{length, drop}
+use Rattle.import.specs.Parts.{add_digits}
 use Rattle.import.proofs.add_digits.Given as goal
 
 abbrev pub invariant-loop-i : goal.invariant-loop-i

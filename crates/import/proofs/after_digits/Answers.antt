@@ -1,17 +1,18 @@
 -- `after_digits` meets its contract: what follows the run is the rest of the slice.
 use mathlib.Core.Path.{ap, ◌∙◌}
-use Prim.Native.Nat.{ℕ, ◌≤◌}
+use Prim.Native.Nat.{ℕ}
 use native.Mathlib.Omega.{arith}
-use lib.ListN.{length, drop}
-use borrow.Author.Rules.{rules}
+use lib.ListN.{drop}
 use borrow.Author.Rules.{part_to_end}
 use Rattle.import.specs.Bytes.{beyond}
 use Rattle.import.specs.Grammar.{is_digit}
 use Rattle.import.proofs.BytesLaws.{leading-front}
 use Rattle.import.proofs.after_digits.Goals as goal
-use Rattle.import.proofs.after_digits.Goals.{After-run_length-count}
 
-pub slice_bounds-result-start : (c : After-run_length-count) → c.run_length-count.result ≤ length c.args.bytes.now
+pub slice_bounds-result-count : goal.slice_bounds-result-count
+slice_bounds-result-count c = omega (arith, c.run_length-count.ensures, (leading-front is_digit c.args.bytes.now).0)
+
+pub slice_bounds-result-start : goal.slice_bounds-result-start
 slice_bounds-result-start c = omega (arith, c.run_length-count.ensures, (leading-front is_digit c.args.bytes.now).0)
 
 pub returns : goal.returns

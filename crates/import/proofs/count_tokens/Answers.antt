@@ -1,10 +1,7 @@
 -- `count_tokens` meets its contract. The invariant: the tokens that start before i are counted.
-use mathlib.Core.Logic.{⊎_elim}
-use mathlib.Core.Path.{◌≡◌, sym, ◌∙◌}
-use Prim.Native.Nat.{◌≤◌, ◌-◌}
+use mathlib.Core.Path.{sym, ◌∙◌}
 use native.Mathlib.Omega.{arith}
-use lib.ListN.{length}
-use Rattle.import.proofs.TokensLaws.{before, before-none, before-start, before-other, before-few, before-all}
+use Rattle.import.proofs.TokensLaws.{before-none, before-start, before-other, before-few, before-all}
 use Rattle.import.proofs.count_tokens.Goals as goal
 use Rattle.import.proofs.count_tokens.Goals.{else-starts_token, then-starts_token}
 

@@ -1,10 +1,8 @@
 -- `count_tokens` meets its contract. The invariant: the tokens that start before i are counted.
-use mathlib.Core.Logic.{⊎_elim}
-use mathlib.Core.Path.{◌≡◌, sym, ◌∙◌}
+use mathlib.Core.Path.{◌≡◌}
 use Prim.Native.Nat.{◌≤◌, ◌-◌}
-use native.Mathlib.Omega.{arith}
 use lib.ListN.{length}
-use Rattle.import.proofs.TokensLaws.{before, before-none, before-start, before-other, before-few, before-all}
+use Rattle.import.proofs.TokensLaws.{before}
 use Rattle.import.proofs.count_tokens.Given as goal
 
 abbrev pub invariant-loop-i : goal.invariant-loop-i

@@ -2,7 +2,6 @@
 use mathlib.Core.Path.{ap, ap₂, ◌∙◌}
 use mathlib.Core.List.{List}
 use Prim.Native.Nat.{ℕ}
-use borrow.Author.Rules.{rules}
 use Rattle.import.specs.declared.Sum.{Sum}
 use Rattle.import.specs.Bytes.{leads, skip}
 use Rattle.import.specs.Grammar.{digits}
@@ -14,13 +13,8 @@ use Rattle.import.proofs.digits_kept.Goals as goal
 pub returns : goal.returns
 unfolding kept_of
 returns c =
-    let l = c.before in
-    let a = l.before in
-    let g = a.before in
-    let s = g.before.before in
-    let whole = s.args.whole in
-    let ds = g.digits_of-number.ensures ∙ ap digits (g.skipped.ensures ∙ ap (skip 43 45) s.skipped-signed.ensures) in
+    let ds = c.digits_of-number.ensures ∙ ap digits (c.skipped.ensures ∙ ap (skip 43 45) c.skipped-signed.ensures) in
     c.moved.ensures
-    ∙ ap₂ (kept whole) (l.leads_with.ensures ∙ ap (leads 45 45) s.skipped-signed.ensures)
-    (ap (λ (x : Sum). x.value) a.add_digits-read.ensures.0 ∙ read_all g.digits_of-number.result.now
+    ∙ ap₂ (kept c.args.whole) (c.leads_with.ensures ∙ ap (leads 45 45) c.skipped-signed.ensures)
+    (ap (λ (x : Sum). x.value) c.add_digits-read.ensures.0 ∙ read_all c.digits_of-number.result.now
     ∙ ap (λ (x : List ℕ). capped (decimal x)) ds)

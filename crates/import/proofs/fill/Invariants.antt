@@ -1,18 +1,13 @@
 -- `fill` meets its contract. The invariant: the front of the slice holds the samples of the tokens that start before i.
-use mathlib.Core.Logic.{⊎_elim}
 use mathlib.Core.List.{List}
-use mathlib.Core.Path.{◌≡◌, sym, ap, subst, ◌∙◌}
-use mathlib.Core.Bool.{true}
-use Prim.Native.Nat.{ℕ, ◌≤◌, ◌<◌, ◌+◌, ◌-◌}
-use native.Mathlib.Omega.{arith}
-use lib.IntN.{ℤ, pos}
+use mathlib.Core.Path.{◌≡◌}
+use Prim.Native.Nat.{ℕ, ◌≤◌, ◌-◌}
+use lib.IntN.{ℤ}
 use lib.ListN.{length}
-use Rattle.arith.proofs.Machine.{element}
-use Rattle.lattice.proofs.BufferLaws.{Filled, filled_none, filled_more, filled-length, filled-all}
-use Rattle.import.specs.Tokens.{starts_token, token_count, token_start, token_at}
-use Rattle.import.specs.Import.{sample_in, samples_of}
-use Rattle.import.proofs.TokensLaws.{before, before-none, before-start, before-other, before-count, before-all, start_is, start-counted}
-use Rattle.import.proofs.ImportLaws.{taken_at}
+use Rattle.lattice.proofs.BufferLaws.{Filled}
+use Rattle.import.specs.Tokens.{token_start, token_at}
+use Rattle.import.specs.Import.{sample_in}
+use Rattle.import.proofs.TokensLaws.{before}
 use Rattle.import.proofs.fill.Given as goal
 
 abbrev pub sample : List ℕ → ℕ → ℤ

@@ -1,6 +1,5 @@
 -- `fits_int` meets its contract: the tests are the definition's.
 use mathlib.Core.Path.{sym}
-use borrow.Author.Rules.{rules}
 use borrow.Author.Tests.{eq-eqb, ne_eqb, not-true, not-false}
 use Rattle.import.specs.Grammar.{fits_int}
 use Rattle.import.proofs.fits_int.Goals as goal

@@ -1,7 +1,6 @@
 -- `import` meets its contract: where the gate passes, its facts are what the body asks for; where it refuses, nothing is written.
 use mathlib.Core.Path.{sym, ap, ◌∙◌}
 use lib.ListN.{length}
-use borrow.Author.Rules.{rules}
 use Rattle.lattice.specs.Answers.{outcome_of}
 use Rattle.lattice.proofs.OutcomeLaws.{when-done, when-refused}
 use Rattle.import.specs.Import.{import_writes}
@@ -20,8 +19,11 @@ unfolding import_writes
 returns-in-Done c =
     let f = c.before in
     let d = f.before.before.before in
-    let e = d.check_import-answer.ensures in record { answer = e; written = f.fill.ensures ∙ when-done _ d.args.samples.now
-          (sym e ∙ ap outcome_of f.in-Done.is) }
+    let e = d.check_import-answer.ensures in record {
+      answer = e;
+      written = f.fill.ensures ∙ when-done _ d.args.samples.now
+          (sym e ∙ ap outcome_of f.in-Done.is);
+    }
 
 pub returns-in_default : goal.returns-in_default
 unfolding import_writes

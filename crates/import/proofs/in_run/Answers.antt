@@ -1,7 +1,6 @@
 -- `in_run` meets its contract: one kind, or the other.
 use mathlib.Core.Path.{sym, ap, ◌∙◌}
 use mathlib.Core.Bool.{Bool, not}
-use borrow.Author.Rules.{rules}
 use Rattle.import.specs.Parts.{run_kind}
 use Rattle.import.proofs.in_run.Goals as goal
 

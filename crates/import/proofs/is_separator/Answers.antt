@@ -1,13 +1,15 @@
 -- `is_separator` meets its contract: the tests are the definition's.
-use mathlib.Core.Logic.{⊎_elim}
 use borrow.Author.Tests.{eq-eqb, ne_eqb}
 use Rattle.import.specs.Tokens.{separator}
 use Rattle.import.proofs.is_separator.Goals as goal
-use Rattle.import.proofs.is_separator.Goals.{else-b-eq32, then-b-eq32}
+use Rattle.import.proofs.is_separator.Goals.{then-b-eq32-via-then-b-eq32, then-b-eq32-via-else-b-eq32+then-b-eq9}
 
 pub returns-then-b-eq32 : goal.returns-then-b-eq32
 unfolding separator
-returns-then-b-eq32 c = elim c.if-b-eq32.branch [ then-b-eq32 w ↦ simp (eq-eqb _ _ w.true) | else-b-eq32 w ↦ simp (ne_eqb _ _ w.if-b-eq32.false, w.??-is.true) ]
+returns-then-b-eq32 c = elim c.then-b-eq32.branch [
+  | then-b-eq32-via-then-b-eq32 w ↦ simp (eq-eqb _ _ w.if-b-eq32.true)
+  | then-b-eq32-via-else-b-eq32+then-b-eq9 w ↦ simp w.if-b-eq9.true
+]
 
 pub returns-then-b-eq10 : goal.returns-then-b-eq10
 unfolding separator

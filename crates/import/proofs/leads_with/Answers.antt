@@ -2,7 +2,6 @@
 use mathlib.Core.Path.{sym, ◌∙◌}
 use native.Mathlib.Omega.{arith}
 use borrow.Author.Tests.{eq-eqb, ne_eqb}
-use borrow.Author.Rules.{rules}
 use Rattle.import.proofs.BytesLaws.{leads-none, leads-first}
 use Rattle.import.proofs.leads_with.Goals as goal
 

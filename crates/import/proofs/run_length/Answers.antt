@@ -1,10 +1,7 @@
 -- `run_length` meets its contract. The invariant: all bytes before i belong to the run.
-use mathlib.Core.Path.{◌≡◌, sym, ◌∙◌}
-use Prim.Native.Nat.{◌≤◌, ◌+◌, ◌-◌}
+use mathlib.Core.Path.{sym, ◌∙◌}
 use native.Mathlib.Omega.{arith}
-use lib.ListN.{length, drop}
 use borrow.Author.Tests.{not-true, not-false}
-use Rattle.import.specs.Bytes.{leading}
 use Rattle.import.specs.Parts.{run_kind}
 use Rattle.import.proofs.BytesLaws.{run_end, run-stops, run_more}
 use Rattle.import.proofs.run_length.Goals as goal

@@ -4,7 +4,6 @@ use Prim.Native.Nat.{ℕ}
 use native.Mathlib.Omega.{arith}
 use lib.ListN.{take}
 use lib.Seq.{length-take-le}
-use borrow.Author.Rules.{rules}
 use Rattle.import.specs.Parts.{run_kind}
 use Rattle.import.proofs.BytesLaws.{leading-front}
 use Rattle.import.proofs.run_of.Goals as goal

@@ -5,7 +5,6 @@ use mathlib.Core.List.{List}
 use Prim.Native.Nat.{ℕ}
 use native.Mathlib.Omega.{arith}
 use lib.IntN.{pos, neg_ℤ}
-use borrow.Author.Rules.{rules}
 use Rattle.arith.specs.Choice.{pick}
 use Rattle.arith.proofs.Machine.{element}
 use Rattle.import.specs.Bytes.{leads}
@@ -15,11 +14,6 @@ use Rattle.import.specs.Import.{sample_in}
 use Rattle.import.specs.Parts.{Taken}
 use Rattle.import.proofs.ImportLaws.{taken-size}
 use Rattle.import.proofs.sample_at.Goals as goal
-use Rattle.import.proofs.sample_at.Goals.{After-token_at-token}
-
--- the token as it is lent
-token-fine : (d : After-token_at-token) → Taken d.token_at-token.result.now
-token-fine d = subst Taken (sym d.token_at-token.ensures) d.requires.1
 
 sample-is : (token : List ℕ) → pick (leads 45 45 token) (neg_ℤ (pos (units (number_in token)))) (pos (units (number_in token)))
     ≡ sample_in token
@@ -28,19 +22,17 @@ sample-is token = refl
 
 pub signed-requires : goal.signed-requires
 signed-requires c =
-    let m = c.before in
-    let t = token-fine m.before in
-    omega (arith, taken-size _ _ t m.measure-m.ensures, t.small)
+    -- the token as it is lent
+    let t = subst Taken (sym c.token_at-token.ensures) c.requires.1 in
+    omega (arith, taken-size _ _ t c.measure-m.ensures, t.small)
 
 pub returns : goal.returns
 returns c =
-    let l = c.before in
-    let m = l.before in
-    let d = m.before in
+    let t = subst Taken (sym c.token_at-token.ensures) c.requires.1 in
     element c.signed.result c.signed.type_inv ∙ c.signed.ensures
-    ∙ ap₂ (λ (v : ℕ) (b : Bool). pick b (neg_ℤ (pos v)) (pos v)) (taken-size _ _ (token-fine d) m.measure-m.ensures)
-    l.leads_with.ensures
-    ∙ sample-is d.token_at-token.result.now ∙ ap sample_in d.token_at-token.ensures
+    ∙ ap₂ (λ (v : ℕ) (b : Bool). pick b (neg_ℤ (pos v)) (pos v)) (taken-size _ _ t c.measure-m.ensures)
+    c.leads_with.ensures
+    ∙ sample-is c.token_at-token.result.now ∙ ap sample_in c.token_at-token.ensures
 
 pub measure-m-requires : goal.measure-m-requires
-measure-m-requires c = (token-fine c).short
+measure-m-requires c = (subst Taken (sym c.token_at-token.ensures) c.requires.1).short

@@ -2,7 +2,6 @@
 use mathlib.Core.Path.{◌≡◌, sym, ◌∙◌}
 use mathlib.Core.Bool.{true}
 use native.Mathlib.Omega.{arith}
-use borrow.Author.Rules.{rules}
 use borrow.Author.Rules.{part_to_end}
 use Rattle.import.specs.Bytes.{leads}
 use Rattle.import.proofs.BytesLaws.{leads-some, skip-one, skip-none}
@@ -15,9 +14,8 @@ led c = sym c.leads_with.ensures ∙ c.if-leads_with.true
 
 pub returns-then-leads_with : goal.returns-then-leads_with
 returns-then-leads_with c =
-    let t = c.before in
-    let a = t.args in
-    part_to_end a.bytes.now 1 ∙ sym (skip-one a.x a.y a.bytes.now (led t))
+    let a = c.args in
+    part_to_end a.bytes.now 1 ∙ sym (skip-one a.x a.y a.bytes.now (sym c.leads_with.ensures ∙ c.if-leads_with.true))
 
 pub returns : goal.returns
 returns c = sym (skip-none _ _ _ (sym c.leads_with.ensures ∙ c.if-leads_with.false))

@@ -1,6 +1,5 @@
 -- `starts_token` meets its contract.
 use mathlib.Core.Path.{sym, ◌∙◌}
-use borrow.Author.Rules.{rules}
 use borrow.Author.Tests.{eq-eqb, ne_eqb}
 use Rattle.import.specs.Tokens.{starts_token}
 use Rattle.import.proofs.starts_token.Goals as goal

@@ -1,6 +1,5 @@
 -- `token_at` meets its contract: the run at the front of what follows.
 use mathlib.Core.Path.{ap, ◌∙◌}
-use borrow.Author.Rules.{rules}
 use borrow.Author.Rules.{part_to_end}
 use Rattle.import.specs.Bytes.{leading}
 use Rattle.import.specs.Tokens.{other, token_at}
