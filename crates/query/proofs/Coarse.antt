@@ -20,7 +20,7 @@ use Rattle.arith.proofs.Machine.{element}
 use Rattle.arith.proofs.Bits.{same_test}
 use Rattle.lattice.specs.declared.Shape.{Shape}
 use Rattle.lattice.specs.declared.FullShape.{FullShape}
-use Rattle.lattice.specs.Outcome.{Outcome, Check, done, refused, refuse_unless, first, first_of, passed}
+use Rattle.lattice.specs.Outcome.{Outcome, Check, done, refuse_unless, first, first_of, passed}
 use Rattle.lattice.specs.Buffer.{at}
 use Rattle.lattice.specs.Shape.{count, steps_on, size, step_number, steps_allowed, step_numbers_outcome, shape_outcome, full_outcome, finest_on, Shaped}
 use Rattle.lattice.specs.Axes.{Place}

@@ -31,7 +31,7 @@ use Rattle.lattice.proofs.StepLaws.{full-shape, full-stepped}
 use Rattle.lattice.proofs.OutcomeLaws.{first_passes, first-passed, first-after}
 use Rattle.hermite.specs.Hermite.{steps}
 use Rattle.cell.specs.Cell.{place_at, cell_outcome}
-use Rattle.cell.proofs.CellLaws.{place-beyond, three, indices, cell-passes}
+use Rattle.cell.proofs.CellLaws.{place-beyond, indices, cell-passes}
 use Rattle.evaluate.specs.Evaluate.{Want}
 use Rattle.query.specs.declared.Reading.{Reading}
 use Rattle.query.specs.Answers.{outcome_of_reading, Marks}

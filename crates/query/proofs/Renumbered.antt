@@ -20,7 +20,7 @@ use Rattle.lattice.specs.Records.{records_field, entry_index, entry_limit}
 use Rattle.cell.specs.Cell.{corner_entries, corner_place, entry_outcome, corners_outcome}
 use Rattle.evaluate.specs.Evaluate.{Want, dose, derivative_along}
 use Rattle.query.specs.Parts.{renumbered, below, position_number, number_by}
-use Rattle.query.specs.Queries.{want_outcome, asked_outcome, reading, by_cell}
+use Rattle.query.specs.Queries.{want_outcome, asked_outcome, reading}
 
 -- the numbers of a position's test
 abbrev pub of_position : ℕ → Bool

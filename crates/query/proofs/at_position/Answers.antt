@@ -2,19 +2,17 @@
 use mathlib.Core.Path.{◌≡◌, refl, sym, subst}
 use mathlib.Core.Bool.{true, false}
 use mathlib.Core.List.{[], ◌∷◌}
-use mathlib.Core.Logic.{⊎_elim}
 use Prim.Native.Nat.{ℕ}
 use lib.ListN.{get_or}
-use borrow.Author.Rules.{rules}
 use Rattle.arith.proofs.Choices.{by-3, clash}
 use Rattle.lattice.specs.Buffer.{at}
 use Rattle.evaluate.specs.Wants.{wanted}
 use Rattle.query.specs.Answers.{InFinest}
 use Rattle.query.specs.Parts.{Finest, StandsFor, Stand}
 use Rattle.query.proofs.Locate.{stands-for}
-use Rattle.query.proofs.CoarseCalls.{itself, back, moved, position-told, by-position-stopped}
+use Rattle.query.proofs.CoarseCalls.{itself, moved, position-told, by-position-stopped}
 use Rattle.query.proofs.at_position.Goals as goal
-use Rattle.query.proofs.at_position.Goals.{After-unsigned-x, After-unsigned-y, After-unsigned-z, Start, else-not-is_finest, then-not-is_finest}
+use Rattle.query.proofs.at_position.Goals.{After-unsigned-x, After-unsigned-y, After-unsigned-z, Start, then-not-is_finest+in-At, else-not-is_finest}
 
 never : {A : Type 0} → false ≡ true → A
 never e = clash (cc)
@@ -55,7 +53,10 @@ returns c =
     let xs = (x z).unsigned-x.result ∷ (y z).unsigned-y.result ∷ z.unsigned-z.result ∷ [] in
     let ys = d.if-not-is_finest.x ∷ d.if-not-is_finest.y ∷ d.if-not-is_finest.z ∷ [] in
     let fine : Finest a.t xs ys =
-    elim d.if-not-is_finest.branch [ then-not-is_finest w ↦ moved a.t xs _ _ _ _ _ _ w.5 w.6 w.7 (subst (InFinest a.t xs) w.3.given.1 w.there-1-is.ensures) | else-not-is_finest w ↦ itself a.t (f.is_finest.ensures (back _ w.0.left)) xs ys
-    (by-3 (λ (a : ℕ). get_or ys a 0 ≡ get_or xs a 0) w.there-1-is w.2 w.3) ] in let both = position-told a.t a.records.now (wanted a.q.derivative) a.q.position xs ys (stand z) fine c.read.result
+    elim d.if-not-is_finest.branch [
+      | then-not-is_finest+in-At w ↦ moved a.t xs _ _ _ _ _ _ w.x-is w.y-is w.z-is (subst (InFinest a.t xs) w.in-At.is w.finer_of.ensures)
+      | else-not-is_finest w ↦ itself a.t (f.is_finest.ensures w.if-not-is_finest.false) xs ys
+          (by-3 (λ (a : ℕ). get_or ys a 0 ≡ get_or xs a 0) w.x-is w.y-is w.z-is)
+    ] in let both = position-told a.t a.records.now (wanted a.q.derivative) a.q.position xs ys (stand z) fine c.read.result
     (c.read.ensures.result_value_2 refl) in
     record { result_value = both.0; marks = both.1 }

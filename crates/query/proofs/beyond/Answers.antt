@@ -2,7 +2,6 @@
 use mathlib.Core.Path.{sym, ap, ◌∙◌}
 use Rattle.lattice.specs.Answers.{outcome_of}
 use Rattle.lattice.proofs.OutcomeLaws.{refused-first, passed-not}
-use borrow.Author.Rules.{rules}
 use Rattle.query.proofs.beyond.Goals as goal
 
 pub returns-in-Refused : goal.returns-in-Refused

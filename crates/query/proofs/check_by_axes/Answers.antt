@@ -1,7 +1,6 @@
 -- `query::check_by_axes` meets its contract: the number of axes as a literal is the number of axes; any other is refused 1.
 use mathlib.Core.Path.{sym, ◌∙◌}
 use native.Mathlib.Omega.{arith}
-use borrow.Author.Rules.{rules}
 use Rattle.lattice.specs.Shape.{shape_outcome, full_outcome}
 use Rattle.lattice.proofs.OutcomeLaws.{refused-first}
 use Rattle.lattice.proofs.ShapeLaws.{no-axes}

@@ -2,7 +2,6 @@
 use mathlib.Core.Path.{ap, ap₂, ◌∙◌}
 use Prim.Native.Nat.{ℕ}
 use lib.Dec.{ltb}
-use borrow.Author.Rules.{rules}
 use Rattle.lattice.specs.Outcome.{Check, refuse_unless, first}
 use Rattle.query.specs.Queries.{want_outcome}
 use Rattle.query.proofs.check_derivative.Goals as goal

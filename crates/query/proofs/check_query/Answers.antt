@@ -2,7 +2,6 @@
 use mathlib.Core.Path.{sym, ap, ◌∙◌}
 use Rattle.lattice.specs.Answers.{outcome_of}
 use Rattle.lattice.proofs.OutcomeLaws.{first-passed, refused-first}
-use borrow.Author.Rules.{rules}
 use Rattle.query.specs.Queries.{tested_outcome}
 use Rattle.query.proofs.check_query.Goals as goal
 

@@ -1,7 +1,6 @@
 -- `query::factor_on` meets its contract: the factor of a used and of an unused axis.
 use mathlib.Core.Path.{refl, sym, ◌∙◌}
 use lib.Dec.{ltb, lit≤}
-use borrow.Author.Rules.{rules}
 use borrow.Author.Tests.{eq-eqb, ne_eqb, lt-ltb, le-ltb}
 use Rattle.arith.proofs.Choices.{clash, pick_true, pick-false}
 use Rattle.lattice.proofs.StepLaws.{steps-used-is, steps-unused-is}

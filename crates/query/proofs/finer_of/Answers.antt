@@ -2,11 +2,10 @@
 use mathlib.Core.Path.{◌≡◌, sym, ap, ◌∙◌}
 use mathlib.Core.Bool.{false}
 use mathlib.Core.List.{[], ◌∷◌}
-use mathlib.Core.Logic.{⊎_elim, inl, inr}
+use mathlib.Core.Logic.{inl, inr}
 use Prim.Native.Nat.{ℕ}
 use lib.Dec.{eqb}
 use lib.ListN.{get_or}
-use borrow.Author.Rules.{rules}
 use borrow.Author.Tests.{eq-eqb}
 use Rattle.arith.proofs.Choices.{by-3, clash}
 use Rattle.lattice.specs.Answers.{outcome_of}
@@ -14,7 +13,7 @@ use Rattle.lattice.specs.Shape.{steps_on}
 use Rattle.query.specs.Parts.{scaled}
 use Rattle.query.proofs.CoarseCalls.{Factor, in-factors}
 use Rattle.query.proofs.finer_of.Goals as goal
-use Rattle.query.proofs.finer_of.Goals.{else-f-eq0, then-f-eq0}
+use Rattle.query.proofs.finer_of.Goals.{then-f-eq0+in_default, else-f-eq0+else-g-eq0+else-h-eq0}
 
 some-factor : (k : ℕ) → eqb k 0 ≡ false → k ≡ 0 → ⊥
 some-factor k h e = let i = eq-eqb k 0 e in clash (cc)
@@ -40,7 +39,10 @@ returns c =
     (by-3 (λ (i : ℕ). get_or (c.scaled.result ∷ c.scaled-2.result ∷ c.scaled-3.result ∷ []) i 0
     ≡ scaled (factor i) (get_or (a.x ∷ a.y ∷ a.z ∷ []) i 0)) c.scaled.ensures c.scaled-2.ensures
     c.scaled-3.ensures)
-    (elim j.if-f-eq0.branch [ then-f-eq0 w ↦ inl (sym w.scaled-is.ensures ∙ ap outcome_of w.3.given.1) | else-f-eq0 w ↦ inr (by-3 (λ (i : ℕ). factor i ≡ 0 → ⊥) w.0.left (some-factor _ w.scaled-is.left) (some-factor _ w.2.left)) ])
+    (elim j.if-f-eq0.branch [
+      | then-f-eq0+in_default w ↦ inl (sym w.check_full.ensures ∙ ap outcome_of w.in_default.is)
+      | else-f-eq0+else-g-eq0+else-h-eq0 w ↦ inr (by-3 (λ (i : ℕ). factor i ≡ 0 → ⊥) w.if-f-eq0.false w.if-g-eq0.false w.if-h-eq0.false)
+    ])
 
 pub scaled-requires : goal.scaled-requires
 scaled-requires c = c.factor_on-f.ensures.2

@@ -2,20 +2,18 @@
 use mathlib.Core.Path.{◌≡◌, refl, sym, subst}
 use mathlib.Core.Bool.{true, false}
 use mathlib.Core.List.{List, [], ◌∷◌}
-use mathlib.Core.Logic.{⊎_elim}
 use Prim.Native.Nat.{ℕ}
 use native.Mathlib.Omega.{arith}
 use lib.ListN.{get_or}
-use borrow.Author.Rules.{rules}
 use Rattle.arith.proofs.Choices.{by-3, clash}
 use Rattle.lattice.specs.declared.FullShape.{FullShape}
 use Rattle.cell.specs.Cell.{place_at}
 use Rattle.evaluate.specs.Wants.{wanted}
 use Rattle.query.specs.Answers.{InFinest}
 use Rattle.query.specs.Parts.{Finest, finest, scaled}
-use Rattle.query.proofs.CoarseCalls.{itself, back, moved, in-cell-told, by-cell-stopped, one_by_one}
+use Rattle.query.proofs.CoarseCalls.{itself, moved, in-cell-told, by-cell-stopped, one_by_one}
 use Rattle.query.proofs.in_cell.Goals as goal
-use Rattle.query.proofs.in_cell.Goals.{else-not-is_finest, then-not-is_finest}
+use Rattle.query.proofs.in_cell.Goals.{then-not-is_finest+in-At, else-not-is_finest}
 
 never : {A : Type 0} → false ≡ true → A
 never e = clash (cc)
@@ -32,7 +30,6 @@ from_each t xs ys h = record {
   each = by-3 (λ (a : ℕ). get_or ys a 0 ≡ scaled (h.factor a) (get_or xs a 0)) (h.each 0 (omega arith)) (h.each 1 (omega arith))
       (h.each 2 (omega arith));
   right = h.right;
-
 }
 
 pub returns-in-Refused : goal.returns-in-Refused
@@ -50,9 +47,12 @@ returns c =
     let xs = a.q.step in
     let ys = d.if-not-is_finest.x ∷ d.if-not-is_finest.y ∷ d.if-not-is_finest.z ∷ [] in
     let fine : Finest a.t xs ys =
-    elim d.if-not-is_finest.branch [ then-not-is_finest w ↦ from_each a.t xs ys
-    (moved a.t (one_each xs) _ _ _ _ _ _ w.5 w.6 w.7 (subst (InFinest a.t (one_each xs)) w.3.given.1 w.there-1-is.ensures)) | else-not-is_finest w ↦ itself a.t (f.is_finest.ensures (back _ w.0.left)) xs ys
-    (by-3 (λ (a : ℕ). get_or ys a 0 ≡ get_or xs a 0) w.there-1-is w.2 w.3) ] in let both = in-cell-told a.t a.records.now (wanted a.q.derivative) (place_at a.q.cell) xs ys fine c.read.result
+    elim d.if-not-is_finest.branch [
+      | then-not-is_finest+in-At w ↦ from_each a.t xs ys
+          (moved a.t (one_each xs) _ _ _ _ _ _ w.x-is w.y-is w.z-is (subst (InFinest a.t (one_each xs)) w.in-At.is w.finer_of.ensures))
+      | else-not-is_finest w ↦ itself a.t (f.is_finest.ensures w.if-not-is_finest.false) xs ys
+          (by-3 (λ (a : ℕ). get_or ys a 0 ≡ get_or xs a 0) w.x-is w.y-is w.z-is)
+    ] in let both = in-cell-told a.t a.records.now (wanted a.q.derivative) (place_at a.q.cell) xs ys fine c.read.result
     (one_by_one (finest a.t.shape a.t.second_edition) a.records.now (wanted a.q.derivative) c.read.result
     a.q.cell (place_at ys) (c.read.ensures.result_value refl)) in
     record { result_value = both.0; marks = both.1 }

@@ -3,7 +3,6 @@ use mathlib.Core.Path.{◌≡◌, sym, ◌∙◌}
 use Prim.Native.Nat.{ℕ, ◌≤◌}
 use native.Mathlib.Omega.{arith}
 use lib.Dec.{ltb}
-use borrow.Author.Rules.{rules}
 use borrow.Author.Tests.{eqb-true, lt-ltb}
 use Rattle.arith.proofs.Choices.{clash, pick_true, by-3}
 use Rattle.lattice.specs.Shape.{steps_on, finest_on}

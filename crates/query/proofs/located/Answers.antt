@@ -1,9 +1,7 @@
 -- `query::located` meets its contract: the cells of the used axes, and what is beyond their starts.
 use mathlib.Core.Path.{◌≡◌, sym, ap, ◌∙◌}
-use mathlib.Core.Logic.{⊎_elim}
 use Prim.Native.Nat.{ℕ, ◌*◌, ◌-◌}
 use lib.ListN.{get_or}
-use borrow.Author.Rules.{rules}
 use Rattle.lattice.specs.Shape.{count}
 use Rattle.query.specs.Parts.{cell_on}
 use Rattle.query.proofs.Locate.{cell_below, used-cell, unused-cell}
@@ -18,11 +16,17 @@ returns c =
     let f = e in
     let a = f.args in
     let y : (e.if-n-gt1.j ≡ cell_on a.s 1 (get_or a.at 1 0)) × (e.if-n-gt1.v ≡ get_or a.at 1 0 - 256 * e.if-n-gt1.j) =
-    elim e.if-n-gt1.branch [ then-n-gt1 w ↦ used-cell a.s 1 (get_or a.at 1 0) e.if-n-gt1.j e.if-n-gt1.v w.0.taken (w.4 ∙ w.2.ensures)
-    (w.5 ∙ w.3.ensures ∙ ap (λ (i : ℕ). get_or a.at 1 0 - 256 * i) (sym w.4)) | else-n-gt1 w ↦ unused-cell a.s 1 (get_or a.at 1 0) e.if-n-gt1.j e.if-n-gt1.v w.0.left w.if-n-gt2-is w.2 ] in
+    elim e.if-n-gt1.branch [
+      | then-n-gt1 w ↦ used-cell a.s 1 (get_or a.at 1 0) e.if-n-gt1.j e.if-n-gt1.v w.if-n-gt1.true (w.j-is ∙ w.cell_of-j.ensures)
+          (w.v-is ∙ w.rest_of-v.ensures ∙ ap (λ (i : ℕ). get_or a.at 1 0 - 256 * i) (sym w.j-is))
+      | else-n-gt1 w ↦ unused-cell a.s 1 (get_or a.at 1 0) e.if-n-gt1.j e.if-n-gt1.v w.if-n-gt1.false w.j-is w.v-is
+    ] in
     let z : (d.if-n-gt2.k ≡ cell_on a.s 2 (get_or a.at 2 0)) × (d.if-n-gt2.w ≡ get_or a.at 2 0 - 256 * d.if-n-gt2.k) =
-    elim d.if-n-gt2.branch [ then-n-gt2 w ↦ used-cell a.s 2 (get_or a.at 2 0) d.if-n-gt2.k d.if-n-gt2.w w.0.taken (w.4 ∙ w.2.ensures)
-    (w.5 ∙ w.3.ensures ∙ ap (λ (i : ℕ). get_or a.at 2 0 - 256 * i) (sym w.4)) | else-n-gt2 w ↦ unused-cell a.s 2 (get_or a.at 2 0) d.if-n-gt2.k d.if-n-gt2.w w.0.left w.rest_of-is w.2 ] in
+    elim d.if-n-gt2.branch [
+      | then-n-gt2 v ↦ used-cell a.s 2 (get_or a.at 2 0) d.if-n-gt2.k d.if-n-gt2.w v.if-n-gt2.true (v.k-is ∙ v.cell_of-k.ensures)
+          (v.w-is ∙ v.rest_of-w.ensures ∙ ap (λ (i : ℕ). get_or a.at 2 0 - 256 * i) (sym v.k-is))
+      | else-n-gt2 v ↦ unused-cell a.s 2 (get_or a.at 2 0) d.if-n-gt2.k d.if-n-gt2.w v.if-n-gt2.false v.k-is v.w-is
+    ] in
     (f.cell_of-i.ensures, c.rest_of.ensures, y.0, y.1, z.0, z.1)
 
 pub rest_of-v-requires : goal.rest_of-v-requires

@@ -1,7 +1,6 @@
 -- `query::number_by` meets its contract: by cell the number stays.
 use mathlib.Core.Path.{sym, ap, ◌∙◌}
 use mathlib.Core.Bool.{Bool}
-use borrow.Author.Rules.{rules}
 use Rattle.cell.specs.Cell.{place_at}
 use Rattle.query.specs.Parts.{number_by}
 use Rattle.query.proofs.Renumbered.{number-by-cell, number-by-position}

@@ -1,6 +1,5 @@
 -- `query::read_lattice` meets its contract: within the limits the stages are the answer, else the refusal is 5.
 use mathlib.Core.Path.{refl}
-use borrow.Author.Rules.{rules}
 use Rattle.cell.specs.Cell.{place_at}
 use Rattle.evaluate.specs.Wants.{want_of}
 use Rattle.query.proofs.QueryLaws.{Reader, reader}
@@ -21,20 +20,22 @@ layout_of-l-requires c =
 pub lattice_within-requires : goal.lattice_within-requires
 lattice_within-requires c =
     let b = c.before in
-    let a = (reads b).corners-asks c.layout_of-l.result c.layout_of-l.ensures in let both = (a.0, (a.1, (refl, b.requires.le_axes))) in
-    record { shaped = both.0; accepted = both.1; n_value = both.2 }
+    let a = (reads b).corners-asks c.layout_of-l.result c.layout_of-l.ensures in record { shaped = a.0; accepted = a.1; n_value = (refl, b.requires.le_axes) }
 
 pub on_lattice-requires : goal.on_lattice-requires
 on_lattice-requires c = let w = c in
     let l = w in
-    let b = l.before.before.before in record { ready = (reads b).stages-ask l.layout_of-l.result l.layout_of-l.ensures w.lattice_within.result w.lattice_within.ensures
-          c.if-lattice_within.true; le_axes = b.requires.le_axes }
+    let b = l.before.before.before in record {
+      ready = (reads b).stages-ask l.layout_of-l.result l.layout_of-l.ensures w.lattice_within.result w.lattice_within.ensures
+          c.if-lattice_within.true;
+      le_axes = b.requires.le_axes;
+    }
 
 pub returns-then-lattice_within : goal.returns-then-lattice_within
 returns-then-lattice_within c =
     let v = c.on_lattice in
     let w = c in let both = (reads w.before.before.before.before.before).answered w.lattice_within.result w.lattice_within.ensures c.if-lattice_within.true
-    c.reading_of.result v.result c.reading_of.ensures v.ensures in
+    c.reading_of.result v.result c.reading_of.ensures (v.ensures.number_value, v.ensures.exact_value) in
     record { result_value = both.0; marks = both.1 }
 
 pub beyond-requires : goal.beyond-requires
@@ -42,7 +43,7 @@ beyond-requires c =
     let w = c in
     let l = w in let both = (reads l.before.before.before).beyond-asks l.layout_of-l.result l.layout_of-l.ensures w.lattice_within.result w.lattice_within.ensures
     c.if-lattice_within.false in
-    record { shaped = both.0; accepted = both.1; cell_value = both.2 }
+    record { shaped = both.0; accepted = both.1.0; cell_value = both.1.1 }
 
 pub returns : goal.returns
 returns c =

@@ -1,5 +1,4 @@
 -- `query::read_line` meets its contract: within the limits the stage is the answer, else the refusal is 5.
-use borrow.Author.Rules.{rules}
 use Rattle.cell.specs.Cell.{place_at}
 use Rattle.evaluate.specs.Wants.{want_of}
 use Rattle.query.proofs.QueryLaws.{Reader, reader}
@@ -20,20 +19,22 @@ layout_of-l-requires c =
 pub line_within-requires : goal.line_within-requires
 line_within-requires c =
     let b = c.before in
-    let a = (reads b).corners-asks c.layout_of-l.result c.layout_of-l.ensures in let both = (a.0, (a.1, b.requires.axes_value)) in
-    record { shaped = both.0; accepted = both.1; axes_value = both.2 }
+    let a = (reads b).corners-asks c.layout_of-l.result c.layout_of-l.ensures in record { shaped = a.0; accepted = a.1; axes_value = b.requires.axes_value }
 
 pub on_line-requires : goal.on_line-requires
 on_line-requires c = let w = c in
     let l = w in
-    let b = l.before.before.before in record { ready = (reads b).stages-ask l.layout_of-l.result l.layout_of-l.ensures w.line_within.result w.line_within.ensures
-          c.if-line_within.true; axes_value = b.requires.axes_value }
+    let b = l.before.before.before in record {
+      ready = (reads b).stages-ask l.layout_of-l.result l.layout_of-l.ensures w.line_within.result w.line_within.ensures
+          c.if-line_within.true;
+      axes_value = b.requires.axes_value;
+    }
 
 pub returns-then-line_within : goal.returns-then-line_within
 returns-then-line_within c =
     let v = c.on_line in
     let w = c in let both = (reads w.before.before.before.before.before).answered w.line_within.result w.line_within.ensures c.if-line_within.true
-    c.reading_of.result v.result c.reading_of.ensures v.ensures in
+    c.reading_of.result v.result c.reading_of.ensures (v.ensures.number_value, v.ensures.exact_value) in
     record { result_value = both.0; marks = both.1 }
 
 pub beyond-requires : goal.beyond-requires
@@ -41,7 +42,7 @@ beyond-requires c =
     let w = c in
     let l = w in let both = (reads l.before.before.before).beyond-asks l.layout_of-l.result l.layout_of-l.ensures w.line_within.result w.line_within.ensures
     c.if-line_within.false in
-    record { shaped = both.0; accepted = both.1; cell_value = both.2 }
+    record { shaped = both.0; accepted = both.1.0; cell_value = both.1.1 }
 
 pub returns : goal.returns
 returns c =

@@ -1,6 +1,5 @@
 -- `query::scaled` meets its contract: the product as far as any table reaches, the number itself beyond.
 use mathlib.Core.Path.{sym}
-use Rattle.query.specs.Parts.{scaled}
 use Rattle.query.proofs.Coarse.{scaled-low, scaled-high, product-fits}
 use Rattle.query.proofs.scaled.Goals as goal
 

@@ -1,6 +1,5 @@
 -- `query::scaled_position` meets its contract: a position below 0 stands in two's complement beyond every table, and stays.
 use mathlib.Core.Path.{◌∙◌}
-use borrow.Author.Rules.{rules}
 use Rattle.arith.proofs.Machine.{element}
 use Rattle.query.proofs.Coarse.{product-fits, product_small, product_is, beyond-is}
 use Rattle.query.proofs.Locate.{stands-for}

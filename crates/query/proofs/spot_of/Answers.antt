@@ -1,6 +1,5 @@
 -- `query::spot_of` meets its contract: the numbers of the query, or those that are found.
 use mathlib.Core.Path.{refl}
-use borrow.Author.Rules.{rules}
 use Rattle.arith.proofs.Choices.{clash}
 use Rattle.query.proofs.spot_of.Goals as goal
 

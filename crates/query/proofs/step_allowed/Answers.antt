@@ -1,5 +1,4 @@
 -- `query::step_allowed` meets its contract: the tests of a used and of an unused axis.
-use borrow.Author.Rules.{rules}
 use Rattle.query.proofs.step_allowed.Goals as goal
 
 pub returns : goal.returns

@@ -16,8 +16,8 @@ use Rattle.arith.proofs.Machine.{element}
 use Rattle.arith.proofs.Sums.{dot-sum, dot-term}
 use Rattle.lattice.specs.Buffer.{at}
 use Rattle.powers.specs.Parts.{row_sum, row_load}
-use Rattle.powers.proofs.by_row.Statement.{statement}
-use Rattle.powers.proofs.by_row.Tie as tie
+use Rattle.powers.proofs.by_row.Goals as goal
+use Rattle.powers.proofs.by_row.Goals.{After-sum-in-loop-k-1}
 
 abbrev held : ℤ → ℤ
 held z = to_z w32 (of_z w32 z)
@@ -60,50 +60,57 @@ module _ (m xs : List ℤ) (r : ℕ) (low : row_load m xs r < 2 ^ 31) (z : ℤ) 
         sum_is = rw more (to_z-of_z {w = w32} more-fits);
       }
 
-abbrev invariant-loop : tie.invariant-loop
-invariant-loop m r xs z₀ k₀ z k = (k ≤ 16) × (to_z w32 z ≡ sum k (λ K. at m (16 * r + K) *ℤ at xs K))
-
-abbrev decreases-loop : tie.decreases-loop
-decreases-loop m r xs z₀ k₀ z k = 16 - k
-
-loop-holds : tie.Need-loop-init invariant-loop decreases-loop
+pub loop-k-init : goal.loop-k-init
 unfolding sum
-loop-holds c = (omega arith, refl)
+loop-k-init c = (omega arith, refl)
 
-adds : (c : tie.After-sum2 invariant-loop decreases-loop)
-    → Added c.before.before.before.before.args.matrix.now c.before.before.before.before.args.xs.now
-    c.before.before.before.before.args.r (to_z w32 c.before.before.before.loop.sum) c.before.before.before.loop.k
+adds : (c : After-sum-in-loop-k-1)
+    → Added c.args.matrix.now c.args.xs.now
+    c.args.r (to_z w32 c.loop-k.sum-bits) c.loop-k.k
 adds c =
-    let i = c.before.before in
-    let w = i.before.loop in
-    let s = i.before.before in
-    added s.args.matrix.now s.args.xs.now s.args.r s.requires.1 (to_z w32 w.sum) w.k i.loop-test.true w.invariant.1
-    c.before.sum.given c.sum2.given
+    let i = c in
+    let w = i.loop-k in
+    let s = i in
+    added s.args.matrix.now s.args.xs.now s.args.r s.requires.1 (to_z w32 w.sum) w.k i.loop-k-test.true w.invariant.1
+    c.sum-1.given c.sum-in-loop-k-1.given
 
-returns : tie.Need-returns invariant-loop decreases-loop
+pub returns : goal.returns
 unfolding row_sum
 returns c =
-    let w = c.before.loop in
-    let s = c.before.before.args in
+    let w = c.loop-k in
+    let s = c.args in
     let e : w.k ≡ 16 = omega arith in
     w.invariant.1 ∙ ap (λ (n : ℕ). sum n (λ K. at s.matrix.now (16 * s.r + K) *ℤ at s.xs.now K)) e
 
-pub by-row-spec : {M : Type 1} → statement M
-by-row-spec =
-    tie.close
-    (tie.spec
-    invariant-loop
-    decreases-loop
-    loop-holds
-    (λ c. let h = c.before.before.requires in omega arith)
-    (λ c. let h = c.before.before.requires in omega arith)
-    (λ c. let h = c.before.before.requires in omega arith)
-    (λ c. let h = c.before.before.requires in omega arith)
-    (λ c. omega arith)
-    (λ c. omega arith)
-    (λ c. (adds c).product-fits)
-    (λ c. (adds c).sum_fits)
-    (λ c. omega arith)
-    (λ c. omega arith)
-    (λ c. (omega arith, (adds c).sum_is))
-    returns)
+pub overflow_mul-sum : goal.overflow_mul-sum
+overflow_mul-sum c = let h = c.requires in omega arith
+
+pub overflow_add-sum : goal.overflow_add-sum
+overflow_add-sum c = let h = c.requires in omega arith
+
+pub offset_bounds-matrix-r : goal.offset_bounds-matrix-r
+offset_bounds-matrix-r c = let h = c.requires in omega arith
+
+pub bounds-matrix-r : goal.bounds-matrix-r
+bounds-matrix-r c = let h = c.requires in omega arith
+
+pub offset_bounds-xs-k : goal.offset_bounds-xs-k
+offset_bounds-xs-k c = omega arith
+
+pub bounds-xs-k : goal.bounds-xs-k
+bounds-xs-k c = omega arith
+
+pub overflow_mul-sum-in-loop-k : goal.overflow_mul-sum-in-loop-k
+overflow_mul-sum-in-loop-k c = (adds c).product-fits
+
+pub overflow_add-sum-in-loop-k : goal.overflow_add-sum-in-loop-k
+overflow_add-sum-in-loop-k c = (adds c).sum_fits
+
+pub overflow_add-k : goal.overflow_add-k
+overflow_add-k c = omega arith
+
+pub loop-k-smaller : goal.loop-k-smaller
+loop-k-smaller c = omega arith
+
+pub loop-k-preserved : goal.loop-k-preserved
+loop-k-preserved c = (omega arith, (adds c).sum_is)

@@ -21,8 +21,8 @@ use Rattle.coefficients.specs.Blocks.{Gathered}
 use Rattle.powers.specs.Powers.{factor}
 use Rattle.powers.specs.Parts.{column_at}
 use Rattle.powers.proofs.MatrixLaws.{column-at, column-within}
-use Rattle.powers.proofs.columns.Statement.{statement}
-use Rattle.powers.proofs.columns.Tie as tie
+use Rattle.powers.proofs.columns.Goals as goal
+use Rattle.powers.proofs.columns.Goals.{After-corner_start-start}
 
 abbrev held : ℤ → ℤ
 held z = to_z w32 (of_z w32 z)
@@ -44,65 +44,68 @@ module _ (l : Layout) (rs : List ℤ) (g : Gathered 2 2 l rs) (k start : ℕ) (l
     column-is : held (held (factor k) *ℤ held (at rs (start + k / 4))) ≡ column_at l rs k
     column-is = to_z-of_z {w = w32} product-fits ∙ product_is
 
-abbrev invariant-loop : tie.invariant-loop
-invariant-loop l rs factors xs₀ k₀ xs k = (k ≤ 16) × (length xs ≡ 16) × ((K : ℕ) → K < k → at xs K ≡ column_at l rs K)
-
-abbrev decreases-loop : tie.decreases-loop
-decreases-loop l rs factors xs₀ k₀ xs k = 16 - k
-
-room : (c : tie.After-corner-start invariant-loop decreases-loop) → c.corner-start.result + 4 ≤ length c.before.before.before.args.records.now
+room : (c : After-corner_start-start) → c.corner_start-start.result + 4 ≤ length c.args.records.now
 room c =
-    let i = c.before in
-    let s = i.before.before in
-    inside s.args.l s.args.records.now s.requires i.before.loop.k c.corner-start.result i.loop-test.true
-    c.corner-start.ensures
+    let i = c in
+    let s = i in
+    inside s.args.l s.args.records.now s.requires i.loop-k.k c.corner_start-start.result i.loop-k-test.true
+    c.corner_start-start.ensures
 
-loop-holds : tie.Need-loop-init invariant-loop decreases-loop
-loop-holds c = (omega arith, refl, λ K h. absurd (not-suc-le-zero h))
+pub loop-k-init : goal.loop-k-init
+loop-k-init c = (omega arith, refl, λ K h. absurd (not-suc-le-zero h))
 
-mul-xs-3 : tie.Need-overflow-mul-xs-3 invariant-loop decreases-loop
+pub overflow_mul-xs : goal.overflow_mul-xs
 unfolding factor
-mul-xs-3 c =
-    let d = c.before.before in
-    let i = d.before in
-    let s = i.before.before in
-    product-fits s.args.l s.args.records.now s.requires i.before.loop.k d.corner-start.result i.loop-test.true
-    d.corner-start.ensures c.before.xs.given c.xs2.given
+overflow_mul-xs c =
+    let d = c in
+    let i = d in
+    let s = i in
+    product-fits s.args.l s.args.records.now s.requires i.loop-k.k d.corner_start-start.result i.loop-k-test.true
+    d.corner_start-start.ensures c.xs-1.given c.xs-in-loop-k-1.given
 
-loop-again : tie.Need-loop-preserved invariant-loop decreases-loop
+pub loop-k-preserved : goal.loop-k-preserved
 unfolding factor
-loop-again c =
-    let d = c.before.before in
-    let i = d.before in
-    let w = i.before.loop in
-    let s = i.before.before in (
+loop-k-preserved c =
+    let d = c in
+    let i = d in
+    let w = i.loop-k in
+    let s = i in (
       omega arith,
       simp length-set w.invariant.1,
       λ K h. fill w.xs w.k (column_at s.args.l s.args.records.now) _ (let n = w.invariant.1 in omega arith) w.invariant.2
-          (column-is s.args.l s.args.records.now s.requires w.k d.corner-start.result i.loop-test.true
-          d.corner-start.ensures c.before.xs.given c.xs2.given) K h,
+          (column-is s.args.l s.args.records.now s.requires w.k d.corner_start-start.result i.loop-k-test.true
+          d.corner_start-start.ensures c.xs-1.given c.xs-in-loop-k-1.given) K h,
     )
 
-returns : tie.Need-returns invariant-loop decreases-loop
-returns c K h = c.before.loop.invariant.2 K (let k = c.loop-test.false in omega arith)
+pub returns : goal.returns
+returns c K h = c.loop-k.invariant.2 K (let k = c.loop-k-test.false in omega arith)
 
-pub columns_spec : {M : Type 1} → statement M
-columns_spec =
-    tie.close
-    (tie.spec
-    invariant-loop
-    decreases-loop
-    loop-holds
-    (λ c κs. (omega arith, c.before.before.requires.small))
-    (λ c. omega arith)
-    (λ c. omega arith)
-    (λ c. let h = room c.before in omega arith)
-    (λ c. let h = room c.before in omega arith)
-    (λ c. let h = room c.before in omega arith)
-    mul-xs-3
-    (λ c. omega arith)
-    (λ c. omega arith)
-    (λ c. omega arith)
-    (λ c. omega arith)
-    loop-again
-    returns)
+pub corner_start-start-requires : goal.corner_start-start-requires
+corner_start-start-requires c = (omega arith, c.requires.small)
+
+pub offset_bounds-factors-k : goal.offset_bounds-factors-k
+offset_bounds-factors-k c = omega arith
+
+pub bounds-factors-k : goal.bounds-factors-k
+bounds-factors-k c = omega arith
+
+pub overflow_add-xs : goal.overflow_add-xs
+overflow_add-xs c = let h = room c.before in omega arith
+
+pub offset_bounds-records-start : goal.offset_bounds-records-start
+offset_bounds-records-start c = let h = room c.before in omega arith
+
+pub bounds-records-start : goal.bounds-records-start
+bounds-records-start c = let h = room c.before in omega arith
+
+pub offset_bounds-xs-k : goal.offset_bounds-xs-k
+offset_bounds-xs-k c = omega arith
+
+pub bounds-xs-k : goal.bounds-xs-k
+bounds-xs-k c = omega arith
+
+pub overflow_add-k : goal.overflow_add-k
+overflow_add-k c = omega arith
+
+pub loop-k-smaller : goal.loop-k-smaller
+loop-k-smaller c = omega arith

@@ -4,12 +4,8 @@ use Rattle.lattice.specs.Buffer.{tabulate}
 use Rattle.lattice.specs.Digits.{digit}
 use Rattle.cell.specs.Corners.{corner_numbers}
 use Rattle.powers.specs.Powers.{one_axis, column_entry, column_numbers, matrix, table_two}
-use Rattle.powers.proofs.table.matrix.Statement.{statement}
-use Rattle.powers.proofs.table.matrix.Tie as tie
+use Rattle.powers.proofs.table.matrix.Goals as goal
 
-returns : tie.Need-returns
+pub returns : goal.returns
 unfolding table_two tabulate matrix one_axis column_numbers column_entry corner_numbers digit
 returns c = refl
-
-pub matrix-spec : {M : Type 1} → statement M
-matrix-spec = tie.close (tie.spec returns)
