@@ -4,7 +4,6 @@ use mathlib.Core.Bool.{Bool}
 use mathlib.Core.List.{List}
 use Prim.Native.Nat.{ℕ}
 use lib.IntN.{ℤ}
-use borrow.Author.Rules.{rules}
 use Rattle.lattice.specs.Outcome.{Outcome}
 use Rattle.lattice.specs.Shape.{steps_on}
 use Rattle.evaluate.specs.Evaluate.{Want}
