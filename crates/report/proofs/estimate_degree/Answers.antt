@@ -11,23 +11,23 @@ use Rattle.estimated.proofs.Estimated.{lent}
 use Rattle.table_file.specs.File.{file_header}
 use Rattle.report.specs.Report.{table_with}
 use borrow.Author.Rules.{rules}
-use Rattle.report.proofs.estimate_degree.Statement.{statement}
-use Rattle.report.proofs.estimate_degree.Tie as tie
+use Rattle.report.proofs.estimate_degree.Goals as goal
+use Rattle.report.proofs.estimate_degree.Goals.{Start}
 
-module _ (c : tie.Start) where
+module _ (c : Start) where
   abbrev table : FullShape
   table = table_with (file_header c.args.axes c.args.counts c.args.second) c.args.degree
 
   known : Estimable table.shape c.args.samples.now (length c.args.records.now)
   known = estimated table c.args.samples.now (length c.args.records.now) c.requires
 
-returns : tie.Need-returns
+pub returns : goal.returns
 returns c =
-    let g = c.before.before.before.before in
-    let s = g.before in
-    let p = c.before.before.estimate in
-    let is = g.table-with.ensures in
-    let e = c.table-entries.ensures ∙ ap (λ (t : FullShape). size t.shape) is in (
+    let g = c in
+    let s = g.before.before.before.before.before.before in
+    let p = c.estimate in
+    let is = g.table_with-t.ensures in
+    let e = c.table_entries.ensures ∙ ap (λ (t : FullShape). size t.shape) is in (
       omega (arith, (known s).ranges, p.auto.1.1.0),
       ap (λ (k : ℕ). take k p.new.1.1.0) e
           ∙ ap (take (size (table s).shape))
@@ -35,12 +35,5 @@ returns c =
           ∙ lent (table s) s.args.samples.now s.args.records.now s.requires,
     )
 
-pub estimate-degree-spec : {M : Type 1} → statement M
-estimate-degree-spec =
-    tie.close
-    (tie.spec
-    (λ c κs. search rules)
-    (λ c κs. search rules)
-    (λ c κs. let g = c.before.before.before in rw g.table-with.ensures (known g.before).shape)
-    (λ c. search rules)
-    returns)
+pub table_entries-requires : goal.table_entries-requires
+table_entries-requires c = let g = c in rw g.table_with-t.ensures (known g.before.before.before.before.before).shape
