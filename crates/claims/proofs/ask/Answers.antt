@@ -4,7 +4,6 @@ use Rattle.evaluate.specs.Wants.{wanted}
 use Rattle.float_query.specs.Answers.{in_float}
 use Rattle.claims.specs.Third.{queried}
 use Rattle.claims.specs.Calls.{query_of}
-use borrow.Author.Rules.{rules}
 use Rattle.claims.proofs.ask.Goals as goal
 
 pub returns-in-Position : goal.returns-in-Position

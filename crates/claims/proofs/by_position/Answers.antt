@@ -5,7 +5,6 @@ use lib.IntN.{ℤ}
 use Rattle.arith.proofs.Machine.{element}
 use Rattle.evaluate.specs.Wants.{wanted}
 use Rattle.query.specs.Queries.{position_at, by_position}
-use borrow.Author.Rules.{rules}
 use Rattle.claims.proofs.by_position.Goals as goal
 
 three : (x y z u v w : ℤ) → x ≡ u → y ≡ v → z ≡ w → ◌≡◌ {A = List ℤ} (x ∷ y ∷ z ∷ []) (u ∷ v ∷ w ∷ [])
