@@ -30,7 +30,7 @@ use Rattle.cell.proofs.CellLaws.{accepted, cell-passes}
 use Rattle.floats.specs.Step.{step}
 use Rattle.evaluate.specs.Evaluate.{Want}
 use Rattle.query.specs.Queries.{Position, position_at, asked_outcome, tested_outcome, reading, position_test, steps_outcome, position_outcome, cell_of, position_cell, position_step, by_cell, by_position}
-use Rattle.query.proofs.QueryLaws.{test-passes, steps-known, steps-pass, position-range, in_cell}
+use Rattle.query.proofs.QueryLaws.{test-passes, steps-known, steps-pass, position-range, in_cell as in-cell}
 use Rattle.query.proofs.Locate.{cell-none}
 use Rattle.float_query.specs.Floats.{float_steps, steps_of, float_outcome, by_float}
 use Rattle.claims.specs.Third.{Query, at_position, in_cell, at_floats, queried, point_of, cell_read, step_read, Point, Contains, NearCell, recounted, resized, AgreeOnBlock, Inside, Reads}
@@ -135,7 +135,7 @@ module _ (t : FullShape) (full : full_outcome t ≡ done tt) where
           × (steps_on t a * cell_of (steps_on t a) (count s a) (P a) ≤ P a)
           × (P a - steps_on t a * cell_of (steps_on t a) (count s a) (P a) ≤ steps_on t a)
       held a l =
-          in_cell (steps_on t a) (number-used t full a l) (count s a) (P a) (ok.used a l)
+          in-cell (steps_on t a) (number-used t full a l) (count s a) (P a) (ok.used a l)
           (whole (p a) (last a) (h.low a l) (h.high a l)).1
 
       position-cell : Accepted s (position_cell t p)

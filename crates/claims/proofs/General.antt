@@ -71,4 +71,6 @@ times-used zero f h = omega arith
 times-used (suc n) f h = both (f n) (times (axes n) f) (h n (omega arith)) (times-used n f (λ a l. h a (omega arith)))
   where
     both : (x y : ℕ) → 0 < x → 0 < y → 0 < x * y
+    both zero y h k = elim h [ ]
+    both (suc x) zero h k = elim k [ ]
     both (suc x) (suc y) h k = omega arith

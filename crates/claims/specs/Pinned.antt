@@ -2,7 +2,7 @@
 -- Refusal numbers, places and order, those of a position apart; borders; the order of nodes, entries, coefficients and corners on two and
 -- three axes; limits; the order of the stages; the cell of a shared node; curvatures; the distances; the rounding of both editions;
 -- step numbers; the mark; pooling; totals.
-use Rattle.std.specs.Prelude.{Bool, true, false, List, [], ◌∷◌, ◌++◌, ℕ, suc, ◌+◌, ◌*◌, ◌-◌, eqb, Float, ℤ, pos, negsuc, nat_abs, ◌-ℤ◌, ◌*ℤ◌, replicate}
+use Rattle.std.specs.Prelude.{Bool, true, false, List, [], ◌∷◌, ◌++◌, ℕ, suc, ◌*◌, ◌-◌, eqb, Float, ℤ, pos, negsuc, nat_abs, ◌-ℤ◌, ◌*ℤ◌, replicate}
 use Rattle.std.specs.Float.{nan, fin}
 use Rattle.arith.specs.Choice.{pick}
 use Rattle.lattice.specs.declared.Shape.{Shape}

@@ -35,16 +35,16 @@ fn in_float(a: Reading, order: u32) -> FloatReading
     requires { (v : ℤ) → outcome_of_reading a ≡ done v → nat_abs v < 2 ^ 24 }
     ensures { (axis : ℕ) → outcome_of_float result ≡ in_float (want_of order axis) (outcome_of_reading a) }
 {
-    match a {
-        Reading::Refused(r) => FloatReading::Refused(r),
-        Reading::Exact(v) | Reading::Near(v) => {
-            let x = floats::whole(v);
-            if order == 0 {
-                FloatReading::Dose(x)
-            } else {
-                FloatReading::Slope(x)
-            }
-        }
+    let v = match a {
+        Reading::Refused(r) => return FloatReading::Refused(r),
+        Reading::Exact(v) => v,
+        Reading::Near(v) => v,
+    };
+    let x = floats::whole(v);
+    if order == 0 {
+        FloatReading::Dose(x)
+    } else {
+        FloatReading::Slope(x)
     }
 }
 

@@ -87,7 +87,7 @@ fn row_start(l: Layout, cells: [usize; 3], r: usize) -> usize
 // The limit test of the records of all rows.
 fn check_rows(limits: &[i32; 27], l: Layout, cells: [usize; 3], records: &[i32]) -> Check
     requires { Walk l cells (length records.now) × Limits l.entries limits.now }
-    ensures* { λ r. ⌜ outcome_of r ≡ first_of (row_count cells) (λ r. first_of (get_or cells 0 0 + 1) (λ i. record_outcome (limit_in limits.now) l.entries records.now (row_start l cells r + l.entries * i))) ⌝ }
+    ensures { outcome_of result ≡ first_of (row_count cells) (λ r. first_of (get_or cells 0 0 + 1) (λ i. record_outcome (limit_in limits.now) l.entries records.now (row_start l cells r + l.entries * i))) }
 {
     let n = l.entries;
     let nodes = cells[0] + 1;

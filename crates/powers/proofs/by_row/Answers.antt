@@ -1,7 +1,7 @@
 -- `powers::by_row` meets its contract. The invariant: the sum of the first k products.
 use mathlib.Core.Path.{◌≡◌, refl, ap, ◌∙◌}
 use mathlib.Core.List.{List}
-use Prim.Native.Nat.{ℕ, suc, ◌+◌, ◌*◌, ◌-◌, ◌^◌, ◌≤◌, ◌<◌}
+use Prim.Native.Nat.{ℕ, suc, ◌+◌, ◌*◌, ◌^◌, ◌<◌}
 use native.Mathlib.Nat.{lt_of_le_of_lt}
 use native.Mathlib.Omega.{arith}
 use lib.Dec.{lit<}
@@ -64,15 +64,12 @@ pub loop-k-init : goal.loop-k-init
 unfolding sum
 loop-k-init c = (omega arith, refl)
 
-adds : (c : After-sum-in-loop-k-1)
-    → Added c.args.matrix.now c.args.xs.now
-    c.args.r (to_z w32 c.loop-k.sum-bits) c.loop-k.k
+adds : (c : After-sum-in-loop-k-1) → Added c.args.matrix.now c.args.xs.now c.args.r (to_z w32 c.loop-k.sum-bits) c.loop-k.k
 adds c =
-    let i = c in
-    let w = i.loop-k in
-    let s = i in
-    added s.args.matrix.now s.args.xs.now s.args.r s.requires.1 (to_z w32 w.sum) w.k i.loop-k-test.true w.invariant.1
-    c.sum-1.given c.sum-in-loop-k-1.given
+    let a = c.args in
+    let w = c.loop-k in
+    added a.matrix.now a.xs.now a.r c.requires.1 (to_z w32 w.sum-bits) w.k c.loop-k-test.true w.invariant.1 c.sum-1.given
+    c.sum-in-loop-k-1.given
 
 pub returns : goal.returns
 unfolding row_sum

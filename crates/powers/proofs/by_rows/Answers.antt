@@ -1,6 +1,6 @@
 -- `powers::by_rows` meets its contract: the slice is filled from the front, row by row.
 use mathlib.Core.Path.{◌≡◌, subst, ◌∙◌}
-use Prim.Native.Nat.{ℕ, ◌-◌, ◌≤◌, zero-le}
+use Prim.Native.Nat.{ℕ, zero-le}
 use native.Mathlib.Omega.{arith}
 use lib.IntN.{pos}
 use mir.Facts.{to_z-of_z}
@@ -15,29 +15,28 @@ by_row-requires c = (c.loop-r-test.true, c.requires.1 c.loop-r.r c.loop-r-test.t
 
 pub bounds-out-r : goal.bounds-out-r
 bounds-out-r c =
-    let s = c in
-    let a = s.args in
+    let a = c.args in
     let w = c.loop-r in
-    let h = s.requires.0 in
+    let h = c.requires.0 in
     let e = filled-length (row_sum a.matrix.now a.xs.now) a.out.now w.r w.out (omega arith) w.invariant.1 in
     omega arith
 
 pub loop-r-preserved : goal.loop-r-preserved
 loop-r-preserved c =
-    let s = c in
+    let a = c.args in
     let w = c.loop-r in
-    let h = s.requires.0 in (
+    let h = c.requires.0 in (
       omega arith,
-      filled_more (row_sum s.args.matrix.now s.args.xs.now) s.args.out.now w.r w.out _ (pos 0) (omega arith) w.invariant.1
-          (to_z-of_z {w = w32} (sfits_of c.by_Row.type_inv) ∙ c.by_Row.ensures),
+      filled_more (row_sum a.matrix.now a.xs.now) a.out.now w.r w.out _ (pos 0) (omega arith) w.invariant.1
+          (to_z-of_z {w = w32} (sfits_of c.by_row.type_inv) ∙ c.by_row.ensures),
     )
 
 pub shape_of-out : goal.shape_of-out
 shape_of-out c =
-    let s = c in
+    let a = c.args in
     let w = c.loop-r in
-    let h = s.requires.0 in
-    filled-length (row_sum s.args.matrix.now s.args.xs.now) s.args.out.now w.r w.out (omega arith) w.invariant.1
+    let h = c.requires.0 in
+    filled-length (row_sum a.matrix.now a.xs.now) a.out.now w.r w.out (omega arith) w.invariant.1
 
 pub returns : goal.returns
 returns c =

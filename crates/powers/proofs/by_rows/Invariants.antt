@@ -1,12 +1,6 @@
 -- `powers::by_rows` meets its contract: the slice is filled from the front, row by row.
-use mathlib.Core.Path.{◌≡◌, subst, ◌∙◌}
-use Prim.Native.Nat.{ℕ, ◌-◌, ◌≤◌, zero-le}
-use native.Mathlib.Omega.{arith}
-use lib.IntN.{pos}
-use mir.Facts.{to_z-of_z}
-use mir.Syntax.{w32}
-use borrow.Author.Rules.{sfits_of}
-use Rattle.lattice.proofs.BufferLaws.{Filled, filled_none, filled_more, filled-length, filled-all}
+use Prim.Native.Nat.{◌-◌, ◌≤◌}
+use Rattle.lattice.proofs.BufferLaws.{Filled}
 use Rattle.powers.specs.Parts.{row_sum}
 use Rattle.powers.proofs.by_rows.Given as goal
 

@@ -1,7 +1,7 @@
 -- `powers::columns` meets its contract. The invariant: the first k columns stand.
 use mathlib.Core.Path.{◌≡◌, refl, sym, ap, ◌∙◌}
 use mathlib.Core.List.{List}
-use Prim.Native.Nat.{ℕ, ◌+◌, ◌*◌, ◌-◌, ◌/◌, ◌%◌, ◌^◌, ◌≤◌, ◌<◌}
+use Prim.Native.Nat.{ℕ, ◌+◌, ◌/◌, ◌%◌, ◌^◌, ◌≤◌, ◌<◌}
 use native.Mathlib.Nat.{not-suc-le-zero, lt_of_le_of_lt}
 use native.Mathlib.Omega.{arith}
 use lib.Dec.{lit<}
@@ -46,10 +46,7 @@ module _ (l : Layout) (rs : List ℤ) (g : Gathered 2 2 l rs) (k start : ℕ) (l
 
 room : (c : After-corner_start-start) → c.corner_start-start.result + 4 ≤ length c.args.records.now
 room c =
-    let i = c in
-    let s = i in
-    inside s.args.l s.args.records.now s.requires i.loop-k.k c.corner_start-start.result i.loop-k-test.true
-    c.corner_start-start.ensures
+    inside c.args.l c.args.records.now c.requires c.loop-k.k c.corner_start-start.result c.loop-k-test.true c.corner_start-start.ensures
 
 pub loop-k-init : goal.loop-k-init
 loop-k-init c = (omega arith, refl, λ K h. absurd (not-suc-le-zero h))
@@ -57,24 +54,19 @@ loop-k-init c = (omega arith, refl, λ K h. absurd (not-suc-le-zero h))
 pub overflow_mul-xs : goal.overflow_mul-xs
 unfolding factor
 overflow_mul-xs c =
-    let d = c in
-    let i = d in
-    let s = i in
-    product-fits s.args.l s.args.records.now s.requires i.loop-k.k d.corner_start-start.result i.loop-k-test.true
-    d.corner_start-start.ensures c.xs-1.given c.xs-in-loop-k-1.given
+    product-fits c.args.l c.args.records.now c.requires c.loop-k.k c.corner_start-start.result c.loop-k-test.true
+    c.corner_start-start.ensures c.xs-1.given c.xs-in-loop-k-1.given
 
 pub loop-k-preserved : goal.loop-k-preserved
 unfolding factor
 loop-k-preserved c =
-    let d = c in
-    let i = d in
-    let w = i.loop-k in
-    let s = i in (
+    let a = c.args in
+    let w = c.loop-k in (
       omega arith,
       simp length-set w.invariant.1,
-      λ K h. fill w.xs w.k (column_at s.args.l s.args.records.now) _ (let n = w.invariant.1 in omega arith) w.invariant.2
-          (column-is s.args.l s.args.records.now s.requires w.k d.corner_start-start.result i.loop-k-test.true
-          d.corner_start-start.ensures c.xs-1.given c.xs-in-loop-k-1.given) K h,
+      λ K h. fill w.xs w.k (column_at a.l a.records.now) _ (let n = w.invariant.1 in omega arith) w.invariant.2
+          (column-is a.l a.records.now c.requires w.k c.corner_start-start.result c.loop-k-test.true
+          c.corner_start-start.ensures c.xs-1.given c.xs-in-loop-k-1.given) K h,
     )
 
 pub returns : goal.returns

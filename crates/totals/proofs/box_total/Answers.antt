@@ -2,7 +2,6 @@
 use mathlib.Core.Path.{◌≡◌, sym, ap, ap₂, ◌∙◌}
 use lib.IntN.{ℤ}
 use lib.ListN.{length}
-use borrow.Author.Rules.{rules}
 use Rattle.lattice.specs.Answers.{outcome_of}
 use Rattle.lattice.specs.Outcome.{Outcome, Check, done, first}
 use Rattle.lattice.specs.Shape.{orders}
@@ -12,7 +11,7 @@ use Rattle.cell.specs.Cell.{place_at}
 use Rattle.totals.specs.Totals.{box_numerator, table_outcome, box_outcome, records_outcome, box_total}
 use Rattle.totals.proofs.CallLaws.{tabled, boxed}
 use Rattle.totals.proofs.box_total.Goals as goal
-use Rattle.totals.proofs.box_total.Goals.{After-earlier-asked, In-Done, Start}
+use Rattle.totals.proofs.box_total.Goals.{After-earlier-asked, Start}
 
 module _ (s : Start) where
   abbrev table : Check
@@ -37,19 +36,15 @@ asked : (c : After-earlier-asked) → outcome_of c.earlier-asked.result
     ≡ first (table c.before.before.before.before) (box c.before.before.before.before)
 asked c = c.earlier-asked.ensures ∙ ap₂ first c.check_table-table.ensures c.check_box.ensures
 
-passed : (c : In-Done) → (table c.before.before.before.before.before ≡ done tt)
-    × (box c.before.before.before.before.before ≡ done tt)
-passed c =
-    let d = c.before in
-    let s = d.before.before.before.before in
-    first_done (table s) (box s) tt (sym (asked d) ∙ ap outcome_of c.in-Done.is)
-
 pub total_in-requires : goal.total_in-requires
 total_in-requires c =
-    let s = c in
-    let p = passed c in
-    let t = tabled s.args.t (length s.args.records.now) p.0 in
-    (t.shape, t.many, boxed s.args.t.shape s.args.from s.args.to t.shape.axes-high p.1)
+    let a = c.args in
+    let given = length a.records.now in
+    let p =
+    first_done (table_outcome a.t given) (box_outcome a.t.shape (place_at a.from) (place_at a.to)) tt
+    (sym (c.earlier-asked.ensures ∙ ap₂ first c.check_table-table.ensures c.check_box.ensures) ∙ ap outcome_of c.in-Done.is) in
+    let t = tabled a.t given p.0 in
+    (t.shape, t.many, boxed a.t.shape a.from a.to t.shape.axes-high p.1)
 
 pub returns-in-Refused : goal.returns-in-Refused
 returns-in-Refused c =

@@ -1,5 +1,4 @@
 -- `totals::cells_of` meets its contract: the cells along three axes.
-use borrow.Author.Rules.{rules}
 use Rattle.arith.specs.Choice.{pick}
 use Rattle.arith.proofs.Choices.{by-3}
 use Rattle.cell.specs.Cell.{place_at}

@@ -1,23 +1,17 @@
 -- `totals::check_rows` meets its contract: no row before the one at hand has an entry beyond its limit.
-use mathlib.Core.Path.{◌≡◌, refl, sym, ap, subst, ◌∙◌}
-use Prim.Native.Nat.{ℕ, ◌≤◌, ◌<◌, ◌+◌, ◌*◌, ◌-◌, ◌/◌}
-use native.Mathlib.Omega.{arith}
-use lib.Dec.{lit<}
+use mathlib.Core.Path.{◌≡◌}
+use Prim.Native.Nat.{◌≤◌, ◌+◌, ◌*◌, ◌-◌}
 use lib.ListN.{get_or}
-use borrow.Author.Rules.{rules}
-use Rattle.lattice.specs.Answers.{outcome_of}
-use Rattle.lattice.specs.Outcome.{Check, done, first_of}
-use Rattle.lattice.proofs.OutcomeLaws.{first_of-stops, first_of-more}
+use Rattle.lattice.specs.Outcome.{done, first_of}
 use Rattle.cell.specs.Cell.{limit_in, record_outcome}
 use Rattle.totals.specs.Parts.{row_count, row_start}
-use Rattle.totals.proofs.RowLaws.{rows_few, entries-few}
 use Rattle.totals.proofs.check_rows.Given as goal
 
 abbrev pub invariant-loop-r : goal.invariant-loop-r
 invariant-loop-r q =
     (q.r ≤ row_count q.cells)
-    × (first_of q.r (λ q.r. first_of (get_or q.cells 0 0 + 1)
-    (λ i. record_outcome (limit_in q.limits) q.l.entries q.records (row_start q.l q.cells q.r + q.l.entries * i)))
+    × (first_of q.r (λ r. first_of (get_or q.cells 0 0 + 1)
+    (λ i. record_outcome (limit_in q.limits) q.l.entries q.records (row_start q.l q.cells r + q.l.entries * i)))
     ≡ done tt)
 
 abbrev pub decreases-loop-r : goal.decreases-loop-r

@@ -5,7 +5,6 @@ use native.Mathlib.Nat.{le_trans}
 use native.Mathlib.Omega.{arith}
 use lib.Dec.{lit<}
 use lib.IntN.{nat_abs}
-use borrow.Author.Rules.{rules}
 use Rattle.arith.specs.Sum.{total}
 use Rattle.arith.proofs.Machine.{widen-fits, kept}
 use Rattle.arith.proofs.Sums.{total-part}

@@ -1,7 +1,6 @@
 -- `totals::indices_allowed` meets its contract: both tests of an axis.
 use mathlib.Core.Path.{refl}
 use borrow.Author.Tests.{le-leb, lt-leb}
-use borrow.Author.Rules.{rules}
 use Rattle.totals.proofs.indices_allowed.Goals as goal
 
 pub returns-then-from-to : goal.returns-then-from-to

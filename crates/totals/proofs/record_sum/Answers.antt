@@ -1,6 +1,6 @@
 -- `totals::record_sum` meets its contract. The invariant: the sum of the first g groups.
 use mathlib.Core.Path.{◌≡◌, refl, ap, ◌∙◌}
-use Prim.Native.Nat.{ℕ, ◌+◌, ◌*◌, ◌-◌, ◌^◌, ◌≤◌, ◌<◌}
+use Prim.Native.Nat.{ℕ, ◌+◌, ◌*◌, ◌^◌, ◌≤◌, ◌<◌}
 use native.Mathlib.Omega.{arith}
 use lib.Dec.{lit<, lit≤}
 use lib.IntN.{ℤ, nat_abs}
@@ -41,7 +41,7 @@ added-sum-requires c =
     let w = i.loop-g in
     let s = i.before.before.before.before in
     product-asks s.args.groups (at s.args.ys.now) (group s) (2 ^ 14) (2 ^ 28) s.requires.le_m.5 (groups-low s) (lit≤ tt) (lit< tt)
-    (lit< tt) w.g i.loop-g-test.true (to_z w64 w.sum) c.group_sum.result w.invariant.1 c.group_sum.ensures
+    (lit< tt) w.g i.loop-g-test.true (to_z w64 w.sum-bits) c.group_sum.result w.invariant.1 c.group_sum.ensures
 
 pub loop-g-preserved : goal.loop-g-preserved
 unfolding record_sum
@@ -51,7 +51,7 @@ loop-g-preserved c =
     let s = i.before.before.before.before.before in (
       omega arith,
       product-more s.args.groups (at s.args.ys.now) (group s) (2 ^ 14) (2 ^ 28) s.requires.le_m.5 (groups-low s) (lit≤ tt) (lit< tt)
-          (lit< tt) w.g i.loop-g-test.true (to_z w64 w.sum) c.group_sum.result w.invariant.1
+          (lit< tt) w.g i.loop-g-test.true (to_z w64 w.sum-bits) c.group_sum.result w.invariant.1
           c.group_sum.ensures c.added-sum.result c.added-sum.ensures,
     )
 

@@ -4,7 +4,6 @@ use Prim.Native.Nat.{◌+◌, ◌*◌, ◌/◌, ◌%◌, ◌^◌, ◌≤◌}
 use native.Mathlib.Omega.{arith}
 use lib.Dec.{lit<}
 use lib.ListN.{get_or}
-use borrow.Author.Rules.{rules}
 use Rattle.totals.specs.Parts.{row_start}
 use Rattle.totals.proofs.RowLaws.{y-step, z-step}
 use Rattle.totals.proofs.row_start.Goals as goal

@@ -1,6 +1,6 @@
 -- `totals::row_sum` meets its contract. The invariant: the sum of the first i records.
 use mathlib.Core.Path.{◌≡◌, refl, ap, ◌∙◌}
-use Prim.Native.Nat.{ℕ, ◌+◌, ◌*◌, ◌-◌, ◌^◌, ◌≤◌, ◌<◌}
+use Prim.Native.Nat.{ℕ, ◌+◌, ◌*◌, ◌^◌, ◌≤◌, ◌<◌}
 use native.Mathlib.Nat.{mul-le-mul, mul-le-mul_right, le_trans}
 use native.Mathlib.Omega.{arith}
 use lib.Dec.{lit<, lit≤}
@@ -54,14 +54,17 @@ record_sum-sum-requires c =
     let i = c.before in
     let s = i.before.before in
     let h = s.requires.le_m in
-    let k = room i in record { le_m = (
+    let k = room i in record {
+      le_m = (
         h.0,
         h.1,
         h.2,
         omega arith,
         factors-light s.args.m s.args.cells i.loop-i.i (at c.factors-x.result) h.0 h.1 c.factors-x.ensures,
         h.5,
-      ); entries_within = within s i.loop-i.i (omega (arith, i.loop-i-test.true)) }
+      );
+      entries_within = within s i.loop-i.i (omega (arith, i.loop-i-test.true));
+    }
 
 -- the record at hand
 module _ (c : After-record_sum-sum) where
@@ -86,7 +89,7 @@ overflow_add-sum c =
     let s = start c in
     let w = (in-loop c).loop-i in
     more-fits (s.args.cells + 1) (one s) (2 ^ 42) (one-low s) (row_low s) (lit< tt) w.i (omega (arith, (in-loop c).loop-i-test.true))
-    (to_z w64 w.sum) c.record_sum-sum.result w.invariant.1 (at-hand c)
+    (to_z w64 w.sum-bits) c.record_sum-sum.result w.invariant.1 (at-hand c)
 
 pub loop-i-preserved : goal.loop-i-preserved
 unfolding one
@@ -95,7 +98,7 @@ loop-i-preserved c =
     let w = (in-loop c).loop-i in (
       omega (arith, (in-loop c).loop-i-test.true),
       more-sum (s.args.cells + 1) (one s) (2 ^ 42) (one-low s) (row_low s) (lit< tt) w.i (omega (arith, (in-loop c).loop-i-test.true))
-          (to_z w64 w.sum) c.record_sum-sum.result w.invariant.1 (at-hand c),
+          (to_z w64 w.sum-bits) c.record_sum-sum.result w.invariant.1 (at-hand c),
     )
 
 pub returns : goal.returns

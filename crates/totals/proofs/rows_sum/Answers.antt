@@ -1,6 +1,6 @@
 -- `totals::rows_sum` meets its contract. The invariant: the sum of the first r rows.
 use mathlib.Core.Path.{◌≡◌, refl, sym, ap, subst, ◌∙◌}
-use Prim.Native.Nat.{ℕ, ◌+◌, ◌*◌, ◌-◌, ◌/◌, ◌^◌, ◌≤◌, ◌<◌}
+use Prim.Native.Nat.{ℕ, ◌+◌, ◌*◌, ◌/◌, ◌^◌, ◌≤◌, ◌<◌}
 use native.Mathlib.Nat.{mul-le-mul_right, le_trans, le_of_eq}
 use native.Mathlib.Omega.{arith}
 use lib.Dec.{lit<, lit≤}
@@ -8,7 +8,6 @@ use lib.IntN.{ℤ, nat_abs}
 use lib.ListN.{length, get_or}
 use mir.Syntax.{w64}
 use mir.Val.{to_z}
-use borrow.Author.Rules.{rules}
 use Rattle.arith.specs.Sum.{sum}
 use Rattle.arith.proofs.Sums.{total_ext}
 use Rattle.lattice.specs.Buffer.{at}
@@ -65,7 +64,8 @@ row_sum-sum-requires c =
     let p = s.requires.walk in
     let e = c.row_start-start.ensures in
     let n = p.entries-are in
-    let h = p.inside r (inside i) in record { le_m = (
+    let h = p.inside r (inside i) in record {
+      le_m = (
         p.orders-low,
         p.orders-high,
         groups-nine (m s) (k s) p.orders-high p.groups-few,
@@ -76,8 +76,10 @@ row_sum-sum-requires c =
         le_trans (le_of_eq (total_ext (k s) (λ g. nat_abs (at a.across_row-ys.result g)) (λ g. nat_abs (across (m s) s.args.cells r g))
             (λ g l. ap nat_abs (a.across_row-ys.ensures g l))))
             (across-light (m s) (k s) s.args.cells r p.orders-low p.orders-high p.groups-few),
-      ); entries_within = subst (λ (x : ℕ). EntriesWithin (2 ^ 21) s.args.records.now x (m s * k s * (get_or s.args.cells 0 0 + 1))) (sym e)
-          (grouped s r (inside i)) }
+      );
+      entries_within = subst (λ (x : ℕ). EntriesWithin (2 ^ 21) s.args.records.now x (m s * k s * (get_or s.args.cells 0 0 + 1))) (sym e)
+          (grouped s r (inside i));
+    }
 
 module _ (c : After-row_sum-sum) where
   abbrev in-loop : In-loop-r
@@ -102,7 +104,7 @@ unfolding one
 overflow_add-sum c =
     let s = start c in
     let w = (in-loop c).loop-r in
-    more-fits (row_count s.args.cells) (one s) (2 ^ 48) (one-low s) (all-low s) (lit< tt) w.r (inside (in-loop c)) (to_z w64 w.sum)
+    more-fits (row_count s.args.cells) (one s) (2 ^ 48) (one-low s) (all-low s) (lit< tt) w.r (inside (in-loop c)) (to_z w64 w.sum-bits)
     c.row_sum-sum.result w.invariant.1 (at-hand c)
 
 pub loop-r-preserved : goal.loop-r-preserved
@@ -111,7 +113,7 @@ loop-r-preserved c =
     let s = start c in
     let w = (in-loop c).loop-r in (
       (let h = inside (in-loop c) in omega arith),
-      more-sum (row_count s.args.cells) (one s) (2 ^ 48) (one-low s) (all-low s) (lit< tt) w.r (inside (in-loop c)) (to_z w64 w.sum)
+      more-sum (row_count s.args.cells) (one s) (2 ^ 48) (one-low s) (all-low s) (lit< tt) w.r (inside (in-loop c)) (to_z w64 w.sum-bits)
           c.row_sum-sum.result w.invariant.1 (at-hand c),
     )
 

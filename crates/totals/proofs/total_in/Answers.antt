@@ -6,7 +6,7 @@ use lib.IntN.{ℤ}
 use lib.ListN.{length, get_or}
 use mir.Facts.{to_z-of_z}
 use mir.Syntax.{w64}
-use borrow.Author.Rules.{rules, sfits_of}
+use borrow.Author.Rules.{sfits_of}
 use Rattle.lattice.specs.Answers.{outcome_of}
 use Rattle.lattice.specs.Outcome.{Outcome, done, first_of}
 use Rattle.lattice.specs.Shape.{orders}
@@ -46,7 +46,7 @@ module _ (e : After-entry_limits-limits) where
   l = e.layout_of-l.result
 
   abbrev K : List ℕ
-  K = e.Cells-of.result
+  K = e.cells_of-cells.result
 
   abbrev rs : List ℤ
   rs = start.args.records.now
@@ -59,7 +59,7 @@ module _ (e : After-entry_limits-limits) where
 
   cells : (a : ℕ) → a < 3 → get_or K a 0 ≡ cells_within start.args.s from to a
   unfolding cells_within
-  cells = e.Cells-of.ensures
+  cells = e.cells_of-cells.ensures
 
   walked : Walk l K (length rs)
   walked = walk start.args.s start.requires.0 from to start.requires.2 rs start.requires.1 l
@@ -94,9 +94,12 @@ pub rows_sum-requires : goal.rows_sum-requires
 rows_sum-requires c =
     let d = c.before in
     let e = d.before.before in
-    let s = start e in record { walk = walked e; by_index = entries-low s.args.s s.requires.0 (from e) (to e) s.requires.2 (rs e) s.requires.1 (l e) e.layout_of-l.ensures
+    let s = start e in record {
+      walk = walked e;
+      by_index = entries-low s.args.s s.requires.0 (from e) (to e) s.requires.2 (rs e) s.requires.1 (l e) e.layout_of-l.ensures
           (K e)
-          (cells e) (sym (told d) ∙ ap outcome_of c.in-Done.is) }
+          (cells e) (sym (told d) ∙ ap outcome_of c.in-Done.is);
+    }
 
 pub returns-in-Refused : goal.returns-in-Refused
 unfolding numerator

@@ -1,0 +1,12 @@
+-- `ramp::copy_rows` meets its contract. The invariant: the rows before the one at hand stand in front.
+use mathlib.Core.Path.{◌≡◌, sym, subst, ◌∙◌}
+use Prim.Native.Nat.{ℕ, ◌*◌, ◌-◌, ◌≤◌, ◌<◌}
+use native.Mathlib.Omega.{arith}
+use Rattle.ramp.specs.Parts.{Copied}
+use Rattle.ramp.proofs.copy_rows.Given as goal
+
+abbrev pub invariant-loop-r : goal.invariant-loop-r
+invariant-loop-r q = (q.r ≤ q.rows) × Copied q.l q.records q.e (2 * q.e * q.r) q.held
+
+abbrev pub decreases-loop-r : goal.decreases-loop-r
+decreases-loop-r q = q.rows - q.r

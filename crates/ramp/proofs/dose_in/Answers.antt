@@ -1,0 +1,21 @@
+-- `ramp::dose_in` meets its contract: the number that the stages give fits 32 bits.
+use borrow.Author.Rules.{rules}
+use Rattle.arith.proofs.Editions.{edition-sound}
+use Rattle.ramp.proofs.DoseLaws.{dose-fits, dose-cast}
+use Rattle.ramp.proofs.dose_in.Goals as goal
+
+pub overflow_cast-result : goal.overflow_cast-result
+overflow_cast-result c =
+    let r = c.stages_in-r in
+    let s = c in
+    let a = s.args in
+    dose-fits (edition-sound a.even) a.s a.held.now a.step s.requires r.result.number c.struct_told-1.given.0.1
+    r.ensures
+
+pub returns : goal.returns
+returns c =
+    let r = c.stages_in-r in
+    let s = c in
+    let a = s.args in
+    dose-cast (edition-sound a.even) a.s a.held.now a.step s.requires r.result.number c.struct_told-1.given.0.1
+    r.ensures
