@@ -1,4 +1,4 @@
--- Answers at steps k·u of axes with k·n steps are those at steps u of axes with N steps.
+-- Answers at steps k·u of axes with k·N steps are those at steps u of axes with N steps.
 use mathlib.Core.Path.{◌≡◌, refl, sym, ap, ap₂, ◌∙◌, fun_ext}
 use mathlib.Core.Bool.{◌&&◌}
 use mathlib.Core.List.{List, [], ◌∷◌}

@@ -1,4 +1,4 @@
--- A cell of k·n steps at step k·u is a cell of N steps at step u: weights and divisor have one power of k in common.
+-- A cell of k·N steps at step k·u is a cell of N steps at step u: weights and divisor have one power of k in common.
 use mathlib.Core.Path.{◌≡◌, refl, sym, ap, ap₂, ◌∙◌}
 use mathlib.Core.List.{[], ◌∷◌}
 use Prim.Native.Nat.{ℕ, zero, suc, ◌+◌, ◌*◌, ◌-◌, ◌^◌, ◌≤◌, ◌<◌}

@@ -18,7 +18,7 @@ pub divisor-some : (k m N : ℕ) → 0 < N → 0 < divisor k m N
 unfolding divisor
 divisor-some k m N h = let e = one-le-pow (2 * m - 1 - k) N h in omega arith
 
--- a sum within C-as-B, divided by D and rounded, is at most f times B where C is at most f times D
+-- a sum within C·B, divided by D and rounded, is at most f times B where C is at most f times D
 rounded-bound : (f r s D C B : ℕ) → s ≤ C * B → 2 * (r * D) ≤ 2 * s + D → C ≤ f * D → 0 < D → r ≤ f * B
 rounded-bound f r s D C B sum h c o = go (dec_le r (f * B))
   where

@@ -40,7 +40,7 @@ same-zero (suc r) zero s a p q e = absurd (some r s p e)
     some n m h k = omega arith
 same-zero (suc r) (suc t) s a p q e = eqb-suc-zero r ∙ sym (eqb-suc-zero t)
 
--- top = m·a, bottom = B, and m with five more zeros has the first digits h and the rest t of as many digits as Q says
+-- top = m·A, bottom = B, and m with five more zeros has the first digits h and the rest t of as many digits as Q says
 module _ (m h t A B Q : ℕ) (pa : 0 < A) (pb : 0 < B) (e : m * 100000 ≡ h * Q + t) (f : Q * A ≡ B * 100000) (l : t < Q) where
   scaled : (u r : ℕ) → u * B + r ≡ m * A → u * (B * 100000) + r * 100000 ≡ h * (B * 100000) + t * A
   scaled u r g =

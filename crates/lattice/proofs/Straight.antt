@@ -26,7 +26,7 @@ on_line f d zero = f
 on_line f d (suc zero) = pos 2 *ℤ d
 on_line f d (suc (suc o)) = pos 0
 
--- numbers that are A + i·b at each node i in U make w·r = d·(v·a + t·b)
+-- numbers that are A + i·B at each node i in U make w·R = d·(v·A + t·B)
 pub record Straightens (R : Rule) (U : ℕ → Type 0) (v t w d : ℕ) : Type 0 where
   pub multiple : (z : ℤ) (x : ℕ → ℤ) (j : ℕ) → R (λ i. z *ℤ x i) j ≡ z *ℤ R x j
   pub is : (A B : ℤ) (x : ℕ → ℤ) (j : ℕ) → ((i : ℕ) → U i → x i ≡ A +ℤ pos i *ℤ B)

@@ -1,4 +1,4 @@
--- Where a position stands: the query by position is the query by the cell and the in_cell step of the number that stands for it in two's
+-- Where a position stands: the query by position is the query by the cell and the in-cell step of the number that stands for it in two's
 -- complement, but that 11 is told where the position is below 0.
 use mathlib.Core.Path.{◌≡◌, refl, sym, ap, ap₂, subst, ◌∙◌, fun_ext}
 use mathlib.Core.Bool.{Bool, true, false}
@@ -71,7 +71,7 @@ stands (negsuc n) h = record { low = λ e. clash (cc); high = λ e. omega arith 
 pub stands-for : (p : ℤ) {b : ℕ} → mag p < 2 ^ 31 → b ≡ unsigned_of (to_z w32 (of_z w32 p)) → StandsFor p b
 stands-for p h e = subst (StandsFor p) (sym (e ∙ ap unsigned_of (element p h))) (stands p h)
 
--- the tests of the in_cell step are those of the position, on a used axis
+-- the tests of the in-cell step are those of the position, on a used axis
 module _ (c : ℕ) (b : ℕ) where
   abbrev u : ℕ
   u = b - steps * cell_of steps c b
@@ -87,14 +87,14 @@ module _ (c : ℕ) (b : ℕ) where
   unfolding cell_of
   below-beyond k e = lt-leb u steps (omega arith)
 
-  -- the cell and the in_cell step give the number back
+  -- the cell and the in-cell step give the number back
   whole_again : steps * cell_of steps c b + u ≡ b
   unfolding cell_of
   whole_again = omega arith
 
 -- ---- three axes
 
--- the cell and the in_cell step, on 256 steps, of the numbers b that stand for a position
+-- the cell and the in-cell step, on 256 steps, of the numbers b that stand for a position
 pub record Located (s : Shape) (p : Position) (b : ℕ → ℕ) (cell step : Place) : Type 0 where
   pub stand : (a : ℕ) → a < 3 → StandsFor (p a) (b a)
   pub cell-is : (a : ℕ) → cell a ≡ cell_of steps (count s a) (b a)
@@ -185,7 +185,7 @@ module _ (s : Shape) (even : Bool) (p : Position) (b : ℕ → ℕ) (cell step :
             ∙ ap (λ (t : Bool). refuse_unless t 23 a) (on-unused (p a) refl (f.unused a h (omega (arith, k))))
             ∙ sym (unused-test s (steps_on t a * (count s a - 1)) (p a) a e)
 
-  -- the tests of the in_cell step, with 22 for 11 where the position is below 0, are those of the position
+  -- the tests of the in-cell step, with 22 for 11 where the position is below 0, are those of the position
   pub located-tests : renumbered number (steps_outcome (finest s even) step) ≡ first_of 3 (position_outcome (finest s even) p)
   unfolding steps_outcome position_outcome
   located-tests = renumbered-each number 3 (λ a. position_test s (steps_on t a) (pos (step a)) a) (position_outcome t p) one
@@ -194,7 +194,7 @@ module _ (s : Shape) (even : Bool) (p : Position) (b : ℕ → ℕ) (cell step :
   unfolding position_cell
   only a k u = rw (f.unused a k u) (cell-only (steps_on t a) (nat_abs (p a)))
 
-  -- the cell and the in_cell step of a position that is not refused
+  -- the cell and the in-cell step of a position that is not refused
   module _ (h : first_of 3 (position_outcome (finest s even) p) ≡ done tt) where
     is-here : (a : ℕ) → a < 3 → b a ≡ nat_abs (p a)
     is-here a k = ((l.stand a k).low (position-range t p h a k).0).0
@@ -235,7 +235,7 @@ module _ (s : Shape) (even : Bool) (p : Position) (b : ℕ → ℕ) (cell step :
             none : (i j : ℕ) → 0 - i ≡ 0 - j
             none i j = omega arith
 
--- the cell and the in_cell step of a position of the table pass their tests
+-- the cell and the in-cell step of a position of the table pass their tests
 module _ (t : FullShape) (p : Position) (h : first_of 3 (position_outcome t p) ≡ done tt) (full : full_outcome t ≡ done tt) where
   abbrev f : Shaped t.shape
   f = shaped t.shape (full-shape t full)
@@ -258,7 +258,7 @@ module _ (t : FullShape) (p : Position) (h : first_of 3 (position_outcome t p) �
   own-steps = steps-pass t (position_step t p) (λ a l. (own a l).2)
       (λ a l k. let e = (position-range t p h a l).2 k in omega arith)
 
--- on 256 steps, for every position in 32 bits: the query by position is the query by its cell and in_cell step, with 22 for 11 where it is
+-- on 256 steps, for every position in 32 bits: the query by position is the query by its cell and in-cell step, with 22 for 11 where it is
 -- below 0, which cell and step do not tell
 pub located : (s : Shape) (even : Bool) (rs : List ℤ) (want : Want) (p : Position) (b : ℕ → ℕ) (cell step : Place)
     → Located s p b cell step
@@ -296,7 +296,7 @@ located-mark s even rs want p b cell step l given =
     let f = shaped s (asked-facts t rs want a.0).shape in
     ap₂ (cell_mark t rs want) (located-cell s even p b cell step l f h) (located-step s even p b cell step l f h)
 
--- so it says the same by its cell and in_cell step, or says 22 where they say 11
+-- so it says the same by its cell and in-cell step, or says 22 where they say 11
 pub located-or : (s : Shape) (even : Bool) (rs : List ℤ) (want : Want) (p : Position) (b : ℕ → ℕ) (cell step : Place)
     → Located s p b cell step → let t = finest s even in
     (by_cell t rs want cell step ≡ by_position t rs want p)
@@ -440,7 +440,7 @@ unfolding cell_on
 unused-cell s a b j v l e f =
     (e ∙ sym (pick-false (ltb a s.axes) (cell_of steps (count s a) b) 0 (le-ltb a s.axes l)), omega arith)
 
--- what the code reads at the cells and in_cell steps of a position
+-- what the code reads at the cells and in-cell steps of a position
 pub spot-read : (s : Shape) (even : Bool) (rs : List ℤ) (want : Want) (xs : List ℤ) (b : List ℕ) → Stand xs b → (i u j v k w : ℕ)
     → (i ≡ cell_of steps (count s 0) (get_or b 0 0)) × (u ≡ get_or b 0 0 - 256 * i) × (j ≡ cell_on s 1 (get_or b 1 0)) × (v ≡ get_or b 1 0 - 256 * j)
     × (k ≡ cell_on s 2 (get_or b 2 0)) × (w ≡ get_or b 2 0 - 256 * k)
@@ -462,7 +462,7 @@ spot-read s even rs want xs b st i u j v k w e r h =
     (subst (λ (step : Place). (outcome_of_reading r ≡ renumbered (position_number cell step) (by_cell (finest s even) rs want cell step))
     × Marks r (cell_mark (finest s even) rs want cell step)) same h))
 
--- what the code reads at the cell and in_cell step of a query by cell
+-- what the code reads at the cell and in-cell step of a query by cell
 spot-own : (t : FullShape) (rs : List ℤ) (want : Want) (cells inside : List ℕ) (i u j v k w : ℕ)
     → (i ≡ get_or cells 0 0) × (u ≡ get_or inside 0 0) × (j ≡ get_or cells 1 0) × (v ≡ get_or inside 1 0) × (k ≡ get_or cells 2 0)
     × (w ≡ get_or inside 2 0)

@@ -1,4 +1,4 @@
--- The facts behind a query that is not refused, when it is not, and a query by position as the query by its cell and in_cell step.
+-- The facts behind a query that is not refused, when it is not, and a query by position as the query by its cell and in-cell step.
 use mathlib.Core.Path.{◌≡◌, refl, sym, ap, subst, ◌∙◌}
 use mathlib.Core.Bool.{Bool, true, false, ◌||◌}
 use mathlib.Core.List.{List, [], ◌∷◌}
@@ -102,7 +102,7 @@ module _ (s : Shape) (last : ℕ) (p : ℤ) (a : ℕ) where
       ∙ passes (leb (nat_abs p) last) 11 a (le-leb (nat_abs p) last k))
       (λ e. unused-test e ∙ passes (eqb (nat_abs p) 0) 23 a (eq-eqb (nat_abs p) 0 (none (ltb-false a s.axes e))))
 
--- in_cell steps that are not refused, and back
+-- in-cell steps that are not refused, and back
 step-known : (t : FullShape) (step : Place) → steps_outcome t step ≡ done tt → (a : ℕ) → a < 3
     → (step a ≤ steps_on t a) × (t.shape.axes ≤ a → step a ≡ 0)
 unfolding steps_outcome

@@ -31,7 +31,9 @@ told s even rs ps found o h =
 
 pub returns : goal.returns
 returns c =
-    let a = c.args in let both = told a.s a.even a.records.now a.positions.now c.answer_all.new.found _ (c.answer_all.ensures.result_value, c.answer_all.ensures.by_index) in
+    let a = c.args in
+    let both = told a.s a.even a.records.now a.positions.now c.answer_all.new.found _
+    (c.answer_all.ensures.result_value, c.answer_all.ensures.by_index) in
     record { result_value = both.0; by_index = both.1 }
 
 pub slice_bounds-answer_all-end : goal.slice_bounds-answer_all-end
@@ -41,4 +43,4 @@ pub slice_bounds-answer_all-end-2 : goal.slice_bounds-answer_all-end-2
 slice_bounds-answer_all-end-2 c = sym (ap length (take-length c.args.positions.now))
 
 pub answer_all-requires : goal.answer_all-requires
-answer_all-requires c = let b = c in (listed _ _ _ b.requires.0, b.requires.1)
+answer_all-requires c = (listed _ _ _ c.requires.0, c.requires.1)

@@ -2,7 +2,6 @@
 use mathlib.Core.Path.{◌≡◌, sym, ap, ◌∙◌}
 use mathlib.Core.Bool.{Bool}
 use Prim.Native.Nat.{ℕ}
-use borrow.Author.Rules.{rules}
 use Rattle.lattice.specs.Outcome.{Check, refused}
 use Rattle.lattice.specs.Answers.{outcome_of}
 use Rattle.cell.specs.Cell.{place_at}

@@ -1,12 +1,9 @@
 -- `ramp::copy_row` meets its contract. The invariant: behind what stood in front, the first j entries of the row.
-use mathlib.Core.Path.{◌≡◌, sym, ap, subst, ◌∙◌}
+use mathlib.Core.Path.{◌≡◌}
 use Prim.Native.Nat.{ℕ, ◌+◌, ◌*◌, ◌-◌, ◌≤◌, ◌<◌}
-use native.Mathlib.Omega.{arith}
-use lib.ListN.{length, length-set}
-use Rattle.arith.proofs.Machine.{element}
+use lib.ListN.{length}
 use Rattle.lattice.specs.Buffer.{at}
-use Rattle.lattice.proofs.BufferLaws.{fill}
-use Rattle.ramp.proofs.RowLaws.{rows_fit, joined, joined-front, joined-behind, row_more}
+use Rattle.ramp.proofs.RowLaws.{joined}
 use Rattle.ramp.proofs.copy_row.Given as goal
 
 abbrev pub invariant-loop-j : goal.invariant-loop-j

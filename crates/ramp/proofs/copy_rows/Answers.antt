@@ -1,6 +1,6 @@
 -- `ramp::copy_rows` meets its contract. The invariant: the rows before the one at hand stand in front.
 use mathlib.Core.Path.{◌≡◌, sym, subst, ◌∙◌}
-use Prim.Native.Nat.{ℕ, ◌*◌, ◌-◌, ◌≤◌, ◌<◌}
+use Prim.Native.Nat.{ℕ, ◌*◌, ◌<◌}
 use native.Mathlib.Omega.{arith}
 use Rattle.ramp.specs.Parts.{Copied}
 use Rattle.ramp.proofs.copy_rows.Goals as goal

@@ -1,7 +1,5 @@
 -- `ramp::copy_rows` meets its contract. The invariant: the rows before the one at hand stand in front.
-use mathlib.Core.Path.{◌≡◌, sym, subst, ◌∙◌}
-use Prim.Native.Nat.{ℕ, ◌*◌, ◌-◌, ◌≤◌, ◌<◌}
-use native.Mathlib.Omega.{arith}
+use Prim.Native.Nat.{◌*◌, ◌-◌, ◌≤◌}
 use Rattle.ramp.specs.Parts.{Copied}
 use Rattle.ramp.proofs.copy_rows.Given as goal
 

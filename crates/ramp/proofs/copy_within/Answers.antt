@@ -4,7 +4,6 @@ use Prim.Native.Nat.{ℕ, ◌*◌}
 use native.Mathlib.Omega.{arith}
 use mathlib.Core.List.{List}
 use lib.IntN.{ℤ}
-use borrow.Author.Rules.{rules}
 use Rattle.lattice.specs.Outcome.{first_of, passed}
 use Rattle.cell.specs.declared.Layout.{Layout}
 use Rattle.cell.specs.Cell.{start_of, limit_in, record_outcome, CornerRows}
@@ -33,9 +32,12 @@ returns c =
     let p = b.requires.0 in
     let copied = h.copy_rows.ensures in
     let held : List ℤ = h.copy_rows.new.held in
-    let e : 2 * a.e * a.rows ≡ a.e * (2 * a.rows) = omega arith in record { copied = copied; value = c.all_within.ensures
+    let e : 2 * a.e * a.rows ≡ a.e * (2 * a.rows) = omega arith in record {
+      copied = copied;
+      value = c.all_within.ensures
           ∙ ap (λ (o : Layout). passed (first_of (2 * a.rows) (λ i. record_outcome (limit_in a.limits.now) a.e held (start_of o i))))
           d.layout_alone.ensures
           ∙ within_same a.l a.records.now held a.limits.now a.l.orders a.e (2 * a.rows) p.some
           (let k = p.few in omega arith)
-          (subst (λ (k : ℕ). Copied a.l a.records.now a.e k held) e copied) }
+          (subst (λ (k : ℕ). Copied a.l a.records.now a.e k held) e copied);
+    }

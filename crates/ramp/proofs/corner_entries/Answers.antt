@@ -2,7 +2,6 @@
 use mathlib.Core.Path.{◌≡◌, refl, sym, ap, ◌∙◌}
 use Prim.Native.Nat.{ℕ, ◌*◌, ◌^◌, ◌≤◌}
 use native.Mathlib.Omega.{arith}
-use borrow.Author.Rules.{rules}
 use Rattle.lattice.specs.Shape.{orders, entries, size}
 use Rattle.lattice.proofs.ShapeLaws.{entries-high}
 use Rattle.cell.proofs.NumberLaws.{count-split}

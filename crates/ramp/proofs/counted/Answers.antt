@@ -3,7 +3,6 @@ use mathlib.Core.Path.{sym, ap, ◌∙◌}
 use native.Mathlib.Nat.{add-zero}
 use Prim.Native.Nat.{◌+◌}
 use mathlib.Core.Bool.{Bool}
-use borrow.Author.Rules.{rules}
 use Rattle.arith.specs.Choice.{pick}
 use Rattle.ramp.proofs.counted.Goals as goal
 

@@ -1,5 +1,4 @@
 -- `ramp::dose_in` meets its contract: the number that the stages give fits 32 bits.
-use borrow.Author.Rules.{rules}
 use Rattle.arith.proofs.Editions.{edition-sound}
 use Rattle.ramp.proofs.DoseLaws.{dose-fits, dose-cast}
 use Rattle.ramp.proofs.dose_in.Goals as goal

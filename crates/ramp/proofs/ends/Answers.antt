@@ -1,14 +1,13 @@
 -- `ramp::ends` meets its contract: the first two stages give the numbers of both ends, one after the other.
 use mathlib.Core.Path.{◌≡◌, refl, sym, ap, subst, ◌∙◌}
 use mathlib.Core.List.{[], ◌∷◌}
-use Prim.Native.Nat.{ℕ, ◌+◌, ◌*◌, ◌-◌, ◌^◌, ◌≤◌, ◌<◌}
+use Prim.Native.Nat.{ℕ, ◌+◌, ◌*◌, ◌^◌, ◌≤◌, ◌<◌}
 use native.Mathlib.Nat.{not-suc-le-zero, zero-add}
 use native.Mathlib.Omega.{arith}
 use lib.ListN.{length, length-set}
 use lib.IntN.{ℤ}
 use mir.Syntax.{w64}
 use mir.Val.{to_z, of_z}
-use borrow.Author.Rules.{rules}
 use Rattle.arith.specs.Int.{rounding_of}
 use Rattle.arith.proofs.Machine.{read}
 use Rattle.lattice.specs.Buffer.{at}
@@ -68,8 +67,11 @@ pub first_stages-r-requires : goal.first_stages-r-requires
 first_stages-r-requires c =
     let d = c.before in
     let s = start d in
-    let a = s.args in record { all_prepared = s.requires.all_prepared; safe = subst (Safe (rounding_of a.even) a.m (size s) (a.y ∷ a.x ∷ []) (at a.held.now)) (sym c.place_at-p.ensures)
-          (safe s (t d) d.loop-t-test.true) }
+    let a = s.args in record {
+      all_prepared = s.requires.all_prepared;
+      safe = subst (Safe (rounding_of a.even) a.m (size s) (a.y ∷ a.x ∷ []) (at a.held.now)) (sym c.place_at-p.ensures)
+          (safe s (t d) d.loop-t-test.true);
+    }
 
 pub loop-t-preserved : goal.loop-t-preserved
 loop-t-preserved c =

@@ -1,20 +1,11 @@
 -- `ramp::ends` meets its contract: the first two stages give the numbers of both ends, one after the other.
-use mathlib.Core.Path.{◌≡◌, refl, sym, ap, subst, ◌∙◌}
+use mathlib.Core.Path.{◌≡◌}
 use mathlib.Core.List.{[], ◌∷◌}
-use Prim.Native.Nat.{ℕ, ◌+◌, ◌*◌, ◌-◌, ◌^◌, ◌≤◌, ◌<◌}
-use native.Mathlib.Nat.{not-suc-le-zero, zero-add}
-use native.Mathlib.Omega.{arith}
-use lib.ListN.{length, length-set}
-use lib.IntN.{ℤ}
-use mir.Syntax.{w64}
-use mir.Val.{to_z, of_z}
-use borrow.Author.Rules.{rules}
+use Prim.Native.Nat.{ℕ, ◌*◌, ◌-◌, ◌≤◌, ◌<◌}
+use lib.ListN.{length}
 use Rattle.arith.specs.Int.{rounding_of}
-use Rattle.arith.proofs.Machine.{read}
 use Rattle.lattice.specs.Buffer.{at}
-use Rattle.lattice.proofs.BufferLaws.{fill}
-use Rattle.evaluate.specs.Stages.{place_of, after, Safe}
-use Rattle.evaluate.proofs.EndLaws.{place-low, place-high, at_place, safe-index, end-of-two, end-of-three}
+use Rattle.evaluate.specs.Stages.{place_of, after}
 use Rattle.ramp.proofs.ends.Given as goal
 
 -- the first t numbers stand in n

@@ -4,7 +4,6 @@ use mathlib.Core.Bool.{true}
 use mathlib.Core.List.{[], ◌∷◌}
 use Prim.Native.Nat.{ℕ, ◌*◌, ◌≤◌}
 use lib.ListN.{length}
-use borrow.Author.Rules.{rules}
 use Rattle.arith.specs.Int.{rounding_of}
 use Rattle.lattice.specs.Buffer.{at}
 use Rattle.evaluate.specs.Stages.{strides_of, AllPrepared, Safe}
@@ -34,11 +33,14 @@ ends-both-requires c =
     let a = asks c in
     let e = (s c).requires.e_bound.1 in
     let x = c.axis_of-x.ensures in
-    let y = c.axis_of-y.ensures in record { all_prepared = (
+    let y = c.axis_of-y.ensures in record {
+      all_prepared = (
         a.0.0.1,
         record { node-is = y.node-is ∙ ap (λ (i : ℕ). 2 * i) e; order_is = y.order_is },
         record { node-is = x.node-is ∙ e; order_is = x.order_is },
-      ); at_both = a.1.0 }
+      );
+      at_both = a.1.0;
+    }
 
 pub stage-requires : goal.stage-requires
 stage-requires c =

@@ -1,6 +1,5 @@
 -- `ramp::is_new` meets its contract: the first axis on which the cells differ decides.
 use mathlib.Core.Path.{sym, ◌∙◌}
-use borrow.Author.Rules.{rules}
 use Rattle.arith.specs.Choice.{pick}
 use Rattle.cell.specs.Cell.{place_at}
 use Rattle.ramp.proofs.NewCells.{new-first, new-later, differ-x, differ-y, differ-z}

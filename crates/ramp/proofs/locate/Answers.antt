@@ -1,8 +1,7 @@
 -- `ramp::locate` meets its contract: the cells and steps are those of the position, read by two's complement.
 use mathlib.Core.List.{List, [], ◌∷◌}
-use Prim.Native.Nat.{◌+◌, ◌*◌, ◌-◌}
+use Prim.Native.Nat.{◌+◌, ◌*◌}
 use lib.IntN.{ℤ}
-use borrow.Author.Rules.{rules}
 use Rattle.lattice.specs.Buffer.{at}
 use Rattle.lattice.specs.Shape.{count}
 use Rattle.cell.proofs.CellLaws.{accepted}

@@ -1,13 +1,9 @@
 -- `ramp::scale_all` meets its contract. The invariant: the first j numbers are scaled.
 use mathlib.Core.Path.{◌≡◌}
 use Prim.Native.Nat.{ℕ, ◌-◌, ◌%◌, ◌≤◌, ◌<◌}
-use native.Mathlib.Nat.{not-suc-le-zero}
-use native.Mathlib.Omega.{arith}
-use lib.ListN.{length, length-set, get_or}
+use lib.ListN.{length, get_or}
 use Rattle.lattice.specs.Buffer.{at}
-use Rattle.lattice.proofs.BufferLaws.{fill}
 use Rattle.query.specs.Parts.{scaled_position}
-use Rattle.query.proofs.Coarse.{position-held}
 use Rattle.ramp.proofs.scale_all.Given as goal
 
 abbrev pub invariant-loop-j : goal.invariant-loop-j

@@ -1,6 +1,6 @@
 -- `ramp::write` meets its contract: the slice is filled from the front.
 use mathlib.Core.Path.{◌≡◌, subst}
-use Prim.Native.Nat.{ℕ, ◌≤◌, ◌-◌, zero-le}
+use Prim.Native.Nat.{ℕ, zero-le}
 use native.Mathlib.Omega.{arith}
 use lib.IntN.{pos}
 use Rattle.arith.proofs.Machine.{element}
