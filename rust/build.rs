@@ -11,7 +11,7 @@ fn main() {
     let archive = folder.join(ARCHIVE);
     if !archive.is_file() {
         eprintln!("{ARCHIVE} is missing in {}.", folder.display());
-        eprintln!("`rt staticlib lukhtari` in the repository makes it, in target/staticlib;");
+        eprintln!("`rt lib` in crates/lukhtari of the repository makes it, in its folder out;");
         eprintln!("LUKHTARI_LIB_DIR names another folder that has it, by its whole path.");
         process::exit(1);
     }
@@ -23,13 +23,13 @@ fn main() {
     println!("cargo:rustc-link-lib=static=lukhtari");
 }
 
-// The archive's folder: LUKHTARI_LIB_DIR, or target/staticlib of the repository.
+// The archive's folder: LUKHTARI_LIB_DIR, or crates/lukhtari/out of the repository.
 fn folder() -> PathBuf {
     match env::var_os("LUKHTARI_LIB_DIR") {
         Some(folder) => path::absolute(&folder).unwrap_or(PathBuf::from(folder)),
         None => {
             let package = env::var_os("CARGO_MANIFEST_DIR").expect("set by cargo");
-            PathBuf::from(package).with_file_name("target/staticlib")
+            PathBuf::from(package).with_file_name("crates/lukhtari/out")
         }
     }
 }

@@ -92,7 +92,7 @@ fn is_name(word: &str) -> bool {
 
 // What is wrong with a path; what commands make is not looked for.
 fn path_fault(word: &str) -> Option<String> {
-    let made = word.starts_with("target/");
+    let made = word.starts_with("target/") || word.contains("/out/");
     (!made && path(word).is_none()).then(|| format!("there is no file `{word}`"))
 }
 
@@ -186,13 +186,13 @@ fn reading_of_names() {
     let names = Names::collect();
     let outcome = "crates/lattice/specs/Outcome.antt";
     for (text, expected) in [
-        ("`lattice/specs/Outcome`: `first`, `firstOf`", vec![]),
+        ("`lattice/specs/Outcome`: `first`, `first_of`", vec![]),
         (
-            "`lattice/specs/Outcome`: `first`,\n  `nodeNumber`",
-            vec![(2, format!("`nodeNumber` is not declared in {outcome}"))],
+            "`lattice/specs/Outcome`: `first`,\n  `node_number`",
+            vec![(2, format!("`node_number` is not declared in {outcome}"))],
         ),
-        ("`lattice/specs/Outcome`: `first`; `nodeNumber`", vec![]),
-        ("`lattice/specs/Outcome`: it\n\n`nodeNumber`", vec![]),
+        ("`lattice/specs/Outcome`: `first`; `node_number`", vec![]),
+        ("`lattice/specs/Outcome`: it\n\n`node_number`", vec![]),
         ("`faults_in_order..`, `claims::estimate_and_ask`", vec![]),
         (
             "`arith::estimate_and_ask`",

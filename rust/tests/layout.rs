@@ -125,6 +125,7 @@ fn rattle_declares_the_same_as_the_header() {
         ("float_query", "FloatPosition"),
     ] {
         let code = text(&format!("crates/{folder}/src/lib.rt"));
+        let code = code.replace("#[derive(Clone, Copy)]\n", "");
         assert!(code.contains(&format!("#[repr(C)]\npub struct {name} ")));
         let fields = rust_structs(&code).remove(name).expect("a struct");
         structs.insert(name.to_string(), fields);
@@ -142,7 +143,7 @@ fn reading_of_declarations() {
         pub struct Shape { pub axes: u32, pub counts: [u32; 3] }
         pub struct Full { pub shape: Shape, pub second: bool }
         pub struct Done { pub number: u32, pub place: usize }
-        #[no_mangle]
+        #[unsafe(no_mangle)]
         pub extern \"C\" fn lukhtari_fill(full: Full, from: &[i32], to: &mut [u8]) -> Done
             ensures { true }
         {

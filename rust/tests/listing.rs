@@ -41,7 +41,7 @@ fn assert_written(shape: Shape, records: &[i32], cell: [u32; 3], filled: &[i64])
     assert!(rest.iter().all(|&number| number == 0));
 }
 
-// What the program filled_runs prints, which `rt check` holds it to.
+// What the program filled_runs prints, which `rt ci` holds it to.
 const STORED: &str = "crates/filled_runs/stdout";
 
 // Its records: the entry at an index of the corner records.

@@ -27,7 +27,7 @@ fn a_missing_archive_is_said() {
     let said = String::from_utf8_lossy(&built.stderr);
     assert!(!built.status.success(), "{said}");
     let missing = format!("liblukhtari.a is missing in {}.", empty.display());
-    for words in [&missing, "`rt staticlib lukhtari`", "LUKHTARI_LIB_DIR"] {
+    for words in [&missing, "`rt lib`", "LUKHTARI_LIB_DIR"] {
         assert!(said.contains(words), "{words}: {said}");
     }
 }

@@ -207,8 +207,9 @@ fn proving_and_building() {
         echo logic=proved; echo 'rt: report proved (3 s)'";
     let (proved, failed) = (format!("{lines}; return 0;"), format!("{lines}; return 1;"));
     check_failed(run_copy(&here, &tools, Some(&failed)), "not proved");
-    fs::create_dir_all(here.join("target/bin")).unwrap();
-    symlink(program(), here.join("target/bin/cell_doses")).unwrap();
+    let made = here.join("crates/cell_doses/out");
+    fs::create_dir_all(&made).unwrap();
+    symlink(program(), made.join("cell_doses")).unwrap();
     check_failed(run_copy(&here, &tools, Some(&failed)), "not proved");
     let (status, out, said) = run_copy(&here, &tools, Some(&proved));
     assert_eq!((status, out), (Some(0), output(&example("line.table"))));

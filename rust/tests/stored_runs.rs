@@ -1,4 +1,4 @@
-//! The program's stored runs, which `rt check` holds the program to, are what the model prints.
+//! The program's stored runs, which `rt ci` holds the program to, are what the model prints.
 
 mod common;
 mod model;

@@ -1,8 +1,8 @@
 // Prints the dose at the middle of each cell of the table file on standard input, cubic and quintic.
 #![tactic(auto)]
 
-use libc::STDIN_FILENO;
+use std::io;
 
-fn main() {
-    print_doses::print_doses(STDIN_FILENO);
+fn main(rt: HostRuntime) -> io::Result<()> {
+    print_doses::print_doses(&mut rt.stdin(), &mut rt.stdout())
 }

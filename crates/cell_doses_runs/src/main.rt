@@ -1,27 +1,33 @@
 // The program's stored runs: for each file that an argument names, a line with its name and what the program prints for it.
 #![tactic(auto)]
 
-use libc::STDOUT_FILENO;
+use std::env::FillError;
+use std::rt::{Env, Files};
+use std::{fs, io, str};
 
-fn run(i: usize) {
-    let mut path = io::buffer();
-    let length = os::arg(i, &mut path);
-    io::write_all(STDOUT_FILENO, &path[..length]);
-    io::write_all(STDOUT_FILENO, b"\n");
-    let fd = os::open_read(&path[..length]);
-    if fd < 0 {
-        os::fail(&path[..length]);
-        return;
+// A file that cannot be opened has a line on standard error.
+fn run<R: Files + Print + Eprint>(rt: &R, path: &[u8]) -> io::Result<()> {
+    rt.write_all(path)?;
+    rt.write_all(b"\n")?;
+    match str::from_utf8(path) {
+        Err(error) => rt.eprintln(error),
+        Ok(name) => match fs::open(rt, name) {
+            Err(error) => eprintln!(rt; "{name}: {error}"),
+            Ok(mut file) => print_doses::print_doses(&mut file, &mut io::writer(rt)),
+        },
     }
-    print_doses::print_doses(fd);
-    libc::close(fd);
 }
 
-fn main() {
-    let count = os::arg_count();
-    let mut i = 1;
-    while i < count {
-        run(i);
-        i += 1;
+fn main(rt: HostRuntime) -> io::Result<()> {
+    let mut path = [0u8; 4096];
+    for i in 1..usize::MAX {
+        // An argument that does not fit counts as an empty one.
+        let length = match rt.arg(i, &mut path) {
+            Ok(length) => length,
+            Err(FillError::TooLong) => 0,
+            Err(FillError::NotPresent) => break,
+        };
+        run(&rt, &path[..length])?;
     }
+    Ok(())
 }

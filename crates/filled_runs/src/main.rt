@@ -4,7 +4,7 @@
 ghost use Rattle.std.specs.Prelude.{◌≡◌, ◌<◌, ◌≤◌, length};
 
 use lattice::{Check, FullShape, Shape};
-use libc::STDOUT_FILENO;
+use std::io;
 
 fn less_fifty(r: usize) -> i32
     requires { r < 101 }
@@ -25,66 +25,67 @@ fn entries() -> [i32; 216]
     xs
 }
 
-fn print_natural(n: u64) {
+fn print_natural<P: Print>(to: &P, n: u64) -> io::Result<()> {
     if n > 9 {
-        print_natural(n / 10);
+        print_natural(to, n / 10)?;
     }
     let digit = [48 + (n % 10) as u8];
-    io::write_all(STDOUT_FILENO, &digit);
+    to.write_all(&digit)
 }
 
-fn print_number(x: i32) {
+fn print_number<P: Print>(to: &P, x: i32) -> io::Result<()> {
     if x < 0 {
-        io::write_all(STDOUT_FILENO, b"-");
+        to.write_all(b"-")?;
     }
-    print_natural(arith::magnitude(x as i64));
+    print_natural(to, arith::magnitude(x as i64))
 }
 
-fn print_line(s: Shape, k: usize, xs: &[i32; 216]) {
-    print_natural(s.degree as u64);
-    io::write_all(STDOUT_FILENO, b" ");
-    print_natural(s.axes as u64);
-    io::write_all(STDOUT_FILENO, b" ");
-    print_natural(k as u64);
-    io::write_all(STDOUT_FILENO, b":");
+fn print_line<P: Print>(to: &P, s: Shape, k: usize, xs: &[i32; 216]) -> io::Result<()> {
+    print_natural(to, s.degree as u64)?;
+    to.write_all(b" ")?;
+    print_natural(to, s.axes as u64)?;
+    to.write_all(b" ")?;
+    print_natural(to, k as u64)?;
+    to.write_all(b":")?;
     let mut i: usize = 0;
     while i < 216 {
-        io::write_all(STDOUT_FILENO, b" ");
-        print_number(xs[i]);
+        to.write_all(b" ")?;
+        print_number(to, xs[i])?;
         i += 1;
     }
-    io::write_all(STDOUT_FILENO, b"\n");
+    to.write_all(b"\n")
 }
 
 // The line of k corners of the table of one cell.
-fn run(t: FullShape, k: usize, records: &[i32]) {
+fn run<P: Print>(to: &P, t: FullShape, k: usize, records: &[i32]) -> io::Result<()> {
     let cell = [0u32; 3];
     let asked = coefficients::check_request(t, records.len(), cell, 216);
     if let Check::Refused(_) = asked {
-        return;
+        return Ok(());
     }
     let l = cell::layout_of(t.shape, cell);
     let tested = cell::check_corners(t.shape, records, cell, l);
     if let Check::Refused(_) = tested {
-        return;
+        return Ok(());
     }
     let n = t.shape.axes as usize;
     if k > coefficients::power(2, n) {
-        return;
+        return Ok(());
     }
-    print_line(t.shape, k, &coefficients::filled(n, k, l, records));
+    print_line(to, t.shape, k, &coefficients::filled(n, k, l, records))
 }
 
 // The lines of a table of one cell, whose corner records have `size` entries.
-fn runs(t: FullShape, corners: usize, size: usize)
+fn runs<P: Print>(to: &P, t: FullShape, corners: usize, size: usize) -> io::Result<()>
     requires { (corners ≤ 8) × (size ≤ 216) }
 {
     let records = entries();
     let mut k: usize = 0;
     while k <= corners {
-        run(t, k, &records[..size]);
+        run(to, t, k, &records[..size])?;
         k += 1;
     }
+    Ok(())
 }
 
 fn one_cell(axes: u32, degree: u32, y: u32, z: u32) -> FullShape {
@@ -95,11 +96,11 @@ fn one_cell(axes: u32, degree: u32, y: u32, z: u32) -> FullShape {
     }
 }
 
-fn main() {
-    runs(one_cell(1, 3, 1, 1), 2, 4);
-    runs(one_cell(2, 3, 2, 1), 4, 16);
-    runs(one_cell(3, 3, 2, 2), 8, 64);
-    runs(one_cell(1, 5, 1, 1), 2, 6);
-    runs(one_cell(2, 5, 2, 1), 4, 36);
-    runs(one_cell(3, 5, 2, 2), 8, 216);
+fn main(rt: HostRuntime) -> io::Result<()> {
+    runs(&rt, one_cell(1, 3, 1, 1), 2, 4)?;
+    runs(&rt, one_cell(2, 3, 2, 1), 4, 16)?;
+    runs(&rt, one_cell(3, 3, 2, 2), 8, 64)?;
+    runs(&rt, one_cell(1, 5, 1, 1), 2, 6)?;
+    runs(&rt, one_cell(2, 5, 2, 1), 4, 36)?;
+    runs(&rt, one_cell(3, 5, 2, 2), 8, 216)
 }

@@ -405,13 +405,13 @@ pub fn repository() -> PathBuf {
     root.canonicalize().expect("the repository")
 }
 
-// The program: LUKHTARI_PROGRAM, or target/bin/cell_doses of the repository.
+// The program: LUKHTARI_PROGRAM, or crates/cell_doses/out/cell_doses of the repository.
 pub fn program() -> PathBuf {
     let path = match env::var_os("LUKHTARI_PROGRAM") {
         Some(path) => PathBuf::from(path),
-        None => repository().join("target/bin/cell_doses"),
+        None => repository().join("crates/cell_doses/out/cell_doses"),
     };
     let shown = path.display();
-    assert!(path.exists(), "{shown} is missing: run `rt check`");
+    assert!(path.exists(), "{shown} is missing: run `rt ci`");
     path
 }

@@ -86,7 +86,7 @@ fn collect_folder(folder: &str, files: &mut BTreeMap<String, BTreeSet<String>>) 
     for name in entries(folder) {
         let path = format!("{folder}/{name}");
         if repository().join(&path).is_dir() {
-            if name != "target" {
+            if name != "target" && name != "out" {
                 collect_folder(&path, files);
             }
             continue;
