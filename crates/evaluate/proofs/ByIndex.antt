@@ -17,7 +17,7 @@ use Rattle.arith.proofs.Rests.{common-divides}
 use Rattle.lattice.specs.declared.Shape.{Shape}
 use Rattle.lattice.specs.Buffer.{at}
 use Rattle.lattice.specs.Shape.{orders, Shaped}
-use Rattle.lattice.specs.Axes.{Place, Field, put, sweep, axes}
+use Rattle.lattice.specs.Axes.{Place, Field, put, sweep}
 use Rattle.lattice.specs.Records.{records_field}
 use Rattle.lattice.proofs.Along.{put-at, put-off, linear-multiple, Each, Fresh, Distinct}
 use Rattle.lattice.proofs.ShapeLaws.{orders-range}

@@ -6,7 +6,6 @@ use native.Mathlib.Omega.{arith}
 use native.Mathlib.Nat.{pow-zero, pow-suc, mul-sub, one-le-pow}
 use lib.IntN.{ℤ, pos, ◌-ℤ◌, ◌*ℤ◌, zero-*ℤ}
 use Rattle.arith.specs.Int.{◌^ℤ◌}
-use Rattle.arith.specs.Sum.{sum}
 use Rattle.arith.proofs.Quote.{quotes, ring! }
 use Rattle.arith.proofs.Round.{pos-power}
 use Rattle.arith.proofs.Sums.{sum-ext, sum_left}

@@ -11,7 +11,7 @@ use Rattle.lattice.specs.Digits.{number, digit}
 use Rattle.lattice.specs.Axes.{Place, Field, Rule, put, along, sweep, axes}
 use Rattle.lattice.specs.Flat.{index_of, size_of, pass}
 use Rattle.lattice.proofs.Along.{put_same, Each, Fresh}
-use Rattle.lattice.proofs.Local.{Depends, used}
+use Rattle.lattice.proofs.Local.{Depends}
 use Rattle.lattice.proofs.PassLaws.{Holds, pass-along, fresh-snoc}
 use Rattle.lattice.proofs.DigitsLaws.{Digits, digits_in, of-digits, no-group}
 

@@ -1,17 +1,11 @@
 -- `cell::all_within` meets its contract: no record of a row before the one at hand has an entry beyond its limit.
-use mathlib.Core.Path.{◌≡◌, refl, sym, ap, ap₂, subst, ◌∙◌}
+use mathlib.Core.Path.{◌≡◌}
 use mathlib.Core.List.{List}
 use Prim.Native.Nat.{ℕ, ◌≤◌, ◌+◌, ◌*◌, ◌-◌}
-use native.Mathlib.Omega.{arith}
-use borrow.Author.Tests.{eq-eqb, ne_eqb}
-use lib.Dec.{eqb}
 use lib.IntN.{ℤ}
-use lib.ListN.{length}
-use Rattle.lattice.specs.Outcome.{Check, done, first, first_of, passed}
-use Rattle.lattice.proofs.OutcomeLaws.{passed-done, first_of-fails, first_of-more, first_of-pairs}
+use Rattle.lattice.specs.Outcome.{Check, done, first, first_of}
 use Rattle.cell.specs.declared.Layout.{Layout}
-use Rattle.cell.specs.Cell.{start_of, limit_in, record_outcome}
-use Rattle.cell.proofs.LayoutLaws.{corner_test, neighbour}
+use Rattle.cell.proofs.LayoutLaws.{corner_test}
 use Rattle.cell.proofs.all_within.Given as goal
 
 -- the limit tests of the two records of a row

@@ -1,9 +1,8 @@
 -- `cell::beyond_in` meets its contract: the bits joined so far are 0 where no entry so far of both records is beyond its limit.
 use mathlib.Core.Path.{◌≡◌, refl, sym, ap, ◌∙◌}
 use mathlib.Core.Bool.{true, ◌&&◌}
-use Prim.Native.Nat.{ℕ, ◌≤◌, ◌<◌, ◌+◌, ◌-◌, ◌^◌}
+use Prim.Native.Nat.{ℕ, ◌<◌, ◌+◌, ◌^◌}
 use native.Mathlib.Omega.{arith}
-use lib.Dec.{eqb}
 use lib.Signed.{non_neg, mag}
 use mir.Syntax.{w32}
 use mir.Val.{to_z, of_z}
@@ -13,7 +12,6 @@ use Rattle.cell.specs.Cell.{record_outcome}
 use Rattle.cell.proofs.LimitLaws.{test, limit-told, test_bit, bits-more}
 use Rattle.arith.proofs.Machine.{element}
 use Rattle.lattice.specs.Buffer.{at}
-use borrow.Author.Rules.{rules}
 use Rattle.cell.proofs.beyond_in.Goals as goal
 use Rattle.cell.proofs.beyond_in.Goals.{At-loop-e}
 

@@ -3,7 +3,6 @@ use mathlib.Core.Path.{refl}
 use lib.Dec.{lit<}
 use Rattle.lattice.specs.Buffer.{tabulate}
 use Rattle.lattice.specs.Digits.{digit}
-use borrow.Author.Rules.{rules}
 use Rattle.cell.proofs.cell_at.Goals as goal
 
 pub returns : goal.returns

@@ -3,7 +3,6 @@ use lib.Dec.{lit<}
 use Rattle.lattice.specs.Shape.{count}
 use Rattle.cell.specs.Cells.{cells_along}
 use Rattle.cell.proofs.CellsLaws.{counts-between, three-same}
-use borrow.Author.Rules.{rules}
 use Rattle.cell.proofs.cells_of.Goals as goal
 use Rattle.cell.proofs.cells_of.Goals.{After-cells_on-z, Start}
 

@@ -1,6 +1,5 @@
 -- `cell::cells_on` meets its contract: one test.
 use mathlib.Core.Path.{sym}
-use borrow.Author.Rules.{rules}
 use borrow.Author.Tests.{lt-ltb, le-ltb}
 use Rattle.arith.proofs.Choices.{pick_true, pick-false}
 use Rattle.cell.proofs.cells_on.Goals as goal

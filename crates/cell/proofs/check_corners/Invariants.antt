@@ -1,19 +1,8 @@
 -- `cell::check_corners` meets its contract: no corner before the one at hand has an entry beyond its limit.
-use Rattle.arith.proofs.Machine.{shifted}
-use Rattle.cell.proofs.CellLaws.{laid-small}
-use Rattle.lattice.specs.Outcome.{done, refused, first_of}
-use Rattle.lattice.specs.Answers.{outcome_of}
-use Rattle.lattice.specs.Shape.{entries, orders}
-use Rattle.lattice.proofs.ShapeLaws.{orders-range, entries-high}
-use Rattle.lattice.proofs.OutcomeLaws.{first_of-stops, first_of-more}
-use Rattle.cell.specs.Cell.{place_at, limit_of, limit_in, record_outcome, corners_outcome}
-use Rattle.lattice.specs.Buffer.{at}
-use Rattle.cell.proofs.LayoutLaws.{corner_test, few, record-in, limits-hold, all-is}
-use mathlib.Core.Path.{◌≡◌, refl, sym, ap, subst, ◌∙◌}
-use Prim.Native.Nat.{ℕ, ◌≤◌, ◌<◌, ◌^◌, ◌-◌, ◌*◌, ◌%◌}
-use native.Mathlib.Omega.{arith}
-use lib.IntN.{pos}
-use borrow.Author.Rules.{rules}
+use Rattle.lattice.specs.Outcome.{done, first_of}
+use Rattle.cell.proofs.LayoutLaws.{corner_test}
+use mathlib.Core.Path.{◌≡◌}
+use Prim.Native.Nat.{◌≤◌, ◌-◌}
 use Rattle.cell.proofs.check_corners.Given as goal
 
 abbrev pub invariant-loop-c : goal.invariant-loop-c

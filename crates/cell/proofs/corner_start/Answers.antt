@@ -1,7 +1,6 @@
 -- `cell::corner_start` meets its contract: the base and the strides of the corner's ends; their sum fits.
 use native.Mathlib.Omega.{arith}
 use Rattle.cell.proofs.CellLaws.{Steps, small-steps}
-use borrow.Author.Rules.{rules}
 use Rattle.cell.proofs.corner_start.Goals as goal
 use Rattle.cell.proofs.corner_start.Goals.{Start}
 

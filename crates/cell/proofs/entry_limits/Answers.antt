@@ -11,7 +11,6 @@ use native.Mathlib.Omega.{arith}
 use lib.IntN.{ℤ, pos, negsuc, nat_abs}
 use lib.Signed.{non_neg}
 use Rattle.lattice.specs.Buffer.{at}
-use borrow.Author.Rules.{rules}
 use Rattle.cell.proofs.entry_limits.Goals as goal
 
 cubic : List ℤ

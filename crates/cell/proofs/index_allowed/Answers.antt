@@ -1,5 +1,4 @@
 -- `cell::index_allowed` meets its contract: the tests of a used and of an unused axis.
-use borrow.Author.Rules.{rules}
 use Rattle.cell.proofs.index_allowed.Goals as goal
 
 pub returns : goal.returns

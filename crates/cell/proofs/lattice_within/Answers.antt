@@ -8,7 +8,6 @@ use lib.IntN.{ℤ, pos}
 use Rattle.lattice.specs.Buffer.{at}
 use Rattle.cell.specs.Cell.{limit_of}
 use Rattle.cell.proofs.LayoutLaws.{Called, called, quintic-orders}
-use borrow.Author.Rules.{rules}
 use Rattle.cell.proofs.lattice_within.Goals as goal
 use Rattle.cell.proofs.lattice_within.Goals.{After-limits-1, After-limits-2-1, After-limits-then-l-eq2-1, After-limits-then-n-eq2-2-1, Start}
 

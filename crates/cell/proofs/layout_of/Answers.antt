@@ -5,14 +5,13 @@ use native.Mathlib.Decide.{dec_lt}
 use lib.Dec.{lit<}
 use Rattle.arith.specs.Choice.{pick}
 use Rattle.lattice.specs.declared.Shape.{Shape}
-use Rattle.lattice.specs.Shape.{count, entries, orders, Shaped}
+use Rattle.lattice.specs.Shape.{count, entries, Shaped}
 use Rattle.lattice.proofs.ShapeLaws.{entries-high}
 use Rattle.lattice.proofs.RecordsLaws.{node-is}
 use Rattle.cell.specs.Cell.{place_at, base, node_stride}
 use mathlib.Core.Path.{refl, sym, ap}
 use Prim.Native.Nat.{ℕ, ◌≤◌, ◌<◌, ◌+◌, ◌*◌}
 use native.Mathlib.Omega.{arith}
-use borrow.Author.Rules.{rules}
 use Rattle.cell.proofs.layout_of.Goals as goal
 use Rattle.cell.proofs.layout_of.Goals.{After-record_entries-size}
 

@@ -7,7 +7,6 @@ use lib.IntN.{ℤ, pos}
 use Rattle.lattice.specs.Buffer.{at}
 use Rattle.cell.specs.Cell.{limit_of}
 use Rattle.cell.proofs.LayoutLaws.{Called, called, quintic-orders}
-use borrow.Author.Rules.{rules}
 use Rattle.cell.proofs.line_within.Goals as goal
 use Rattle.cell.proofs.line_within.Goals.{After-all_within-arg-1, After-all_within-arg-2-1, Start}
 

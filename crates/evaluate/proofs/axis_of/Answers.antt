@@ -1,6 +1,5 @@
 -- `evaluate::axis_of` meets its contract: the basis of its step, the shift of its rounding, and the strides that it was given.
 use mathlib.Core.Path.{refl}
-use borrow.Author.Rules.{rules}
 use Rattle.evaluate.proofs.axis_of.Goals as goal
 
 pub returns : goal.returns

@@ -2,7 +2,6 @@
 use Rattle.arith.proofs.Machine.{widen-fits, widened}
 use lib.ListN.{get_or}
 use lib.IntN.{pos}
-use borrow.Author.Rules.{rules}
 use Rattle.evaluate.proofs.entry.Goals as goal
 
 pub overflow_cast-result : goal.overflow_cast-result

@@ -77,8 +77,11 @@ returns c =
     let a = reads s s.args.p u.result u.ensures c.struct_told-2-1.given.0.1 in
     let b = reads s (s.args.p + s.args.order) v.result v.ensures c.struct_told-3-1.given.0.1 in
     let f = reads s (s.args.p + 2 * s.args.order) w.result w.ensures c.struct_told-4-1.given.0.1 in
-    let m3 = three s d.if-m-eq2.false in record { end = end-of-three s.args.m (number s) s.args.p s.args.order _ _ a.0 b.0 m3 _ f.0; rest_value = rest-of-three s.args.m (keeps s) s.args.p s.args.order u.result.rest v.result.rest a.1 b.1 m3
-          w.result.rest f.1 }
+    let m3 = three s d.if-m-eq2.false in record {
+      end = end-of-three s.args.m (number s) s.args.p s.args.order _ _ a.0 b.0 m3 _ f.0;
+      rest_value = rest-of-three s.args.m (keeps s) s.args.p s.args.order u.result.rest v.result.rest a.1 b.1 m3
+          w.result.rest f.1;
+    }
 
 pub first-a-requires : goal.first-a-requires
 first-a-requires c = record { prepared = c.requires.prepared; safe = (safe-low c).0 }

@@ -28,8 +28,11 @@ returns c =
     let d = c in
     let low = d.first_end-low in
     let high = d.first_end-high in
-    let a = d.args in record { are_ends = record { low = low.ensures.end; high = high.ensures.end }; rest_value = or-none high.result.rest low.result.rest ∙ ap₂ ◌&&◌ high.ensures.rest_value low.ensures.rest_value
-          ∙ sym (all-ends a.m a.order a.node (cleanly a.m a.k a.x (at a.records.now) (λ i. true)) a.p) }
+    let a = d.args in record {
+      are_ends = record { low = low.ensures.end; high = high.ensures.end };
+      rest_value = or-none high.result.rest low.result.rest ∙ ap₂ ◌&&◌ high.ensures.rest_value low.ensures.rest_value
+          ∙ sym (all-ends a.m a.order a.node (cleanly a.m a.k a.x (at a.records.now) (λ i. true)) a.p);
+    }
 
 pub first_end-low-requires : goal.first_end-low-requires
 first_end-low-requires c = record { prepared = c.requires.prepared; by_index = (λ o l. (c.requires.at_both o l).0) }

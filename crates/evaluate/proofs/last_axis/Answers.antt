@@ -4,7 +4,6 @@ use Prim.Native.Nat.{ℕ}
 use Rattle.evaluate.specs.Evaluate.{last_axis}
 use Rattle.evaluate.specs.Wants.{want_of}
 use Rattle.evaluate.proofs.AnswerLaws.{want-some}
-use borrow.Author.Rules.{rules}
 use Rattle.evaluate.proofs.last_axis.Goals as goal
 
 pub returns-then-order-eq0 : goal.returns-then-order-eq0

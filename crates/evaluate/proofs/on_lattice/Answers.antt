@@ -143,7 +143,7 @@ module _ (c : After-in_sequence-sequence) where
 
 module _ (w : After-in_sequence-sequence) (r : Rounded) (ok : mag r.number < 2 ^ 63)
     (e : WorkedOff (b w).args.l.orders (b w).args.order w.in_sequence-sequence.result.last (others w)
-      (Reports (rounding_of (b w).args.even) (b w).args.l.orders (at (here w)) 0 r)) where
+    (Reports (rounding_of (b w).args.even) (b w).args.l.orders (at (here w)) 0 r)) where
   fits_in : SFits w32 (to_z w64 (of_z w64 r.number))
   fits_in =
       let s = b w in

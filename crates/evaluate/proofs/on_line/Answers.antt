@@ -65,7 +65,7 @@ module _ (c : After-strides_of-x) where
 
 module _ (w : After-strides_of-x) (r : Rounded) (ok : mag r.number < 2 ^ 63)
     (e : WorkedOff (b w).args.l.orders (b w).args.order w.strides_of-x.result []
-      (Reports (rounding_of (b w).args.even) (b w).args.l.orders (at (b w).args.records.now) (b w).args.l.base r)) where
+    (Reports (rounding_of (b w).args.even) (b w).args.l.orders (at (b w).args.records.now) (b w).args.l.base r)) where
   fits_in : SFits w32 (to_z w64 (of_z w64 r.number))
   fits_in =
       let s = b w in
@@ -86,9 +86,9 @@ returns c =
 
 pub strides_of-x-requires : goal.strides_of-x-requires
 strides_of-x-requires c = let a = c.args in (
-      orders-low (edition-sound a.even) a.s a.records.now (place_at a.cell) a.step a.order a.axis a.l c.requires.ready,
-      lit< tt,
-    )
+  orders-low (edition-sound a.even) a.s a.records.now (place_at a.cell) a.step a.order a.axis a.l c.requires.ready,
+  lit< tt,
+)
 
 pub one_axis_by_kind-r-requires : goal.one_axis_by_kind-r-requires
 one_axis_by_kind-r-requires c = asks c

@@ -1,6 +1,5 @@
 -- `evaluate::one_axis` meets its contract: the stage of the only axis goes from units to units.
 use mathlib.Core.List.{[]}
-use borrow.Author.Rules.{rules}
 use Rattle.evaluate.proofs.StageOrder.{made-prepared, made-small}
 use Rattle.evaluate.proofs.one_axis.Goals as goal
 

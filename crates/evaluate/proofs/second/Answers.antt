@@ -16,11 +16,14 @@ use Rattle.evaluate.proofs.second.Goals.{After-first_ends-ends, Start}
 pub first_ends-ends-requires : goal.first_ends-ends-requires
 first_ends-ends-requires c =
     let s = c in
-    let h = s.requires.all_prepared.0.1.0 in record { prepared = (
+    let h = s.requires.all_prepared.0.1.0 in record {
+      prepared = (
         h,
         subst (λ (i : ℕ). i ≤ 44) (sym c.shift-before.ensures)
             (shifted 0 s.args.m _ _ (omega (arith, h.m-low)) h.m-low h.m-high).low,
-      ); at_both = s.requires.safe.0 }
+      );
+      at_both = s.requires.safe.0;
+    }
 
 module _ (c : After-first_ends-ends) where
   abbrev start : Start

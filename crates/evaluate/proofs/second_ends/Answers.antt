@@ -2,7 +2,7 @@
 use mathlib.Core.Path.{◌≡◌, refl, sym, ap, ap₂, subst, ◌∙◌}
 use mathlib.Core.Bool.{true, Bool, ◌&&◌}
 use mathlib.Core.List.{[], ◌∷◌}
-use Prim.Native.Nat.{ℕ, suc, ◌+◌, ◌*◌, ◌-◌, ◌≤◌, ◌<◌}
+use Prim.Native.Nat.{ℕ, suc, ◌+◌, ◌*◌, ◌≤◌, ◌<◌}
 use native.Mathlib.Nat.{not-suc-le-zero}
 use native.Mathlib.Omega.{arith}
 use lib.ListN.{length, length-set}
@@ -10,7 +10,6 @@ use lib.Dec.{eqb}
 use lib.IntN.{ℤ}
 use mir.Syntax.{w64}
 use mir.Val.{to_z, of_z}
-use borrow.Author.Rules.{rules}
 use Rattle.arith.specs.Choice.{all}
 use Rattle.arith.specs.Int.{rounding_of}
 use Rattle.arith.proofs.Machine.{read}
@@ -92,8 +91,11 @@ module _ (c : After-place_at-place) where
 pub first_stages-r-requires : goal.first_stages-r-requires
 first_stages-r-requires c =
     let s = at-place-of c in
-    let a = s.args in record { all_prepared = s.requires.all_prepared; safe = subst (λ (i : ℕ). Safe (rounding_of a.even) a.m (size s) (a.y ∷ a.x ∷ []) (at a.records.now) (a.p + i)) (sym (here c))
-          (safe s (t c.before) c.loop-t-test.true) }
+    let a = s.args in record {
+      all_prepared = s.requires.all_prepared;
+      safe = subst (λ (i : ℕ). Safe (rounding_of a.even) a.m (size s) (a.y ∷ a.x ∷ []) (at a.records.now) (a.p + i)) (sym (here c))
+          (safe s (t c.before) c.loop-t-test.true);
+    }
 
 -- what is reported of its number
 module _ (found : After-place_at-place) (r : Rounded) (ok : mag r.number < 2 ^ 63)
@@ -167,21 +169,25 @@ returns-then-m-eq2 c =
     let t1 = c in
     let d = t1.before.before.before.before.before in
     let a = (begun d).args in
-    let m2 = t1.if-m-eq2.true in record { are_ends = record {
+    let m2 = t1.if-m-eq2.true in record {
+      are_ends = record {
         low = end-of-two a.m (number (begun d)) a.p a.order _ _
             (read _ c.result-1.given ∙ low d 0 a.p (omega arith) (omega arith))
             (read _ c.result-then-m-eq2-1.given ∙ low d 1 (a.p + a.order) (omega arith) (omega arith)) m2;
         high = end-of-two a.m (number (begun d)) (a.p + a.node) a.order _ _
             (read _ c.result-then-m-eq2-2-1.given ∙ high d 0 2 (a.p + a.node) (omega arith) (omega arith) (omega arith))
             (read _ c.result-then-m-eq2-3-1.given ∙ high d 1 3 (a.p + a.node + a.order) (omega arith) (omega arith) (omega arith)) m2;
-      }; rest_value = kept d }
+      };
+      rest_value = kept d;
+    }
 
 pub returns : goal.returns
 returns c =
     let t1 = of_three c in
     let d = t1.before in
     let a = (begun d).args in
-    let m3 : a.m ≡ 3 = omega (arith, m2 (begun d), m3 (begun d), t1.if-m-eq2.false) in record { are_ends = record {
+    let m3 : a.m ≡ 3 = omega (arith, m2 (begun d), m3 (begun d), t1.if-m-eq2.false) in record {
+      are_ends = record {
         low = end-of-three a.m (number (begun d)) a.p a.order _ _
             (read _ c.result-2-1.given ∙ low d 0 a.p (omega arith) (omega arith))
             (read _ c.result-3-1.given ∙ low d 1 (a.p + a.order) (omega arith) (omega arith)) m3 _
@@ -190,7 +196,9 @@ returns c =
             (read _ c.result-5-1.given ∙ high d 0 3 (a.p + a.node) (omega arith) (omega arith) (omega arith))
             (read _ c.result-6-1.given ∙ high d 1 4 (a.p + a.node + a.order) (omega arith) (omega arith) (omega arith)) m3 _
             (read _ c.result-7-1.given ∙ high d 2 5 (a.p + a.node + 2 * a.order) (omega arith) (omega arith) refl);
-      }; rest_value = kept d }
+      };
+      rest_value = kept d;
+    }
 
 pub overflow_mul-m : goal.overflow_mul-m
 overflow_mul-m c = let h = m3 c.before in omega arith

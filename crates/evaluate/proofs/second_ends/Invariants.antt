@@ -1,24 +1,13 @@
 -- `evaluate::second_ends` meets its contract: the second stage gives the numbers of both ends, one after the other.
-use mathlib.Core.Path.{◌≡◌, refl, sym, ap, ap₂, subst, ◌∙◌}
-use mathlib.Core.Bool.{Bool, ◌&&◌}
+use mathlib.Core.Path.{◌≡◌}
 use mathlib.Core.List.{[], ◌∷◌}
-use Prim.Native.Nat.{ℕ, suc, ◌+◌, ◌*◌, ◌-◌, ◌≤◌, ◌<◌}
-use native.Mathlib.Nat.{not-suc-le-zero}
-use native.Mathlib.Omega.{arith}
-use lib.ListN.{length, length-set}
+use Prim.Native.Nat.{ℕ, ◌+◌, ◌*◌, ◌-◌, ◌≤◌, ◌<◌}
+use lib.ListN.{length}
 use lib.Dec.{eqb}
-use lib.IntN.{ℤ}
-use mir.Syntax.{w64}
-use mir.Val.{to_z, of_z}
-use borrow.Author.Rules.{rules}
 use Rattle.arith.specs.Choice.{all}
 use Rattle.arith.specs.Int.{rounding_of}
-use Rattle.arith.proofs.Machine.{read}
-use Rattle.arith.proofs.Bits.{or-none}
 use Rattle.lattice.specs.Buffer.{at}
-use Rattle.lattice.proofs.BufferLaws.{fill}
-use Rattle.evaluate.specs.Stages.{place_of, all_at, after, clean_after, Safe}
-use Rattle.evaluate.proofs.EndLaws.{place-low, place-high, at_place, safe-index, end-of-two, end-of-three}
+use Rattle.evaluate.specs.Stages.{place_of, after, clean_after}
 use Rattle.evaluate.proofs.second_ends.Given as goal
 
 -- the first t numbers stand in n, and their rests are joined in `rest`

@@ -4,7 +4,6 @@ use Prim.Native.Nat.{ℕ, ◌*◌, ◌^◌, ◌≤◌}
 use native.Mathlib.Nat.{pow-zero, mul-le-mul}
 use native.Mathlib.Omega.{arith}
 use lib.ListN.{get_or}
-use borrow.Author.Rules.{rules}
 use Rattle.lattice.proofs.ShapeLaws.{pow-one, pow-two}
 use Rattle.evaluate.specs.Stages.{strides_of}
 use Rattle.evaluate.proofs.strides_of.Goals as goal

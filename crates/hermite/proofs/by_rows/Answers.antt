@@ -4,7 +4,6 @@ use Prim.Native.Nat.{ℕ}
 use mathlib.Core.Path.{◌≡◌}
 use Rattle.lattice.specs.Buffer.{at}
 use Rattle.hermite.proofs.EndLaws.{row-load}
-use borrow.Author.Rules.{rules}
 use Rattle.hermite.proofs.by_rows.Goals as goal
 
 apart : ◌≡◌ {A = ℕ} 3 2 → ⊥

@@ -7,7 +7,6 @@ use Rattle.arith.proofs.Choices.{by-3}
 use Rattle.hermite.specs.Hermite.{multiplier}
 use Rattle.hermite.proofs.DotLaws.{held}
 use Rattle.hermite.proofs.BasisLaws.{multiplier-read}
-use borrow.Author.Rules.{rules}
 use Rattle.hermite.proofs.column.Goals as goal
 
 pub returns : goal.returns

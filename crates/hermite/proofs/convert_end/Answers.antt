@@ -2,7 +2,6 @@
 use mathlib.Core.Path.{sym, ◌∙◌}
 use Rattle.arith.proofs.Choices.{pick_true, pick-false}
 use Rattle.hermite.specs.Hermite.{end_rule}
-use borrow.Author.Rules.{rules}
 use Rattle.hermite.proofs.convert_end.Goals as goal
 
 pub returns-then-back : goal.returns-then-back

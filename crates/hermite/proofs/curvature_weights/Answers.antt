@@ -36,12 +36,15 @@ cubes a b x y z ha hb p q r = rw (p, q, r) (three _ _ _ (2 ^ 50) (one a a a ha h
     one p q r hp hq hr = le_trans (abs-mul-le p (q *ℤ r) hp (abs-mul-le q r hq hr)) (lit≤ tt)
 
 pub by_rows-requires : goal.by_rows-requires
-by_rows-requires c = record { by_index = (λ o l. (
+by_rows-requires c = record {
+  by_index = (λ o l. (
     three (pos 20) (pos 0) (pos 0) 20 (lit≤ tt) (lit≤ tt) (lit≤ tt) o l,
     three (negsuc 7) (pos 12) (pos 0) 20 (lit≤ tt) (lit≤ tt) (lit≤ tt) o l,
     three (pos 2) (negsuc 11) (pos 6) 20 (lit≤ tt) (lit≤ tt) (lit≤ tt) o l,
-  )); by_index_2 = cubes c.args.a c.args.b _ _ _ c.requires.0 c.requires.1 (value? (search known depth 40 fits 3000) (omega arith))
-      (value? (search known depth 40 fits 3000) (omega arith)) (value? (search known depth 40 fits 3000) (omega arith)) }
+  ));
+  by_index_2 = cubes c.args.a c.args.b _ _ _ c.requires.0 c.requires.1 (value? (search known depth 40 fits 3000) (omega arith))
+      (value? (search known depth 40 fits 3000) (omega arith)) (value? (search known depth 40 fits 3000) (omega arith));
+}
 
 pub returns : goal.returns
 returns c =

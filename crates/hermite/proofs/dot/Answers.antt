@@ -2,7 +2,6 @@
 use lib.Dec.{lit<}
 use Rattle.lattice.specs.Buffer.{at}
 use Rattle.hermite.proofs.DotLaws.{one-fits, two_fits, two-whole, three-fits, whole}
-use borrow.Author.Rules.{rules}
 use Rattle.hermite.proofs.dot.Goals as goal
 use Rattle.hermite.proofs.dot.Goals.{After-result-2-1, Start}
 

@@ -7,7 +7,6 @@ use mir.Facts.{to_z-of_z}
 use Rattle.arith.specs.Sum.{sum}
 use Rattle.hermite.specs.Hermite.{multiplier, weight}
 use Rattle.hermite.proofs.DotLaws.{held}
-use borrow.Author.Rules.{rules}
 use Rattle.hermite.proofs.end_basis.Goals as goal
 use Rattle.hermite.proofs.end_basis.Goals.{Start}
 

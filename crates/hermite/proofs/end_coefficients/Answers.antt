@@ -6,16 +6,18 @@ use Rattle.arith.proofs.Sums.{sum-three}
 use Rattle.lattice.specs.Buffer.{at}
 use Rattle.hermite.specs.Hermite.{multiplier}
 use Rattle.hermite.proofs.BasisLaws.{multiplier-small, rows_on, no-order}
-use borrow.Author.Rules.{rules}
 use Rattle.hermite.proofs.end_coefficients.Goals as goal
 
 pub by_rows-requires : goal.by_rows-requires
 by_rows-requires c =
-    let s = c.before.before.before in record { by_index = (λ o l. (
+    let s = c.before.before.before in record {
+      by_index = (λ o l. (
         multiplier-small s.args.m s.requires.0 s.requires.1 0 (lit< tt) o l _ (c.row.ensures o),
         multiplier-small s.args.m s.requires.0 s.requires.1 1 (lit< tt) o l _ (c.row-2.ensures o),
         multiplier-small s.args.m s.requires.0 s.requires.1 2 (lit< tt) o l _ (c.row-3.ensures o),
-      )); by_index_2 = s.requires.2 }
+      ));
+      by_index_2 = s.requires.2;
+    }
 
 pub returns : goal.returns
 returns c k l =

@@ -10,7 +10,6 @@ use Rattle.hermite.specs.Hermite.{multiplier, solved}
 use Rattle.hermite.proofs.DotLaws.{held}
 use Rattle.hermite.proofs.BasisLaws.{multiplier-read, multiplier-size}
 use Rattle.hermite.proofs.EndLaws.{Solves, solves-fit}
-use borrow.Author.Rules.{rules}
 use Rattle.hermite.proofs.end_numbers.Goals as goal
 use Rattle.hermite.proofs.end_numbers.Goals.{After-result-3-1, After-row-c, Start}
 

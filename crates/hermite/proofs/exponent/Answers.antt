@@ -1,6 +1,5 @@
 -- `hermite::exponent` meets its contract, by the two degrees.
 use native.Mathlib.Omega.{arith}
-use borrow.Author.Rules.{rules}
 use Rattle.hermite.proofs.exponent.Goals as goal
 
 pub returns : goal.returns

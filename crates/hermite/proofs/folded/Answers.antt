@@ -10,7 +10,6 @@ use Rattle.hermite.specs.Hermite.{multiplier, weight}
 use Rattle.hermite.proofs.DotLaws.{held}
 use Rattle.hermite.proofs.WeightLaws.{weight-size, weight-held, held-size}
 use Rattle.hermite.proofs.BasisLaws.{multiplier-small, rows_on}
-use borrow.Author.Rules.{rules}
 use Rattle.hermite.proofs.folded.Goals as goal
 use Rattle.hermite.proofs.folded.Goals.{After-weights-w}
 
@@ -32,11 +31,14 @@ module _ (c : After-weights-w) where
 pub by_rows-requires : goal.by_rows-requires
 by_rows-requires c =
     let w = c.before.before.before in
-    let s = w.before in record { by_index = (λ k l. (
+    let s = w.before in record {
+      by_index = (λ k l. (
         multiplier-small s.args.m s.requires.1 s.requires.2 k l 0 (lit< tt) _ (c.column.ensures k l),
         multiplier-small s.args.m s.requires.1 s.requires.2 k l 1 (lit< tt) _ (c.column-2.ensures k l),
         multiplier-small s.args.m s.requires.1 s.requires.2 k l 2 (lit< tt) _ (c.column-3.ensures k l),
-      )); by_index_2 = (λ k l. le_trans (small w k l) (lit≤ tt)) }
+      ));
+      by_index_2 = (λ k l. le_trans (small w k l) (lit≤ tt));
+    }
 
 pub returns : goal.returns
 returns c =

@@ -8,7 +8,6 @@ use Prim.Native.Nat.{ℕ, ◌^◌}
 use native.Mathlib.Omega.{arith}
 use mir.Syntax.{w64}
 use mir.Val.{to_z, of_z}
-use borrow.Author.Rules.{rules}
 use Rattle.hermite.proofs.mirror.Goals as goal
 use Rattle.hermite.proofs.mirror.Goals.{Start}
 

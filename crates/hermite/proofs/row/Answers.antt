@@ -6,7 +6,6 @@ use native.Mathlib.Omega.{arith}
 use lib.ListN.{get_or}
 use Rattle.lattice.specs.Buffer.{at}
 use Rattle.hermite.specs.Hermite.{rows, multiplier}
-use borrow.Author.Rules.{rules}
 use Rattle.hermite.proofs.row.Goals as goal
 
 pub returns-then-m-eq2 : goal.returns-then-m-eq2

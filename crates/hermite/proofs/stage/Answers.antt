@@ -54,6 +54,9 @@ returns c =
     let drop = c.dropped in
     let sum = sum_is s.args.b (at s.args.ends.low) (at s.args.ends.high) s.requires.k_bound.1 d.dot.result
     d.dot-2.result d.dot.type_inv d.dot-2.type_inv
-    d.dot.ensures d.dot-2.ensures in record { number_value = read c.rounded-number.result c.rounded-number.type_inv ∙ c.rounded-number.ensures
-          ∙ ap (λ z. rounding_of s.args.even z (2 ^ (s.args.k + 1))) sum; rest_value = or-none drop.result s.args.ends.rest
-          ∙ ap (λ t. t && eqb s.args.ends.rest 0) (drop.ensures ∙ ap (divides (2 ^ (s.args.k + 1))) sum) }
+    d.dot.ensures d.dot-2.ensures in record {
+      number_value = read c.rounded-number.result c.rounded-number.type_inv ∙ c.rounded-number.ensures
+          ∙ ap (λ z. rounding_of s.args.even z (2 ^ (s.args.k + 1))) sum;
+      rest_value = or-none drop.result s.args.ends.rest
+          ∙ ap (λ t. t && eqb s.args.ends.rest 0) (drop.ensures ∙ ap (divides (2 ^ (s.args.k + 1))) sum);
+    }

@@ -13,7 +13,6 @@ use Rattle.lattice.specs.Buffer.{at}
 use Rattle.hermite.specs.Hermite.{weight}
 use Rattle.hermite.proofs.DotLaws.{held}
 use Rattle.hermite.proofs.WeightLaws.{product, product-size, value-weight, slope-weights, weights-row, Slopes, slopes-fit}
-use borrow.Author.Rules.{rules}
 use Rattle.hermite.proofs.weights.Goals as goal
 use Rattle.hermite.proofs.weights.Goals.{After-products-p, Start}
 

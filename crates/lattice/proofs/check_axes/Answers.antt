@@ -1,9 +1,7 @@
 -- `lattice::check_axes` meets its contract: the test is the definition's.
-use mathlib.Core.Logic.{⊎_elim}
 use borrow.Author.Tests.{le-leb, lt-leb}
 use Rattle.lattice.specs.Shape.{axes_outcome}
 use mathlib.Core.Path.{◌∙◌}
-use borrow.Author.Rules.{rules}
 use Rattle.lattice.proofs.check_axes.Goals as goal
 use Rattle.lattice.proofs.check_axes.Goals.{else-n-ge1, then-n-ge1}
 

@@ -1,9 +1,7 @@
 -- `lattice::check_degree` meets its contract: the test is the definition's.
-use mathlib.Core.Logic.{⊎_elim}
 use borrow.Author.Tests.{eq-eqb, ne_eqb}
 use Rattle.lattice.specs.Shape.{degree_outcome}
 use mathlib.Core.Path.{◌∙◌}
-use borrow.Author.Rules.{rules}
 use Rattle.lattice.proofs.check_degree.Goals as goal
 use Rattle.lattice.proofs.check_degree.Goals.{else-degree-eq3, then-degree-eq3}
 

@@ -1,6 +1,5 @@
 -- `lattice::check_full` meets its contract: 1, 2 and 3, then 26.
 use mathlib.Core.Path.{sym, ap, ◌∙◌}
-use borrow.Author.Rules.{rules}
 use Rattle.lattice.specs.Answers.{outcome_of}
 use Rattle.lattice.specs.Outcome.{first_of}
 use Rattle.lattice.specs.Shape.{step_numbers_outcome, steps_on, full_outcome}

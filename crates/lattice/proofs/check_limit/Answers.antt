@@ -3,16 +3,15 @@ use Rattle.arith.proofs.Machine.{widen-fits, widened}
 use lib.Signed.{mag}
 use mathlib.Core.List.{List}
 use Rattle.lattice.specs.Buffer.{at}
-use Rattle.lattice.specs.Outcome.{done, first_of}
-use Rattle.lattice.proofs.RecordsLaws.{limit_test, limit-stops, limit-more, limit-ends}
+use Rattle.lattice.specs.Outcome.{first_of}
+use Rattle.lattice.proofs.RecordsLaws.{limit-stops, limit-more, limit-ends}
 use mathlib.Core.Path.{◌≡◌, refl, sym, ap, ◌∙◌}
-use Prim.Native.Nat.{ℕ, ◌≤◌, ◌<◌, ◌^◌, ◌-◌}
+use Prim.Native.Nat.{ℕ, ◌<◌, ◌^◌}
 use native.Mathlib.Omega.{arith}
-use lib.ListN.{length, get_or}
+use lib.ListN.{get_or}
 use lib.IntN.{ℤ, pos, nat_abs}
 use mir.Syntax.{w32, w64}
 use mir.Val.{to_z, of_z}
-use borrow.Author.Rules.{rules}
 use Rattle.lattice.proofs.check_limit.Goals as goal
 
 -- what the size of the element that is read says

@@ -1,6 +1,5 @@
 -- `lattice::check_shape` meets its contract: 1, then the tests of the table.
 use mathlib.Core.Path.{sym, ap, ◌∙◌}
-use borrow.Author.Rules.{rules}
 use Rattle.lattice.specs.Answers.{outcome_of}
 use Rattle.lattice.specs.Shape.{shape_outcome}
 use Rattle.lattice.proofs.OutcomeLaws.{first-passed, refused-first}

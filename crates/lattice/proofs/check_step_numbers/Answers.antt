@@ -2,7 +2,6 @@
 use mathlib.Core.List.{[], ◌∷◌}
 use Prim.Native.Nat.{ℕ}
 use lib.ListN.{get_or}
-use borrow.Author.Rules.{rules}
 use Rattle.lattice.specs.Shape.{steps_allowed, step_numbers_outcome}
 use Rattle.lattice.proofs.OutcomeLaws.{scanned}
 use Rattle.lattice.proofs.check_step_numbers.Goals as goal

@@ -1,7 +1,6 @@
 -- `lattice::check_table` meets its contract: 2, then 3.
 use mathlib.Core.Path.{sym, ap, ◌∙◌}
 use Prim.Native.Nat.{ℕ}
-use borrow.Author.Rules.{rules}
 use Rattle.lattice.specs.Answers.{outcome_of}
 use Rattle.lattice.specs.Outcome.{first_of}
 use Rattle.lattice.specs.Shape.{counts_outcome, count}

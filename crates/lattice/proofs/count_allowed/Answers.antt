@@ -1,9 +1,7 @@
 -- `lattice::count_allowed` meets its contract: the tests of a used and of an unused axis.
-use mathlib.Core.Logic.{⊎_elim}
 use borrow.Author.Tests.{le-leb, lt-leb}
 use Rattle.lattice.specs.Shape.{count_allowed}
 use mathlib.Core.Path.{◌∙◌}
-use borrow.Author.Rules.{rules}
 use Rattle.lattice.proofs.count_allowed.Goals as goal
 use Rattle.lattice.proofs.count_allowed.Goals.{else-count-ge2, then-count-ge2}
 

@@ -2,7 +2,6 @@
 use mathlib.Core.Path.{sym, ap, ◌∙◌}
 use Rattle.lattice.specs.Answers.{outcome_of}
 use Rattle.lattice.proofs.OutcomeLaws.{refused-first, first-passed}
-use borrow.Author.Rules.{rules}
 use Rattle.lattice.proofs.earlier.Goals as goal
 
 pub returns-in-Refused-b : goal.returns-in-Refused-b

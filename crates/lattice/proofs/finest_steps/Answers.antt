@@ -1,5 +1,4 @@
 -- `lattice::finest_steps` meets its contract: the step number of each axis.
-use borrow.Author.Rules.{rules}
 use Rattle.lattice.proofs.finest_steps.Goals as goal
 
 pub returns : goal.returns

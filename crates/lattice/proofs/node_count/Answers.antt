@@ -3,7 +3,6 @@ use Rattle.lattice.specs.Shape.{count}
 use Rattle.lattice.proofs.ShapeLaws.{plane-high, nodes-high, nodes-is}
 use mathlib.Core.Path.{sym}
 use native.Mathlib.Omega.{arith}
-use borrow.Author.Rules.{rules}
 use Rattle.lattice.proofs.node_count.Goals as goal
 
 pub overflow_mul-result : goal.overflow_mul-result

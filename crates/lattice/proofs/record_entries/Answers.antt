@@ -6,7 +6,6 @@ use Rattle.lattice.proofs.ShapeLaws.{pow-one, pow-two, pow-three, orders-range}
 use mathlib.Core.Path.{◌≡◌, refl, sym, ap, ◌∙◌}
 use Prim.Native.Nat.{ℕ, ◌≤◌, ◌^◌, ◌*◌}
 use native.Mathlib.Omega.{arith}
-use borrow.Author.Rules.{rules}
 use Rattle.lattice.proofs.record_entries.Goals as goal
 
 three : (s : Shape) → Shaped s → (s.axes ≡ 1 → ⊥) → (s.axes ≡ 2 → ⊥) → s.axes ≡ 3

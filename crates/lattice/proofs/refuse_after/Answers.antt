@@ -1,6 +1,5 @@
 -- `lattice::refuse_after` meets its contract: an earlier refusal stands.
 use mathlib.Core.Path.{sym, ap, ◌∙◌}
-use borrow.Author.Rules.{rules}
 use Rattle.lattice.specs.Answers.{outcome_of}
 use Rattle.lattice.proofs.OutcomeLaws.{first-passed, refused-first}
 use Rattle.lattice.proofs.refuse_after.Goals as goal

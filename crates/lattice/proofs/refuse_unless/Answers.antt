@@ -1,5 +1,4 @@
 -- `lattice::refuse_unless` meets its contract: passed, or the refusal.
-use borrow.Author.Rules.{rules}
 use Rattle.lattice.proofs.refuse_unless.Goals as goal
 
 pub returns-else-ok : goal.returns-else-ok

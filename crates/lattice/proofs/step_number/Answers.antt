@@ -1,7 +1,6 @@
 -- `lattice::step_number` meets its contract: the five tests.
 use mathlib.Core.Path.{◌≡◌}
 use mathlib.Core.Bool.{◌||◌}
-use mathlib.Core.Logic.{⊎_elim}
 use lib.Dec.{eqb}
 use borrow.Author.Tests.{eq-eqb, ne_eqb}
 use Rattle.lattice.specs.Shape.{step_number}

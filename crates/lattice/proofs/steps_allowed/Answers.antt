@@ -2,7 +2,6 @@
 use mathlib.Core.Path.{ap, ◌∙◌}
 use mathlib.Core.Bool.{Bool}
 use lib.Dec.{ltb, eqb}
-use borrow.Author.Rules.{rules}
 use Rattle.arith.specs.Choice.{pick}
 use Rattle.lattice.specs.Shape.{steps_allowed}
 use Rattle.lattice.proofs.steps_allowed.Goals as goal

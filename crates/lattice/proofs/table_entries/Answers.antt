@@ -2,7 +2,6 @@
 use Rattle.lattice.specs.Shape.{size}
 use Rattle.lattice.proofs.ShapeLaws.{size-high}
 use native.Mathlib.Omega.{arith}
-use borrow.Author.Rules.{rules}
 use Rattle.lattice.proofs.table_entries.Goals as goal
 
 pub overflow_mul-result : goal.overflow_mul-result

@@ -1,6 +1,5 @@
 -- `alike_three` meets its contract: the three tests.
 use mathlib.Core.Path.{refl}
-use borrow.Author.Rules.{rules}
 use Rattle.pool.specs.Pool.{alike}
 use Rattle.pool.proofs.alike_three.Goals as goal
 

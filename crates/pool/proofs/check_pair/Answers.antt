@@ -1,6 +1,5 @@
 -- `check_pair` meets its contract: 27 after the shapes, then 28.
 use Rattle.pool.specs.Parts.{pair_outcome}
-use borrow.Author.Rules.{rules}
 use Rattle.pool.proofs.check_pair.Goals as goal
 
 pub returns : goal.returns

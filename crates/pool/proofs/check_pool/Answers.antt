@@ -1,11 +1,10 @@
 -- `check_pool` meets its contract: the refusals in three groups, each after the one before.
-use mathlib.Core.Path.{◌≡◌, sym, ap, ap₂, ◌∙◌}
-use borrow.Author.Rules.{rules}
+use mathlib.Core.Path.{sym, ap, ap₂, ◌∙◌}
 use Rattle.lattice.specs.Answers.{outcome_of}
-use Rattle.lattice.specs.Outcome.{done, first}
+use Rattle.lattice.specs.Outcome.{first}
 use Rattle.lattice.proofs.OutcomeLaws.{first-passed, refused-first}
-use Rattle.pool.specs.Pool.{Measurement, measured}
-use Rattle.pool.proofs.GateLaws.{pair, pool-is, pair-shaped}
+use Rattle.pool.specs.Pool.{measured}
+use Rattle.pool.proofs.GateLaws.{pool-is, pair-shaped}
 use Rattle.pool.proofs.check_pool.Goals as goal
 
 pub returns-in-Refused : goal.returns-in-Refused

@@ -1,5 +1,4 @@
 -- `check_shapes` meets its contract: under each number the first shape before the second.
-use borrow.Author.Rules.{rules}
 use Rattle.pool.proofs.GateLaws.{shapes-are}
 use Rattle.pool.proofs.check_shapes.Goals as goal
 

@@ -1,7 +1,6 @@
 -- `counts_of` meets its contract: the three counts.
 use Rattle.lattice.specs.Outcome.{first_of}
 use Rattle.lattice.specs.Shape.{count, counts_outcome}
-use borrow.Author.Rules.{rules}
 use Rattle.pool.proofs.counts_of.Goals as goal
 
 pub returns : goal.returns

@@ -1,6 +1,6 @@
 -- `fill` meets its contract. The invariant: the front of the slice holds the first i pooled samples.
 use mathlib.Core.Path.{◌≡◌, ap₂, subst, ◌∙◌}
-use Prim.Native.Nat.{ℕ, ◌≤◌, ◌<◌, ◌-◌}
+use Prim.Native.Nat.{ℕ, ◌<◌}
 use native.Mathlib.Omega.{arith}
 use lib.IntN.{ℤ, pos}
 use lib.ListN.{length}

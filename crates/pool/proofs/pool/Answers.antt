@@ -2,7 +2,6 @@
 use mathlib.Core.Path.{◌≡◌, sym, ap, ◌∙◌}
 use Prim.Native.Nat.{ℕ}
 use lib.ListN.{length}
-use borrow.Author.Rules.{rules}
 use Rattle.lattice.specs.Answers.{outcome_of}
 use Rattle.lattice.specs.Outcome.{done}
 use Rattle.lattice.specs.Buffer.{tabulate, overwrite}
@@ -35,10 +34,13 @@ returns-in-Done c =
     let f = c.before in
     let t = f.before.before in
     let s = t.before.before in
-    let old = s.args.out.now in record { answer = t.check_pool-answer.ensures; written = f.fill.ensures
+    let old = s.args.out.now in record {
+      answer = t.check_pool-answer.ensures;
+      written = f.fill.ensures
           ∙ ap (λ (k : ℕ). overwrite (tabulate k (pooled_at s.args.xs.now s.args.v s.args.ys.now s.args.w)) old)
           (pool-length (one s) (other s) (length old) (passes t))
-          ∙ when-done _ old (passes t) }
+          ∙ when-done _ old (passes t);
+    }
 
 pub returns-in_default : goal.returns-in_default
 unfolding pool_writes

@@ -2,7 +2,6 @@
 use mathlib.Core.Path.{ap₂}
 use mathlib.Core.Bool.{Bool, ◌&&◌, beq}
 use lib.Dec.{eqb}
-use borrow.Author.Rules.{rules}
 use Rattle.lattice.specs.Shape.{count, steps_on}
 use Rattle.pool.specs.Pool.{same_shape}
 use Rattle.pool.proofs.same_shape.Goals as goal

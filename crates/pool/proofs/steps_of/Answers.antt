@@ -1,7 +1,6 @@
 -- `steps_of` meets its contract: the three step numbers.
 use Rattle.lattice.specs.Outcome.{first_of}
 use Rattle.lattice.specs.Shape.{steps_on, step_numbers_outcome}
-use borrow.Author.Rules.{rules}
 use Rattle.pool.proofs.steps_of.Goals as goal
 
 pub returns : goal.returns

@@ -10,30 +10,25 @@ use Rattle.estimate.proofs.CallLaws.{estimated}
 use Rattle.estimated.proofs.Estimated.{lent}
 use Rattle.table_file.specs.File.{file_header}
 use Rattle.report.specs.Report.{table_with}
-use borrow.Author.Rules.{rules}
 use Rattle.report.proofs.estimate_degree.Goals as goal
-use Rattle.report.proofs.estimate_degree.Goals.{Start}
-
-module _ (c : Start) where
-  abbrev table : FullShape
-  table = table_with (file_header c.args.axes c.args.counts c.args.second) c.args.degree
-
-  known : Estimable table.shape c.args.samples.now (length c.args.records.now)
-  known = estimated table c.args.samples.now (length c.args.records.now) c.requires
 
 pub returns : goal.returns
 returns c =
-    let g = c in
-    let s = g.before.before.before.before.before.before in
+    let a = c.args in
+    let t : FullShape = table_with (file_header a.axes a.counts a.second) a.degree in
+    let n = length a.records.now in
+    let known : Estimable t.shape a.samples.now n = estimated t a.samples.now n c.requires in
     let p = c.estimate in
-    let is = g.table_with-t.ensures in
+    let is = c.table_with-t.ensures in
     let e = c.table_entries.ensures ∙ ap (λ (t : FullShape). size t.shape) is in (
-      omega (arith, (known s).ranges, p.auto.1.1.0),
-      ap (λ (k : ℕ). take k p.new.1.1.0) e
-          ∙ ap (take (size (table s).shape))
-          (p.ensures.1 ∙ ap (λ (t : FullShape). estimate_writes t s.args.samples.now s.args.records.now) is)
-          ∙ lent (table s) s.args.samples.now s.args.records.now s.requires,
+      omega (arith, known.fits),
+      ap (λ (k : ℕ). take k p.new.records) e
+          ∙ ap (take (size t.shape)) (p.ensures.written ∙ ap (λ (t : FullShape). estimate_writes t a.samples.now a.records.now) is)
+          ∙ lent t a.samples.now a.records.now c.requires,
     )
 
 pub table_entries-requires : goal.table_entries-requires
-table_entries-requires c = let g = c in rw g.table_with-t.ensures (known g.before.before.before.before.before).shape
+table_entries-requires c =
+    let a = c.args in
+    let t : FullShape = table_with (file_header a.axes a.counts a.second) a.degree in
+    rw c.table_with-t.ensures (estimated t a.samples.now (length a.records.now) c.requires).shape

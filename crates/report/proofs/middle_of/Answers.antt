@@ -1,7 +1,6 @@
 -- `middle_of` meets its contract: three steps as a place.
 use Rattle.report.specs.Report.{middle}
 use Rattle.report.proofs.DoseLaws.{middle-place}
-use borrow.Author.Rules.{rules}
 use Rattle.report.proofs.middle_of.Goals as goal
 
 pub returns : goal.returns

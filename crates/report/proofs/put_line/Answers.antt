@@ -1,55 +1,55 @@
 -- `put_line` meets its contract: two doses and a line.
 use mathlib.Core.Path.{◌≡◌, ap₂, ◌∙◌}
-use Prim.Native.Nat.{◌≤◌}
+use mathlib.Core.List.{List}
+use Prim.Native.Nat.{ℕ, ◌^◌, ◌≤◌, ◌<◌}
 use native.Mathlib.Omega.{arith}
 use lib.IntN.{ℤ}
 use lib.ListN.{length}
+use lib.Signed.{mag}
 use mir.Syntax.{w32}
 use mir.Val.{to_z, of_z}
 use Rattle.arith.proofs.Machine.{element, near}
-use Rattle.table_file.specs.File.{file_header}
+use Rattle.table_file.specs.File.{Header, file_header}
+use Rattle.cell.specs.Cells.{Between}
 use Rattle.text.specs.Lines.{cell_line}
 use Rattle.text.proofs.LineLaws.{put_as}
-use Rattle.report.specs.Parts.{line_from, line_limit}
+use Rattle.report.specs.Report.{table_with}
+use Rattle.report.specs.Parts.{dose_from, line_from, line_limit}
 use Rattle.report.proofs.TableLaws.{any-degree}
 use Rattle.report.proofs.LineLaws.{line-short}
-use borrow.Author.Rules.{rules}
 use Rattle.report.proofs.put_line.Goals as goal
-use Rattle.report.proofs.put_line.Goals.{After-dose_at-b, Start}
 
 -- the line of the two doses
-module _ (c : After-dose_at-b) where
-  abbrev start : Start
-  start = c.before.before.before
+module _ (x y : ℤ) (cell : List ℕ) (fit-x : mag x < 2 ^ 31) (fit-y : mag y < 2 ^ 31) where
+  short : Between 0 99 cell → length (cell_line cell (to_z w32 (of_z w32 x)) (to_z w32 (of_z w32 y))) ≤ line_limit
+  short k = rw (element x fit-x, element y fit-y) (line-short cell x y k (near x fit-x) (near y fit-y))
 
-  abbrev low : ℤ
-  low = to_z w32 (of_z w32 c.dose_at-a.result)
-
-  abbrev high : ℤ
-  high = to_z w32 (of_z w32 c.dose_at-b.result)
-
-  short : length (cell_line start.args.cell low high) ≤ line_limit
-  short =
-      rw (element c.dose_at-a.result c.dose_at-a.type_inv, element c.dose_at-b.result c.dose_at-b.type_inv)
-      (line-short start.args.cell c.dose_at-a.result c.dose_at-b.result start.requires.accepted.1
-      (near c.dose_at-a.result c.dose_at-a.type_inv) (near c.dose_at-b.result c.dose_at-b.type_inv))
-
-  line : cell_line start.args.cell low high
-      ≡ line_from (file_header start.args.axes start.args.counts start.args.second) start.args.cubic.now
-      start.args.quintic.now start.args.cell
+  line : (h : Header) (cubic quintic : List ℤ) → x ≡ dose_from (table_with h 3) cubic cell → y ≡ dose_from (table_with h 5) quintic cell
+      → cell_line cell (to_z w32 (of_z w32 x)) (to_z w32 (of_z w32 y)) ≡ line_from h cubic quintic cell
   unfolding line_from
-  line = ap₂ (cell_line start.args.cell) (element _ c.dose_at-a.type_inv ∙ c.dose_at-a.ensures)
-      (element _ c.dose_at-b.type_inv ∙ c.dose_at-b.ensures)
+  line h cubic quintic d e = ap₂ (cell_line cell) (element x fit-x ∙ d) (element y fit-y ∙ e)
 
 pub dose_at-b-requires : goal.dose_at-b-requires
-dose_at-b-requires c = let b = c in
-    record { answers = b.requires.answers.1; accepted = any-degree (file_header b.args.axes b.args.counts b.args.second) 3 5 b.args.cell b.requires.accepted.0 }
+dose_at-b-requires c =
+    let a = c.args in
+    record {
+      answers = c.requires.answers.1;
+      accepted = any-degree (file_header a.axes a.counts a.second) 3 5 a.cell c.requires.accepted.0;
+    }
 
 pub returns : goal.returns
 returns c =
+    let a = c.args in
     let p = c.put_cell_line in
-    let d = c.before.before.before.before in
-    (put_as (line d) (record { written = p.ensures.1; ended = p.ensures.0 }), omega (arith, p.ensures.0, short d))
+    let x = c.dose_at-a in
+    let y = c.dose_at-b in (
+      put_as (line x.result y.result a.cell x.type_inv y.type_inv (file_header a.axes a.counts a.second) a.cubic.now a.quintic.now
+          x.ensures y.ensures) (record { written = p.ensures.out_after; ended = p.ensures.value }),
+      omega (arith, p.ensures.value, short x.result y.result a.cell x.type_inv y.type_inv c.requires.accepted.1),
+    )
 
 pub put_cell_line-requires : goal.put_cell_line-requires
-put_cell_line-requires c = let b = start c.before in let s = short c.before in omega (arith, b.requires.accepted.2)
+put_cell_line-requires c =
+    let x = c.dose_at-a in
+    let y = c.dose_at-b in
+    omega (arith, c.requires.accepted.2, short x.result y.result c.args.cell x.type_inv y.type_inv c.requires.accepted.1)

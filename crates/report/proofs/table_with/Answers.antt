@@ -1,6 +1,5 @@
 -- `table_with` meets its contract: the three fields.
 use mathlib.Core.Path.{refl}
-use borrow.Author.Rules.{rules}
 use Rattle.report.proofs.table_with.Goals as goal
 
 pub returns : goal.returns
