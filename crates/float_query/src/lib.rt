@@ -109,12 +109,13 @@ pub fn at_float(
         position: [held_step(x), held_step(y), held_step(z)],
         derivative: derivative,
     };
-    // Fields taken one by one are read as they are stored.
-    let again = FullShape {
+    // Fields and slices made anew: no wide load waits for their stores.
+    let shape = FullShape {
         shape: t.shape,
         steps: t.steps,
         second_edition: t.second_edition,
     };
-    let a = query::at_position(again, records, q);
+    let long = records.len();
+    let a = query::at_position(shape, &records[..long], q);
     in_float(with_ten(a, x, y, z), derivative.order)
 }

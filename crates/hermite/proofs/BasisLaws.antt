@@ -4,11 +4,12 @@ use mathlib.Core.List.{List, [], ◌∷◌}
 use Prim.Native.Nat.{ℕ, ◌+◌, ◌*◌, ◌-◌, ◌^◌, ◌≤◌, ◌<◌}
 use native.Mathlib.Nat.{le_trans, le_of_eq, mul-le-mul_right}
 use native.Mathlib.Omega.{arith}
-use borrow.Author.Tests.{ltb-true, ltb-false}
+use borrow.Author.Tests.{lt-ltb, ltb-true, ltb-false}
 use lib.Dec.{ltb, lit≤, lit<}
-use lib.IntN.{ℤ, pos, neg_ℤ, ◌-ℤ◌, ◌*ℤ◌, nat_abs, +ℤ_idl, zero-*ℤ}
-use Rattle.arith.proofs.Choices.{by-m, on-pick, by-3}
+use lib.IntN.{ℤ, pos, neg_ℤ, ◌+ℤ◌, ◌-ℤ◌, ◌*ℤ◌, nat_abs, +ℤ_idl, zero-*ℤ}
+use Rattle.arith.proofs.Choices.{by-m, on-pick, pick_true, by-3}
 use Rattle.arith.proofs.Machine.{kept}
+use Rattle.arith.proofs.Quote.{quotes, ring! }
 use Rattle.arith.proofs.Sums.{abs-weighted, sum-ext, sum-three, sum-zero}
 use Rattle.arith.specs.Choice.{pick}
 use Rattle.arith.specs.Sum.{sum, total}
@@ -155,3 +156,28 @@ module _ (k m u : ℕ) (b : Basis) (smooth : Smooth k m) (m2 : 2 ≤ m) (m3 : m 
     low = λ o l. low o l ∙ ap₂ (λ x y. parts x y o) ep eq ∙ low-kept k m u m2 m3 o l;
     high = λ o l. mirror o l ∙ ap (mirrored (o + k)) (high o l ∙ ap₂ (λ x y. parts x y o) eq ep) ∙ high-kept k m u m2 m3 o l;
   }
+
+-- the high end's value by both values
+pub folds-value : (k m u : ℕ) (low high : List ℤ) (f d t v : ℤ) → Folds k m u (record { low = low; high = high })
+    → basis k m steps u 0 +ℤ basis k m steps u m ≡ v → f ≡ v -ℤ at low 0 → d ≡ at high 1 → t ≡ at high 2
+    → Folds k m u (record { low = low; high = f ∷ d ∷ t ∷ [] })
+folds-value k m u low high f d t v b both ef ed et = record {
+  smooth = b.smooth;
+  m-low = b.m-low;
+  m-high = b.m-high;
+  step = b.step;
+  low = b.low;
+  high = by-3 (λ o. at (f ∷ d ∷ t ∷ []) o ≡ pick (ltb o m) (basis k m steps u (m + o)) (pos 0))
+      (ef ∙ ap₂ ◌-ℤ◌ (sym both) (b.low 0 (lit< tt) ∙ inside (basis k m steps u 0))
+      ∙ left (basis k m steps u 0) (basis k m steps u m) ∙ ap (basis k m steps u) first ∙ sym (inside (basis k m steps u (m + 0))))
+      (ed ∙ b.high 1 (lit< tt)) (et ∙ b.high 2 (lit< tt));
+}
+  where
+    inside : (z : ℤ) → pick (ltb 0 m) z (pos 0) ≡ z
+    inside z = pick_true (ltb 0 m) z (pos 0) (lt-ltb 0 m (omega (arith, b.m-low)))
+
+    first : m ≡ m + 0
+    first = omega arith
+
+    left : (x y : ℤ) → x +ℤ y -ℤ x ≡ y
+    left x y = ring! (x ∷ y ∷ []) (search quotes depth 40) tt

@@ -1,5 +1,5 @@
 -- A stage of straight numbers is on the line, for both degrees and every number of steps.
-use mathlib.Core.Path.{◌≡◌, sym, ap, ap₂, ◌∙◌}
+use mathlib.Core.Path.{◌≡◌, refl, sym, ap, ap₂, ◌∙◌}
 use mathlib.Core.List.{[], ◌∷◌}
 use Prim.Native.Nat.{ℕ, zero, suc, ◌+◌, ◌*◌, ◌-◌, ◌^◌, ◌≤◌, ◌<◌}
 use native.Mathlib.Nat.{pow-suc}
@@ -7,7 +7,7 @@ use native.Mathlib.Omega.{arith}
 use lib.IntN.{ℤ, pos, ◌+ℤ◌, ◌*ℤ◌}
 use Rattle.arith.specs.Int.{◌^ℤ◌}
 use Rattle.arith.specs.Sum.{sum}
-use Rattle.arith.proofs.Choices.{by_order}
+use Rattle.arith.proofs.Choices.{by-m, by_order}
 use Rattle.arith.proofs.Round.{pos-power}
 use Rattle.arith.proofs.Quote.{quotes, ring! }
 use Rattle.arith.proofs.Sums.{sum-ext, sum-ends}
@@ -53,6 +53,35 @@ unfoldable pub coordinate_of : ℕ → ℕ → ℕ → ℕ
 coordinate_of zero N x = x
 coordinate_of (suc zero) N x = N
 coordinate_of (suc (suc k)) N x = 0
+
+-- a constant's numbers have the value alone
+first-only : (m : ℕ) → 2 ≤ m → m ≤ 3 → (E : ℕ → ℤ) → sum m (λ o. E o *ℤ on_line (pos 1) (pos 0) o) ≡ E 0
+unfolding sum on_line
+first-only =
+    by-m (λ m. (E : ℕ → ℤ) → sum m (λ o. E o *ℤ on_line (pos 1) (pos 0) o) ≡ E 0)
+    (λ E. ring! (E 0 ∷ E 1 ∷ []) (record { left = search quotes depth 40; right = search quotes depth 40 }) tt)
+    (λ E. ring! (E 0 ∷ E 1 ∷ E 2 ∷ []) (record { left = search quotes depth 40; right = search quotes depth 40 }) tt)
+
+rest-one : (k : ℕ) (N : ℕ) (u : ℤ) → rest k (pos N) u (pos 1) (pos 0) ≡ pos (unit_of k N)
+unfolding rest unit_of
+rest-one zero N u = ring! (pos N ∷ u ∷ []) (record { left = search quotes depth 40; right = search quotes depth 40 }) tt
+rest-one (suc zero) N u = refl
+rest-one (suc (suc k)) N u = refl
+
+-- what a stage takes of the values of both ends, which depends on no step
+pub both-values : (k m N u : ℕ) → Smooth k m → 2 ≤ m → m ≤ 3 → u ≤ N
+    → basis k m N u 0 +ℤ basis k m N u m ≡ pos 2 *ℤ pos (N ^ (2 * m - 2)) *ℤ pos (unit_of k N)
+unfolding ends
+both-values k m N u smooth m2 m3 h =
+    let whole : N - u + u ≡ N = omega arith in
+    let first : m ≡ m + 0 = omega arith in
+    let E = end_basis k m (pos (N - u)) (pos u) in
+    let F : ℕ → ℤ = (λ o. mirrored (o + k) (end_basis k m (pos u) (pos (N - u)) o)) in
+    ap₂ ◌+ℤ◌ (basis-low k m N u m2 m3 0 (omega arith)) (ap (basis k m N u) first ∙ basis-high k m N u m2 m3 0 (omega arith))
+    ∙ sym (ap₂ ◌+ℤ◌ (first-only m m2 m3 E) (first-only m m2 m3 F))
+    ∙ by-ends m m2 m3 k smooth (pos (N - u)) (pos u) (pos 1) (pos 0)
+    ∙ ap (λ (i : ℕ). pos 2 *ℤ pos i ^ℤ (2 * m - 2) *ℤ rest k (pos i) (pos u) (pos 1) (pos 0)) whole
+    ∙ ap₂ (λ y z. pos 2 *ℤ y *ℤ z) (pos-power N (2 * m - 2)) (rest-one k N (pos u))
 
 -- times N: the divisor times the value at step u of cell c, times the rise, or times nothing
 scaled : (k m N c u : ℕ) (A B : ℤ) → 2 ≤ m

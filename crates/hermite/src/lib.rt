@@ -1,14 +1,14 @@
 // One axis: the multiplier table, the basis of a step, and a stage.
 #![tactic(auto)]
 
-ghost use Rattle.std.specs.Prelude.{◌≡◌, ℕ, ◌+◌, ◌*◌, ◌-◌, ◌<◌, ◌≤◌, ◌^◌, ◌&&◌, eqb, pos, nat_abs, ◌*ℤ◌};
+ghost use Rattle.std.specs.Prelude.{◌≡◌, ℕ, ◌+◌, ◌*◌, ◌-◌, ◌<◌, ◌≤◌, ◌^◌, ◌&&◌, eqb, pos, nat_abs, ◌+ℤ◌, ◌*ℤ◌};
 ghost use Rattle.arith.specs.Int.{rounding_of, divides, ◌^ℤ◌};
 ghost use Rattle.arith.specs.Sum.{sum, total};
 ghost use Rattle.lattice.specs.Buffer.{at};
-ghost use Rattle.hermite.specs.Hermite.{steps, multiplier, mirrored, solved, end_rule, weight};
+ghost use Rattle.hermite.specs.Hermite.{steps, multiplier, mirrored, solved, end_rule, weight, basis};
 ghost use Rattle.hermite.specs.Stage.{Smooth, RowsOn, Folds, weighted, load, shift_of};
 
-// A cell has 256 steps an axis.
+// The number of steps of a cell on each axis that the stages work on.
 pub const STEPS: u32 = 256;
 
 // By degree and order: what each coefficient, counted from an end, takes of that end's numbers.
@@ -147,7 +147,18 @@ pub struct Basis {
     pub high: [i64; 3],
 }
 
-// The basis of step u: the table folded into the weights.
+// What a stage takes of the values of both ends together: 2·256^d for a dose, 0 for a derivative.
+fn both_values(order: u32, m: usize) -> i64
+    requires { Smooth order m × (2 ≤ m) × (m ≤ 3) }
+    ensures { ((u : ℕ) → u ≤ steps → basis order m steps u 0 +ℤ basis order m steps u m ≡ result) × (nat_abs result ≤ 2 ^ 41) }
+{
+    if order != 0 {
+        return 0;
+    }
+    if m == 2 { 33554432 } else { 2199023255552 }
+}
+
+// The basis of step u: the table folded into the weights; the high end's value has what the low end's leaves of both.
 pub fn basis_at(order: u32, m: usize, u: u32) -> Basis
     requires { Smooth order m × (2 ≤ m) × (m ≤ 3) × (u ≤ steps) }
     ensures { Folds order m u result }
@@ -158,7 +169,7 @@ pub fn basis_at(order: u32, m: usize, u: u32) -> Basis
     let low = end_basis(order, m, a, b);
     Basis {
         low: low,
-        high: high,
+        high: [both_values(order, m) - low[0], high[1], high[2]],
     }
 }
 

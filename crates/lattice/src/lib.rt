@@ -11,19 +11,21 @@ ghost use Rattle.lattice.specs.Records.{limit_outcome};
 // Samples lie within this limit.
 pub const SAMPLE_LIMIT: u64 = 32768;
 
-// A refusal by its number in document 01's list, with the first offending index.
+// A refusal: its number, and its place, the first offending index.
 #[derive(Clone, Copy)]
 pub struct Refusal {
     pub number: u32,
     pub place: usize,
 }
 
+// Passed, or a refusal.
 #[derive(Clone, Copy)]
 pub enum Check {
     Done,
     Refused(Refusal),
 }
 
+// The number of axes, the degree and the node counts: all of a shape that records and coefficients depend on.
 #[repr(C)]
 #[derive(Clone, Copy)]
 pub struct Shape {
@@ -32,7 +34,7 @@ pub struct Shape {
     pub counts: [u32; 3],
 }
 
-// The shape of document 02: that of document 01, the step numbers and the edition.
+// A table's shape: its axes, degree and node counts, its step numbers and its edition.
 #[repr(C)]
 #[derive(Clone, Copy)]
 pub struct FullShape {
@@ -183,7 +185,7 @@ pub fn check_full(t: FullShape) -> Check
     check_step_numbers(t.shape.axes, t.steps[0], t.steps[1], t.steps[2])
 }
 
-// The step number of an axis of a table of n axes that is read from a file.
+// The finest step number of an axis of a table of n axes.
 pub fn finest_on(n: u32, axis: u32) -> u32
     ensures { result ≡ finest_on n axis }
 {

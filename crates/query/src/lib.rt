@@ -18,12 +18,14 @@ use cell::Layout;
 use evaluate::{Derivative, Value};
 use lattice::{Check, FullShape, Refusal, Shape};
 
+// A table position, and what is asked for there.
 #[derive(Clone, Copy)]
 pub struct Query {
     pub position: [i32; 3],
     pub derivative: Derivative,
 }
 
+// A cell and an in-cell step, and what is asked for there.
 #[derive(Clone, Copy)]
 pub struct CellQuery {
     pub cell: [u32; 3],
@@ -45,6 +47,7 @@ pub enum Finer {
     Refused(Refusal),
 }
 
+// A dose or derivative, exact or not, or a refusal.
 #[derive(Clone, Copy)]
 pub enum Reading {
     Exact(i32),
@@ -182,14 +185,14 @@ fn check_by_axes(
     ensures { (even : Bool) (rs : List ℤ) → length rs ≡ given → outcome_of result ≡ tested_outcome (finest s even) rs (want_of order axis) (place_at (i ∷ j ∷ k ∷ [])) (place_at (u ∷ v ∷ w ∷ [])) }
 {
     let n = s.axes;
-    if n == 1 {
-        return check_query(1, s, given, i, j, k, u, v, w, order, axis);
+    if n == 3 {
+        return check_query(3, s, given, i, j, k, u, v, w, order, axis);
     }
     if n == 2 {
         return check_query(2, s, given, i, j, k, u, v, w, order, axis);
     }
-    if n == 3 {
-        return check_query(3, s, given, i, j, k, u, v, w, order, axis);
+    if n == 1 {
+        return check_query(1, s, given, i, j, k, u, v, w, order, axis);
     }
     lattice::refuse_unless(false, 1, 0)
 }

@@ -16,6 +16,7 @@ use Rattle.float_query.specs.Answers.{in_float}
 use Rattle.query.proofs.Renumbered.{renumbered-done}
 use Rattle.query.proofs.CoarseCalls.{by-position-small}
 use Rattle.float_query.proofs.FloatLaws.{HeldSteps, held, three-held, by-float}
+use lib.Seq.{take-length}
 use Rattle.float_query.proofs.at_float.Goals as goal
 use Rattle.float_query.proofs.at_float.Goals.{After-held_step-3, After-step_of-x, After-step_of-y, After-step_of-z, After-with_ten, Start}
 
@@ -50,7 +51,9 @@ module _ (c : After-with_ten) where
   position = by_position start.args.t start.args.records.now want (position_at steps)
 
   told_is : outcome_of_reading c.with_ten.result ≡ renumbered (ten_number fin) position
-  told_is = c.with_ten.ensures ∙ ap (renumbered (ten_number fin)) c.at_position-a.ensures.result_value
+  told_is = c.with_ten.ensures
+      ∙ ap (renumbered (ten_number fin)) (c.at_position-a.ensures.result_value
+      ∙ ap (λ (rs : List ℤ). by_position start.args.t rs want (position_at steps)) (take-length start.args.records.now))
 
   stands : HeldSteps start.args.t (floats_at start.args.p) fin (position_at steps)
   unfolding floats_at steps_on

@@ -1,15 +1,19 @@
--- `hermite::basis_at` meets its contract: the low end's part, and the high end's from the same with the distances exchanged.
+-- `hermite::basis_at` meets its contract: the low end's part, the high end's from the same with the distances exchanged, and its value's from
+-- both values.
 use lib.Dec.{lit<}
-use native.Mathlib.Nat.{le_trans, le_of_eq}
-use Rattle.arith.proofs.Machine.{is-nat}
+use native.Mathlib.Nat.{le_trans, le_of_eq, lt_of_le_of_lt}
+use Rattle.arith.proofs.Abs.{abs-minus, sfits-abs}
+use Rattle.arith.proofs.Machine.{is-nat, kept}
+use Rattle.hermite.proofs.HermiteLaws.{mirrored-size}
 use Rattle.lattice.specs.Buffer.{at}
-use Rattle.hermite.proofs.BasisLaws.{part-size, folds}
-use mathlib.Core.Path.{◌≡◌, ap}
-use Prim.Native.Nat.{ℕ, ◌≤◌, ◌-◌}
+use Rattle.hermite.proofs.BasisLaws.{part-size, folds, folds-value}
+use mathlib.Core.Path.{◌≡◌, ap, ap₂, ◌∙◌}
+use Prim.Native.Nat.{ℕ, ◌≤◌, ◌<◌, ◌-◌, ◌^◌}
 use native.Mathlib.Omega.{arith}
-use lib.IntN.{pos, nat_abs}
+use lib.IntN.{ℤ, pos, nat_abs, ◌-ℤ◌}
 use mir.Syntax.{w64}
-use mir.Val.{to_z}
+use mir.Val.{SFits, to_z, of_z}
+use mir.Facts.{to_z-of_z}
 use Rattle.hermite.proofs.basis_at.Goals as goal
 
 -- a distance as the machine holds it
@@ -37,11 +41,43 @@ pub end_basis-low-requires : goal.end_basis-low-requires
 end_basis-low-requires c = let s = c.before.before in
     (s.requires.0, s.requires.1, s.requires.2, distance-size (256 - s.args.u) (omega arith), distance-size s.args.u s.requires.3)
 
+-- the difference of two numbers as the machine holds them
+module _ (b l : ℤ) (hb : nat_abs b ≤ 2 ^ 41) (hl : nat_abs l ≤ 2 ^ 62) where
+  difference-fits : SFits w64 (to_z w64 (of_z w64 b) -ℤ to_z w64 (of_z w64 l))
+  difference-fits = rw (kept b (2 ^ 41) hb (lit< tt), kept l (2 ^ 62) hl (lit< tt))
+      (sfits-abs (b -ℤ l) (lt_of_le_of_lt (abs-minus b l) (omega arith)))
+
+  difference : to_z w64 (of_z w64 (to_z w64 (of_z w64 b) -ℤ to_z w64 (of_z w64 l))) ≡ b -ℤ l
+  difference = to_z-of_z difference-fits ∙ ap₂ ◌-ℤ◌ (kept b (2 ^ 41) hb (lit< tt)) (kept l (2 ^ 62) hl (lit< tt))
+
+pub overflow_sub-result : goal.overflow_sub-result
+overflow_sub-result c =
+    let s = c.args in
+    let r = c.requires in
+    difference-fits c.both_values.result (at c.end_basis-low.result 0) c.both_values.ensures.1
+    (le_trans (le_of_eq (ap nat_abs (c.end_basis-low.ensures 0 (lit< tt))))
+    (part-size s.order s.m r.0 r.1 r.2 (to_z w64 (256 - s.u)) (to_z w64 s.u) (distance-size (256 - s.u) (omega arith))
+    (distance-size s.u r.3) 0 (lit< tt)))
+
 pub returns : goal.returns
 returns c =
-    let s = c.before.before.before in
-    folds s.args.order s.args.m s.args.u (record { low = c.end_basis-low.result; high = c.mirror-high.result }) s.requires.0
-    s.requires.1 s.requires.2 s.requires.3
-    (to_z w64 (256 - s.args.u)) (to_z w64 s.args.u) (distance (256 - s.args.u) (omega arith)) (distance s.args.u s.requires.3)
-    (at c.end_basis.result)
-    c.end_basis-low.ensures c.end_basis.ensures c.mirror-high.ensures
+    let s = c.args in
+    let r = c.requires in
+    let on = distance-size s.u r.3 in
+    let back : nat_abs (to_z w64 (256 - s.u)) ≤ 256 = distance-size (256 - s.u) (omega arith) in
+    let low = c.end_basis-low.result in
+    let high = c.mirror-high.result in
+    let low-size : nat_abs (at low 0) ≤ 2 ^ 62 =
+    le_trans (le_of_eq (ap nat_abs (c.end_basis-low.ensures 0 (lit< tt))))
+    (part-size s.order s.m r.0 r.1 r.2 (to_z w64 (256 - s.u)) (to_z w64 s.u) back on 0 (lit< tt)) in
+    let high-size : (o : ℕ) → o < 3 → nat_abs (at high o) ≤ 2 ^ 62 =
+    (λ o l. le_trans (le_of_eq (ap nat_abs (c.mirror-high.ensures o l) ∙ mirrored-size _ _))
+    (le_trans (le_of_eq (ap nat_abs (c.end_basis.ensures o l)))
+    (part-size s.order s.m r.0 r.1 r.2 (to_z w64 s.u) (to_z w64 (256 - s.u)) on back o l))) in
+    folds-value s.order s.m s.u low high _ _ _ c.both_values.result
+    (folds s.order s.m s.u (record { low = low; high = high }) r.0 r.1 r.2 r.3
+    (to_z w64 (256 - s.u)) (to_z w64 s.u) (distance (256 - s.u) (omega arith)) (distance s.u r.3)
+    (at c.end_basis.result) c.end_basis-low.ensures c.end_basis.ensures c.mirror-high.ensures)
+    (c.both_values.ensures.0 s.u r.3)
+    (difference c.both_values.result (at low 0) c.both_values.ensures.1 low-size)
+    (kept (at high 1) (2 ^ 62) (high-size 1 (lit< tt)) (lit< tt)) (kept (at high 2) (2 ^ 62) (high-size 2 (lit< tt)) (lit< tt))
