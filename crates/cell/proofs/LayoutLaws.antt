@@ -24,7 +24,8 @@ abbrev pub corner_test : List ℤ → ℕ → List ℤ → Layout → ℕ → Ch
 corner_test limits n rs l c = record_outcome (limit_in limits) n rs (start_of l c)
 
 -- where the record of a corner starts
-pub start_is : (s : Shape) (cell : List ℕ) (l : Layout) → Laid s (place_at cell) l → (c : ℕ) → start_of l c ≡ corner_start s (place_at cell) c
+pub start_is : (s : Shape) (cell : List ℕ) (l : Layout) → Laid s (place_at cell) l → (c : ℕ) → start_of l c ≡ corner_start s (place_at cell)
+    c
 unfolding corner_start
 start_is s cell l laid c = rw (laid.base-is, laid.stride-x, laid.stride-y, laid.stride-z) refl
 

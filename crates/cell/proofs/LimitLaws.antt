@@ -38,7 +38,8 @@ module _ (limits rs : List ℤ) (start e : ℕ) where
       (le-leb (nat_abs (at rs (start + e))) (limit_in limits e) (ltb-false (limit_in limits e) (nat_abs (at rs (start + e))) h))
 
   -- its bit is 0 where the test is passed
-  pub test_bit : (r : Bool) → r ≡ ltb (limit_in limits e) (nat_abs (at rs (start + e))) → eqb (bool_byte r) 0 ≡ passed (test limits rs start e)
+  pub test_bit : (r : Bool) → r ≡ ltb (limit_in limits e) (nat_abs (at rs (start + e))) → eqb (bool_byte r) 0 ≡ passed
+      (test limits rs start e)
   test_bit true h = sym (ap passed (test-stopped (sym h)))
   test_bit false h = sym (ap passed (test-passed (sym h)))
 

@@ -108,7 +108,8 @@ module _ (t : FullShape) (xs old : List ℤ) (taken : AcceptedTable t xs old) wh
 
   both-done : (want : Want) (q : Query) → Askable s want → gate t q ≡ done tt → both_calls t xs old want q ≡ done (answer_here t xs want q)
   both-done want q a h =
-      both_is want q ∙ first-passed (asked_outcome t (records_of s xs) want) (first (gate t q) (read_here t xs want q)) (askable-passes want a)
+      both_is want q ∙ first-passed (asked_outcome t (records_of s xs) want) (first (gate t q) (read_here t xs want q))
+      (askable-passes want a)
       ∙ first-passed (gate t q) (read_here t xs want q) h ∙ read_is want q a h
 
 -- the facts behind a dose or derivative that is taken: neither call is refused

@@ -33,7 +33,8 @@ module _ (second : Bool) (q : Ask) (some : (a : ℕ) → a < q.n → 0 < divisor
   stages-off [] e g p h = refl
   stages-off (a ∷ ls) e g p h =
       ap (λ z. rounding_of second z (divisor_on q a))
-      (same_sum q a (λ t. sweep ls (to_eighth (rounding_of second) q) g (put a t p)) (λ t. sweep ls (to_eighth round_half_up q) g (put a t p))
+      (same_sum q a (λ t. sweep ls (to_eighth (rounding_of second) q) g (put a t p))
+      (λ t. sweep ls (to_eighth round_half_up q) g (put a t p))
       (λ t l. stages-off ls e.1 g (put a (q.m * q.cell a + t) p) (h.0 t l)) (p a))
       ∙ off-half (along a (stage_on q a) (sweep ls (to_eighth round_half_up q) g) p) (divisor_on q a) (some a e.0) h.1 second
 
@@ -84,7 +85,8 @@ module _ (s : Shape) (numbers : List ℕ) where
   module _ (xs old : List ℤ) (want : Want) (q : Query) (h : NoHalf (asked one want q) (table_records s xs)) (e : AcceptedTable one xs old)
       (a : Askable s want) where
     answers : (edition : Bool)
-        → answer_by (rounding_of edition) (asked one want q) (table_records s xs) ≡ answer_by round_half_up (asked one want q) (table_records s xs)
+        → answer_by (rounding_of edition) (asked one want q) (table_records s xs) ≡ answer_by round_half_up (asked one want q)
+        (table_records s xs)
     answers edition =
         answer-off edition (asked one want q) (divisors one (full one xs old e) want (cell_read one q) (step_read one q))
         (used-last s want (known one xs old e).shape.axes-low a) (table_records s xs) h

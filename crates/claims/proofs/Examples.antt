@@ -38,21 +38,26 @@ use Rattle.claims.proofs.Straight.{nearly-straight}
 
 -- all definitions that the rows compute with, opened together
 opened : Unit {0}
-unfolding total_of_cell total_of_box box_total records_outcome in_box box_outcome cell_total table_outcome box_numerator over_cells cell_numerator
+unfolding total_of_cell total_of_box box_total records_outcome in_box box_outcome cell_total table_outcome box_numerator over_cells
+    cell_numerator
     total_multiplier pool_into pooled_samples pooled pool_outcome length_outcome weights_allowed same_shape alike shapes_outcome
     dose_with dose_in mark_of position_mark cell_mark exact_by clean divides all
     answer_from not_zero sparse among numbered limits left_over distances only flat file_with allowed_distance read_check three_outcome
-    nothing_after two_outcome one_outcome count_outcome second_in start_of_three samples_in nodes_in count_in complete file_of section_three section_two
+    nothing_after two_outcome one_outcome count_outcome second_in start_of_three samples_in nodes_in count_in complete file_of section_three
+    section_two
     section_one bytes_of_all bytes_of number_at signed_of unsigned_of
     step floats_at steps_of float_outcome by_float position_test place_at by_cell tested_outcome steps_outcome records_from coefficients_of
     coefficients_from back_into first_stage exactly answer_in both_calls
-    queried cell_read step_read by_position position_step position_cell cell_of position_outcome position_at reading asked_outcome want_outcome
-    answer_by before in_eighths to_unit to_eighth stage_on exact_divisor divisor_on exact_sum sum_over weight_on last_axis order_on order_wanted
+    queried cell_read step_read by_position position_step position_cell cell_of position_outcome position_at reading asked_outcome
+    want_outcome
+    answer_by before in_eighths to_unit to_eighth stage_on exact_divisor divisor_on exact_sum sum_over weight_on last_axis order_on
+    order_wanted
     estimate_writes estimate_outcome estimate_limit records_of table_records records estimate by_order right left coefficients_outcome
     request_outcome numbers_outcome coefficient_list back_outcome possible_outcome entry_allowed entry_list doubled_entry coefficients_field
     corner_numbers coefficients
     cell_outcome corners_outcome entry_outcome corner_entries corner_place stage_sum divisor weight_at weight forward backward solved share
-    mirrored multiplier limit_outcome entry_limit total_order entry_place records_field entry_index entry_number samples_field node_number without
+    mirrored multiplier limit_outcome entry_limit total_order entry_place records_field entry_index entry_number samples_field node_number
+    without
     axes sweep put full_outcome step_numbers_outcome steps_allowed step_number steps_on finest_on float_steps shape_outcome counts_outcome
     count_allowed degree_outcome axes_outcome size entries nodes orders_of count digit span number
     tabulate first_of pick times product total sum rounding_of round_half_even is_even round_half_up

@@ -118,7 +118,11 @@ module _ (t : FullShape) (full : full_outcome t ≡ done tt) where
       tested a l = let f = position-range t p h a l in range-known (p a) (last a) f.0 f.1
 
       point-known : Point t p
-      point-known = record { low = λ a l. (tested a (below l)).0; high = λ a l. (tested a (below l)).1; unused = λ a l. go a l (dec_lt a 3) }
+      point-known = record {
+        low = λ a l. (tested a (below l)).0;
+        high = λ a l. (tested a (below l)).1;
+        unused = λ a l. go a l (dec_lt a 3);
+      }
         where
           go : (a : ℕ) → s.axes ≤ a → Dec (a < 3) → p a ≡ pos 0
           go a l (yes k) =
@@ -276,7 +280,8 @@ module _ (t : FullShape) (full : full_outcome t ≡ done tt) (counts : List ℕ)
   unfolding gate cell_read float_outcome float_steps steps_of steps_outcome position_test steps_on
   gate_same (at_position p) xs ys same e =
       first_of-same 3 (position_outcome t (position_at p)) (position_outcome other (position_at p)) (positions-same (position_at p) e)
-  gate_same (in_cell cell u) xs ys same e = ap (λ (o : Check). first o (steps_outcome t (place_at u))) (cells_same (place_at cell) xs ys same)
+  gate_same (in_cell cell u) xs ys same e = ap (λ (o : Check). first o (steps_outcome t (place_at u)))
+      (cells_same (place_at cell) xs ys same)
   gate_same (at_floats x) xs ys same e =
       first_of-same 3 (float_outcome t x) (float_outcome other x)
       (λ a l. ap (first (refuse_unless (finite (x a)) 10 a)) (positions-same (steps_of t x) e a l))

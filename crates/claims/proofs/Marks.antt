@@ -160,7 +160,8 @@ module _ (q : Ask) (some : (a : ℕ) → a < q.n → 0 < divisor_on q a) (last :
     pub exact-too : (g : Field) → exact_by one q g ≡ true → exact_by other q g ≡ true
     unfolding exact_by
     exact-too g h =
-        (stage-same (in_eighths g) l (8 * divisor_on q l) (before q) origin 0 last_some (stages-same (in_eighths g) (before q) each-low) h).1
+        (stage-same (in_eighths g) l (8 * divisor_on q l) (before q) origin 0 last_some (stages-same (in_eighths g) (before q) each-low)
+        h).1
 
 -- ---- the queries
 

@@ -20,7 +20,8 @@ finer_position t p a = pos (256 / steps_on t a) *ℤ p a
 
 -- the same number or the same refusal; the same mark of an answer; and the same exact value, multiplied out
 pub record AsFinest (t : FullShape) (rs : List ℤ) (want : Want) : Type 0 where
-  pub by-position : (p : List ℤ) → by_position t rs want (position_at p) ≡ by_position (finest_of t) rs want (finer_position t (position_at p))
+  pub by-position : (p : List ℤ) → by_position t rs want (position_at p) ≡ by_position (finest_of t) rs want
+      (finer_position t (position_at p))
   pub by-cell : (cell u : Place) → by_cell t rs want cell u ≡ by_cell (finest_of t) rs want cell (finer_steps t u)
   pub mark : (cell u : Place) → passed (by_cell t rs want cell u) ≡ true
       → cell_mark t rs want cell u ≡ cell_mark (finest_of t) rs want cell (finer_steps t u)

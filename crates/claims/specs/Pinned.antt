@@ -301,7 +301,8 @@ step_numbers =
     ∷ (dose_with (16 ∷ 1 ∷ 1 ∷ []) (pair 3 (pos 0) (pos 100)) (at_float (plus 1) (plus 0) (plus 0)) gives pos 0 ∷ [])
     ∷ (dose_with (16 ∷ 1 ∷ 1 ∷ []) (pair 3 (pos 0) (pos 100)) (at_float (plus 1) (plus 0) (plus 1)) refused_as 23 at_place 2)
     -- axes of 16 and 32 steps
-    ∷ (dose_with (16 ∷ 32 ∷ 1 ∷ []) (four_samples (pos 0) (pos 100) (pos 0) (pos 300)) (at_point (pos 8) (pos 16) (pos 0)) gives pos 100 ∷ [])
+    ∷ (dose_with (16 ∷ 32 ∷ 1 ∷ []) (four_samples (pos 0) (pos 100) (pos 0) (pos 300)) (at_point (pos 8) (pos 16) (pos 0))
+    gives pos 100 ∷ [])
     ∷ []
 
 -- ---- the mark

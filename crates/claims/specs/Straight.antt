@@ -102,4 +102,5 @@ in_saddle = pos 320 ∷ pos 128 ∷ pos 192 ∷ []
 
 unfoldable pub saddle_rows : List Row
 saddle_rows =
-    (answer_to (saddle_table 3) dose in_saddle gives pos 161 ∷ []) ∷ (answer_to (saddle_table 3) (slope_along 1) in_saddle gives pos 22 ∷ []) ∷ []
+    (answer_to (saddle_table 3) dose in_saddle gives pos 161 ∷ [])
+    ∷ (answer_to (saddle_table 3) (slope_along 1) in_saddle gives pos 22 ∷ []) ∷ []

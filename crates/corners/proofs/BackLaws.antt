@@ -109,6 +109,7 @@ module _ {m n r : ℕ} (ok : Sizes m n r) where
 pub count-is : (m n : ℕ) → coefficient_count m n ≡ m ^ n * 2 ^ n
 count-is m n = count-split m n ∙ mul_comm (2 ^ n) (m ^ n)
 
-pub rows : (m n : ℕ) (cs : List ℤ) → possible_outcome m n cs ≡ first_of (2 ^ n) (λ c. first_of (m ^ n) (λ k. entry_test m n cs (m ^ n * c + k)))
+pub rows : (m n : ℕ) (cs : List ℤ) → possible_outcome m n cs ≡ first_of (2 ^ n)
+    (λ c. first_of (m ^ n) (λ k. entry_test m n cs (m ^ n * c + k)))
 unfolding possible_outcome
 rows m n cs = ap (λ (k : ℕ). first_of k (entry_test m n cs)) (count-is m n) ∙ first_of-rows (m ^ n) (2 ^ n) (entry_test m n cs)

@@ -111,50 +111,51 @@ module _ (n degree : ℕ) (cs : List ℤ) (room : ℕ) (passed : back_outcome n 
   records = entry_list (orders_of degree) n cs
 
   -- as the table of one cell, with any step numbers that are allowed: forward is not refused and gives the coefficients
-  module _ (steps : List ℕ) (e : Bool) (allowed : step_numbers_outcome n (steps_on (full_shape (one_cell n degree) steps e)) ≡ done tt) where
-    abbrev t : FullShape
-    t = full_shape (one_cell n degree) steps e
+  module _ (steps : List ℕ) (e : Bool) (allowed : step_numbers_outcome n (steps_on (full_shape (one_cell n degree) steps e)) ≡ done tt)
+    where
+      abbrev t : FullShape
+      t = full_shape (one_cell n degree) steps e
 
-    abbrev Forward : ℕ → Place → Type 0
-    Forward room' cell =
-        (coefficients_outcome t records cell room' ≡ done tt)
-        × (coefficient_list (orders_of degree) n cell (records_field (one_cell n degree) records) ≡ cs)
+      abbrev Forward : ℕ → Place → Type 0
+      Forward room' cell =
+          (coefficients_outcome t records cell room' ≡ done tt)
+          × (coefficient_list (orders_of degree) n cell (records_field (one_cell n degree) records) ≡ cs)
 
-    forward-of-records : (room' : ℕ) → coefficient_count (orders_of degree) n ≤ room' → Forward room' origin
-    unfolding one_cell coefficients_outcome request_outcome full_outcome
-    forward-of-records room' fits = (
-      first-passed (request_outcome t (length records) origin room') (corners_outcome s records origin) asked-done
-          ∙ corners-accepted s ok origin here records (λ i l.
-          subst (λ z. nat_abs z ≤ entry_limit (orders_of degree) n (corner_numbers (orders_of degree) n i)) (sym (entry-is i l))
-          ((back-permitted (orders_of degree) n range_back.0 range_back.1 cs numbers.many parts-back.1).within i l)),
-      list_same s ok origin here records records entry-is
-          ∙ (forward-of-back (orders_of degree) n range_back.0 range_back.1 cs numbers.many parts-back.1).are,
-    )
-      where
-        s : Shape
-        s = one_cell n degree
+      forward-of-records : (room' : ℕ) → coefficient_count (orders_of degree) n ≤ room' → Forward room' origin
+      unfolding one_cell coefficients_outcome request_outcome full_outcome
+      forward-of-records room' fits = (
+        first-passed (request_outcome t (length records) origin room') (corners_outcome s records origin) asked-done
+            ∙ corners-accepted s ok origin here records (λ i l.
+            subst (λ z. nat_abs z ≤ entry_limit (orders_of degree) n (corner_numbers (orders_of degree) n i)) (sym (entry-is i l))
+            ((back-permitted (orders_of degree) n range_back.0 range_back.1 cs numbers.many parts-back.1).within i l)),
+        list_same s ok origin here records records entry-is
+            ∙ (forward-of-back (orders_of degree) n range_back.0 range_back.1 cs numbers.many parts-back.1).are,
+      )
+        where
+          s : Shape
+          s = one_cell n degree
 
-        ok : Shaped s
-        ok = one-shaped n degree range-axes.0 range-axes.1
+          ok : Shaped s
+          ok = one-shaped n degree range-axes.0 range-axes.1
 
-        here : Accepted s origin
-        here = one-accepted n degree range-axes.0 range-axes.1
+          here : Accepted s origin
+          here = one-accepted n degree range-axes.0 range-axes.1
 
-        entry-is : (i : ℕ) → i < coefficient_count (orders_of degree) n → records_field s records (corner_place s origin i) ≡ at records i
-        entry-is = one_entry n degree range-axes.0 range-axes.1 records
+          entry-is : (i : ℕ) → i < coefficient_count (orders_of degree) n → records_field s records (corner_place s origin i) ≡ at records i
+          entry-is = one_entry n degree range-axes.0 range-axes.1 records
 
-        many : length records ≡ size s
-        many = entries-many (orders_of degree) n range_back.0 range_back.1 cs ∙ sym (one_size n degree range-axes.0 range-axes.1)
+          many : length records ≡ size s
+          many = entries-many (orders_of degree) n range_back.0 range_back.1 cs ∙ sym (one_size n degree range-axes.0 range-axes.1)
 
-        asked-done : request_outcome t (length records) origin room' ≡ done tt
-        asked-done =
-            first-passed (full_outcome t) _
-            (first-passed (shape_outcome s) _ (one-shape n degree range-axes.0 range-axes.1 numbers.degree-done) ∙ allowed)
-            ∙ first-passed (refuse_unless (eqb (length records) (size s)) 4 0) _
-            (passes (eqb (length records) (size s)) 4 0 (eq-eqb (length records) (size s) many))
-            ∙ first-passed (refuse_unless (leb (coefficient_count (orders_of degree) n) room') 9 0) _
-            (passes (leb (coefficient_count (orders_of degree) n) room') 9 0 (le-leb (coefficient_count (orders_of degree) n) room' fits))
-            ∙ one-within n degree range-axes.0 range-axes.1
+          asked-done : request_outcome t (length records) origin room' ≡ done tt
+          asked-done =
+              first-passed (full_outcome t) _
+              (first-passed (shape_outcome s) _ (one-shape n degree range-axes.0 range-axes.1 numbers.degree-done) ∙ allowed)
+              ∙ first-passed (refuse_unless (eqb (length records) (size s)) 4 0) _
+              (passes (eqb (length records) (size s)) 4 0 (eq-eqb (length records) (size s) many))
+              ∙ first-passed (refuse_unless (leb (coefficient_count (orders_of degree) n) room') 9 0) _
+              (passes (leb (coefficient_count (orders_of degree) n) room') 9 0 (le-leb (coefficient_count (orders_of degree) n) room' fits))
+              ∙ one-within n degree range-axes.0 range-axes.1
 
-    pub forward-of-written : (room' : ℕ) → coefficient_count (orders_of degree) n ≤ room' → Forward room' (place_at only_cell)
-    forward-of-written room' fits = subst (Forward room') (sym only-cell) (forward-of-records room' fits)
+      pub forward-of-written : (room' : ℕ) → coefficient_count (orders_of degree) n ≤ room' → Forward room' (place_at only_cell)
+      forward-of-written room' fits = subst (Forward room') (sym only-cell) (forward-of-records room' fits)

@@ -110,6 +110,8 @@ forward-then-back = back-of-written
 pub back-then-forward : (n degree : ℕ) (cs : List ℤ) (room : ℕ) → back_outcome n degree cs room ≡ done tt
     → (steps : List ℕ) (e : Bool) → step_numbers_outcome n (steps_on (full_shape (one_cell n degree) steps e)) ≡ done tt → (room' : ℕ)
     → coefficient_count (orders_of degree) n ≤ room'
-    → (coefficients_outcome (full_shape (one_cell n degree) steps e) (entry_list (orders_of degree) n cs) (place_at only_cell) room' ≡ done tt)
-    × (coefficient_list (orders_of degree) n (place_at only_cell) (records_field (one_cell n degree) (entry_list (orders_of degree) n cs)) ≡ cs)
+    → (coefficients_outcome (full_shape (one_cell n degree) steps e) (entry_list (orders_of degree) n cs) (place_at only_cell) room' ≡ done
+    tt)
+    × (coefficient_list (orders_of degree) n (place_at only_cell) (records_field (one_cell n degree) (entry_list (orders_of degree) n cs)) ≡
+    cs)
 back-then-forward = forward-of-written

@@ -49,7 +49,8 @@ module _ (m n : ℕ) (m2 : 2 ≤ m) (m3 : m ≤ 3) (cs : List ℤ) where
     within few ok K l =
         subst (λ (ks : List ℤ). nat_abs (at ks K) ≤ 2 ^ 30) has.are
         (subst (λ z. nat_abs z ≤ 2 ^ 30)
-        (sym (get_d_tabulate (coefficient_count m n) (λ K. coefficients m n origin (corners_field m n r) (digit (λ b. 2 * m) K)) K (pos 0) l))
+        (sym (get_d_tabulate (coefficient_count m n) (λ K. coefficients m n origin (corners_field m n r) (digit (λ b. 2 * m) K)) K (pos 0)
+        l))
         (coefficient-within m m2 m3 n few (at r) ok.within (digit (λ b. 2 * m) K) (digits_in n (2 * m) K (omega arith) l)))
 
     doubled-is : (i : ℕ) → i < coefficient_count m n → doubled_entry m n cs i ≡ pos (2 ^ n) *ℤ at r i

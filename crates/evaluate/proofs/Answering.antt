@@ -425,12 +425,14 @@ module _ {round : Rounding} (sound : Sound round) (s : Shape) (rs : List ℤ) (c
   found a h v e = subst (IsAxis s (place_at xs) a) (sym e) (is-axis s cell xs l ready.laid a h)
 
   -- the stages' result r is the answer, and fits 32 bits
-  module _ (r : ℤ) (ok : mag r < 2 ^ 63) (e : r ≡ answer_by round (ask_at s (want_of order axis) cell (place_at xs)) (records_field s rs)) where
-    pub fits : SFits w32 (to_z w64 (of_z w64 r))
-    fits =
-        sfits-abs (to_z w64 (of_z w64 r)) (lt_of_lt_of_le
-        (subst (λ z. nat_abs z < 2 ^ 24) (sym (read r ok ∙ e)) (answer-fits sound s rs cell (place_at xs) (want_of order axis) l ready))
-        (lit≤ tt))
+  module _ (r : ℤ) (ok : mag r < 2 ^ 63) (e : r ≡ answer_by round (ask_at s (want_of order axis) cell (place_at xs)) (records_field s rs))
+    where
+      pub fits : SFits w32 (to_z w64 (of_z w64 r))
+      fits =
+          sfits-abs (to_z w64 (of_z w64 r)) (lt_of_lt_of_le
+          (subst (λ z. nat_abs z < 2 ^ 24) (sym (read r ok ∙ e)) (answer-fits sound s rs cell (place_at xs) (want_of order axis) l ready))
+          (lit≤ tt))
 
-    pub cast : to_z w32 (of_z w32 (to_z w64 (of_z w64 r))) ≡ answer_by round (ask_at s (want_of order axis) cell (place_at xs)) (records_field s rs)
-    cast = to_z-of_z {w = w32} fits ∙ read r ok ∙ e
+      pub cast : to_z w32 (of_z w32 (to_z w64 (of_z w64 r))) ≡ answer_by round (ask_at s (want_of order axis) cell (place_at xs))
+          (records_field s rs)
+      cast = to_z-of_z {w = w32} fits ∙ read r ok ∙ e

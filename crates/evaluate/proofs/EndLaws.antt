@@ -202,7 +202,8 @@ module _ (m order_stride node_stride : ℕ) where
 
   -- a test of all numbers of two ends is one of each end
   pub all-ends : (c : ℕ → Bool) (p : ℕ)
-      → all_at m c p order_stride node_stride ≡ (all m (λ o. c (p + node_stride + o * order_stride)) && all m (λ o. c (p + o * order_stride)))
+      → all_at m c p order_stride node_stride ≡ (all m (λ o. c (p + node_stride + o * order_stride)) && all m
+      (λ o. c (p + o * order_stride)))
   all-ends c p =
       all-twice m (λ t. c (p + place_of m order_stride node_stride t))
       ∙ ap₂ ◌&&◌

@@ -226,7 +226,8 @@ unfolding position_at finite_on pick
 three-held t x f g h i j k p q r u v w =
     record {
       finite-is = by-3 (λ (a : ℕ). finite_on f g h a ≡ finite (x a)) i.finite-is j.finite-is k.finite-is;
-      step_is = λ full. by-3 (λ (a : ℕ). position_at (held p q r) a ≡ pick (finite (x a)) (clamped (step (float_steps t a) (x a))) (negsuc 0))
+      step_is = λ full. by-3 (λ (a : ℕ). position_at (held p q r) a ≡ pick (finite (x a)) (clamped (step (float_steps t a) (x a)))
+          (negsuc 0))
           (held-step (steps_on t 0) f (x 0) i p u ∙ by-own full 0 (omega arith))
           (held-step (steps_on t 1) g (x 1) j q v ∙ by-own full 1 (omega arith))
           (held-step (steps_on t 2) h (x 2) k r w ∙ by-own full 2 (omega arith));

@@ -49,7 +49,8 @@ fields-low s (suc x) t d h =
     (mul-lt-mul_of_pos_right {n = 2 ^ 24} (omega arith) (pow_pos 124)))
 
 -- ---- 2^31 and more
-at_top : (s : Bool) (t : ℕ) → T (not (is_nan (of_fields binary32 s 255 t))) → nearest_held (of_fields binary32 s 255 t) ≡ nearest_held (inf s)
+at_top : (s : Bool) (t : ℕ) → T (not (is_nan (of_fields binary32 s 255 t))) → nearest_held (of_fields binary32 s 255 t) ≡ nearest_held
+    (inf s)
 unfolding of_fields is_nan
 at_top s t = go (eqb t 0)
   where

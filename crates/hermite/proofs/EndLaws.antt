@@ -45,7 +45,8 @@ pub record Solves (p q r x y z : ℤ) : Type 0 where
   pub third : held (held (held (pos 2 *ℤ z) -ℤ held (q *ℤ x)) -ℤ held (r *ℤ held (held (pos 2 *ℤ y) -ℤ held (p *ℤ x)))) ≡ pos
       2 *ℤ z -ℤ q *ℤ x -ℤ r *ℤ (pos 2 *ℤ y -ℤ p *ℤ x)
 
-module _ (p q r x y z : ℤ) (hp : nat_abs p ≤ 20) (hq : nat_abs q ≤ 20) (hr : nat_abs r ≤ 20) (hx : nat_abs x ≤ 2 ^ 50) (hy : nat_abs y ≤ 2 ^ 50)
+module _ (p q r x y z : ℤ) (hp : nat_abs p ≤ 20) (hq : nat_abs q ≤ 20) (hr : nat_abs r ≤ 20) (hx : nat_abs x ≤ 2 ^ 50)
+    (hy : nat_abs y ≤ 2 ^ 50)
     (hz : nat_abs z ≤ 2 ^ 50) where
   pub solves-fit : Solves p q r x y z
   solves-fit = record {

@@ -56,7 +56,8 @@ module _ (k m N c u : ℕ) (x : ℕ → ℤ) (B : ℕ) (small : (t : ℕ) → t 
 
     rounded-size : (f D : ℕ) → 0 < D → coarse k m N u ≤ f * D → nat_abs (round (stage_sum k m N c u x j) D) ≤ f * B
     rounded-size f D o g =
-        rounded-bound f (nat_abs (round (stage_sum k m N c u x j) D)) (nat_abs (stage_sum k m N c u x j)) D (coarse k m N u) B (stage-size j)
+        rounded-bound f (nat_abs (round (stage_sum k m N c u x j) D)) (nat_abs (stage_sum k m N c u x j)) D (coarse k m N u) B
+        (stage-size j)
         (sound-size sound (stage_sum k m N c u x j) D o) g o
 
     -- a dose's stage to eighths of eighths

@@ -96,7 +96,8 @@ module _ {k m u : ℕ} {b : Basis} (f : Folds k m u b) (low high y : ℕ → ℤ
         (end-total m f.m-low f.m-high (at b.high) high (λ o h l. (none o h l).1) (λ o. basis k m steps u (m + o))
         (λ o. y (m + o)) high_is highs)
         ∙ sym (total-ends m f.m-low f.m-high (λ t. nat_abs (basis k m steps u t) * nat_abs (y t)))
-        ∙ total_ext (2 * m) (λ t. nat_abs (basis k m steps u t) * nat_abs (y t)) (λ t. nat_abs (basis k m steps u t) * nat_abs (y (m * 0 + t)))
+        ∙ total_ext (2 * m) (λ t. nat_abs (basis k m steps u t) * nat_abs (y t))
+        (λ t. nat_abs (basis k m steps u t) * nat_abs (y (m * 0 + t)))
         (λ t l. ap (λ z. nat_abs (basis k m steps u t) * nat_abs z) (from_first t))))
         (stage-total k m steps 0 u y B (λ t l. le_trans (le_of_eq (ap nat_abs (sym (from_first t)))) (small t l)))
 

@@ -62,9 +62,11 @@ module _ (kind : ℕ → Bool) where
 
     pub run-stops : i < length l → kind (get_or l i 0) ≡ false → length (leading kind (drop i l)) ≡ 0
     unfolding leading
-    run-stops h e = rw (drop-cons l i 0 h) (ap length (pick-false (kind (get_or l i 0)) (get_or l i 0 ∷ leading kind (drop (suc i) l)) [] e))
+    run-stops h e = rw (drop-cons l i 0 h) (ap length (pick-false (kind (get_or l i 0)) (get_or l i 0 ∷ leading kind (drop (suc i) l)) []
+        e))
 
-    pub run_more : i < length l → kind (get_or l i 0) ≡ true → length (leading kind (drop i l)) ≡ suc (length (leading kind (drop (i + 1) l)))
+    pub run_more : i < length l → kind (get_or l i 0) ≡ true → length (leading kind (drop i l)) ≡ suc
+        (length (leading kind (drop (i + 1) l)))
     unfolding leading
     run_more h e =
         rw (add-one i, drop-cons l i 0 h) (ap length (pick_true (kind (get_or l i 0)) (get_or l i 0 ∷ leading kind (drop (suc i) l)) [] e))

@@ -14,7 +14,8 @@ use Rattle.import.specs.Examples.{ascii, imported, AllRows, table}
 
 pub examples : AllRows table
 unfolding table imported ascii samples_of import_outcome sample_outcome token_outcome sample_of units is_whole bottom top lowered raised
-    mantissa decimal_from fits fits_int fits_frac fits_exp number_in is_digit token_at token_start token_count starts starts_below starts_token
+    mantissa decimal_from fits fits_int fits_frac fits_exp number_in is_digit token_at token_start token_count starts starts_below
+    starts_token
     separator skip leads beyond leading full_outcome step_numbers_outcome steps_allowed step_number steps_on shape_outcome counts_outcome
     count_allowed degree_outcome axes_outcome nodes count span tabulate first_of pick
 examples = refl

@@ -10,11 +10,14 @@ use Rattle.import.specs.Grammar.{digits, after_digits, exp_digits, frac_part, fi
 module _ (part : List ℕ) where
   pub exp-absent : leads 101 69 part ≡ false → fits_exp part ≡ none part
   unfolding fits_exp
-  exp-absent e = pick-false (leads 101 69 part) (not (none (digits (exp_digits part))) && none (after_digits (exp_digits part))) (none part) e
+  exp-absent e = pick-false (leads 101 69 part) (not (none (digits (exp_digits part))) && none (after_digits (exp_digits part))) (none part)
+      e
 
-  pub exp-present : leads 101 69 part ≡ true → fits_exp part ≡ (not (none (digits (exp_digits part))) && none (after_digits (exp_digits part)))
+  pub exp-present : leads 101 69 part ≡ true → fits_exp part ≡ (not (none (digits (exp_digits part))) && none
+      (after_digits (exp_digits part)))
   unfolding fits_exp
-  exp-present e = pick_true (leads 101 69 part) (not (none (digits (exp_digits part))) && none (after_digits (exp_digits part))) (none part) e
+  exp-present e = pick_true (leads 101 69 part) (not (none (digits (exp_digits part))) && none (after_digits (exp_digits part))) (none part)
+      e
 
   pub frac-short : leads 46 46 part ≡ true → none (digits (skip 46 46 part)) ≡ true → fits_frac part ≡ false
   unfolding fits_frac

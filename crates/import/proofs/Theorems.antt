@@ -62,7 +62,8 @@ module _ (text : List ℕ) where
   pub tokens-ascend : (k l : ℕ) → k < l → l < token_count text → token_start text k < token_start text l
   tokens-ascend k l h m = starts-ascend text k l h m
 
-  starts-here : (p : ℕ) → separator (get_or text p 0) ≡ false → (0 < p → separator (get_or text (p - 1) 0) ≡ true) → starts_token text p ≡ true
+  starts-here : (p : ℕ) → separator (get_or text p 0) ≡ false → (0 < p → separator (get_or text (p - 1) 0) ≡ true) → starts_token text p ≡
+      true
   unfolding starts_token
   starts-here zero e f = rw e refl
   starts-here (suc p) e f = rw (e, f (omega arith)) (or-true (eqb (suc p) 0))
@@ -81,7 +82,11 @@ module _ (text : List ℕ) where
   pub token-covers : (p : ℕ) → p < length text → separator (get_or text p 0) ≡ false → (k : ℕ) × InToken text p k
   token-covers zero l e = (before text zero, starting zero l (starts-here zero e (λ h. absurd (omega arith))))
   token-covers (suc p) l e = split (separator (get_or text p 0))
-      (λ s. (before text (suc p), starting (suc p) l (starts-here (suc p) e (λ h. ap (λ (j : ℕ). separator (get_or text j 0)) (less p) ∙ s))))
+      (λ s. (
+        before text (suc p),
+        starting (suc p) l (starts-here (suc p) e
+            (λ h. ap (λ (j : ℕ). separator (get_or text j 0)) (less p) ∙ s)),
+      ))
       (λ s.
       let h = token-covers p (omega arith) s in
       let i = token_start text h.0 in

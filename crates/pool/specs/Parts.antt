@@ -22,7 +22,8 @@ pair_outcome a v b w =
 -- 4, 9
 unfoldable pub lengths_outcome : Shape → ℕ → Shape → ℕ → ℕ → Check
 lengths_outcome a given b other room =
-    first (first (refuse_unless (eqb given (nodes a)) 4 0) (refuse_unless (eqb other (nodes b)) 4 0)) (refuse_unless (leb (nodes a) room) 9 0)
+    first (first (refuse_unless (eqb given (nodes a)) 4 0) (refuse_unless (eqb other (nodes b)) 4 0))
+    (refuse_unless (leb (nodes a) room) 9 0)
 
 -- ---- samples
 

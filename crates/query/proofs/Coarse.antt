@@ -275,7 +275,8 @@ module _ (t : FullShape) where
         steps-same : steps_outcome fine finer ≡ steps_outcome t step
         unfolding steps_outcome
         steps-same =
-            first_of-same 3 (λ a. position_test s (steps_on fine a) (pos (finer a)) a) (λ a. position_test s (steps_on t a) (pos (step a)) a)
+            first_of-same 3 (λ a. position_test s (steps_on fine a) (pos (finer a)) a)
+            (λ a. position_test s (steps_on t a) (pos (step a)) a)
             (λ a l. go a l (dec_lt a s.axes))
           where
             alone : (N : ℕ) → N * (2 - 1) ≡ N

@@ -274,7 +274,8 @@ located s even rs want p b cell step l =
     ap (λ (c : Check). first (renumbered number c) (reading t rs want cell step))
     (first-passed (cell_outcome s cell) (steps_outcome t step) (located-cells s even p b cell step l f))
     ∙ ap (λ (c : Check). first c (reading t rs want cell step)) (located-tests s even p b cell step l f)
-    ∙ first-after (first_of 3 (position_outcome t p)) (reading t rs want cell step) (reading t rs want (position_cell t p) (position_step t p))
+    ∙ first-after (first_of 3 (position_outcome t p)) (reading t rs want cell step)
+    (reading t rs want (position_cell t p) (position_step t p))
     (λ h. ap₂ (reading t rs want) (located-cell s even p b cell step l f h) (located-step s even p b cell step l f h)))
   where
     t : FullShape
@@ -391,7 +392,8 @@ module _ (s : Shape) (even : Bool) (rs : List ℤ) (want : Want) where
 
     abbrev told_of : ℕ → ℕ → Outcome ℤ
     told_of j k = renumbered (position_number (cell_at j k) (step_at j k))
-        (first (first (cell_outcome s (cell_at j k)) (steps_outcome there (step_at j k))) (reading there rs want (cell_at j k) (step_at j k)))
+        (first (first (cell_outcome s (cell_at j k)) (steps_outcome there (step_at j k)))
+        (reading there rs want (cell_at j k) (step_at j k)))
 
     told_at : (j k : ℕ)
         → renumbered (position_number (cell_at j k) (step_at j k)) (by_cell there rs want (cell_at j k) (step_at j k))
@@ -400,7 +402,8 @@ module _ (s : Shape) (even : Bool) (rs : List ℤ) (want : Want) where
         let told = position_number (cell_at j k) (step_at j k) in
         ap (renumbered told) (by-cell-is there rs want (cell_at j k) (step_at j k))
         ∙ renumbered-first told (asked_outcome there rs want)
-        (first (first (cell_outcome s (cell_at j k)) (steps_outcome there (step_at j k))) (reading there rs want (cell_at j k) (step_at j k)))
+        (first (first (cell_outcome s (cell_at j k)) (steps_outcome there (step_at j k)))
+        (reading there rs want (cell_at j k) (step_at j k)))
         ∙ ap (λ (c : Check). first c (told_of j k)) (kept-asked told (position-keeps (cell_at j k) (step_at j k)) there rs want)
 
     module _ (j k : ℕ) (ej : j ≡ cell_on s 1 y) (ek : k ≡ cell_on s 2 z) (r : Reading) where
@@ -442,7 +445,8 @@ unused-cell s a b j v l e f =
 
 -- what the code reads at the cells and in-cell steps of a position
 pub spot-read : (s : Shape) (even : Bool) (rs : List ℤ) (want : Want) (xs : List ℤ) (b : List ℕ) → Stand xs b → (i u j v k w : ℕ)
-    → (i ≡ cell_of steps (count s 0) (get_or b 0 0)) × (u ≡ get_or b 0 0 - 256 * i) × (j ≡ cell_on s 1 (get_or b 1 0)) × (v ≡ get_or b 1 0 - 256 * j)
+    → (i ≡ cell_of steps (count s 0) (get_or b 0 0)) × (u ≡ get_or b 0 0 - 256 * i) × (j ≡ cell_on s 1 (get_or b 1 0)) ×
+    (v ≡ get_or b 1 0 - 256 * j)
     × (k ≡ cell_on s 2 (get_or b 2 0)) × (w ≡ get_or b 2 0 - 256 * k)
     → (r : Reading)
     → let t = finest s even in
@@ -492,7 +496,8 @@ pub spot-told : (cellwise : Bool) (s : Shape) (even : Bool) (rs : List ℤ) (wan
     → let t = finest s even in
     let cell = place_at (i ∷ j ∷ k ∷ []) in
     let step = place_at (u ∷ v ∷ w ∷ []) in
-    (outcome_of_reading r ≡ renumbered (number_by cellwise cell step) (by_cell t rs want cell step)) × Marks r (cell_mark t rs want cell step)
+    (outcome_of_reading r ≡ renumbered (number_by cellwise cell step) (by_cell t rs want cell step)) × Marks r
+    (cell_mark t rs want cell step)
     → (cellwise ≡ true → (outcome_of_reading r ≡ by_cell t rs want (place_at cells) (place_at inside))
     × Marks r (cell_mark t rs want (place_at cells) (place_at inside)))
     × (cellwise ≡ false → (p : List ℤ) → Stand p inside → (outcome_of_reading r ≡ by_position t rs want (position_at p))

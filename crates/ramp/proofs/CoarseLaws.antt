@@ -49,7 +49,8 @@ module _ (t : FullShape) (same : full_outcome (finest t.shape t.second_edition) 
   cell_same i l h =
       let p = query_at ps i in
       let read = reading t rs dose (position_cell t p) (position_step t p) in
-      let a = first_passes (asked_outcome t rs dose) (first (first_of 3 (position_outcome t p)) read) (in-passed i (own_call t rs ps i) h) in
+      let a = first_passes (asked_outcome t rs dose) (first (first_of 3 (position_outcome t p)) read) (in-passed i (own_call t rs ps i) h)
+      in
       cells_same t same rs dose p (query_at qs i) (λ e. scaled-positions t p (query_at qs i) (is i l)) (none i) full
       (first_passes (first_of 3 (position_outcome t p)) read a.1).0
 

@@ -43,7 +43,12 @@ pub record Doses (round : Rounding) (s : Shape) (held : List ℤ) (xs : List ℕ
 module _ (s : Shape) (held : List ℤ) (xs : List ℕ) (f : Readable s held (place_at xs)) (m n E : ℕ) (m-is : orders s ≡ m) (n-is : s.axes ≡ n)
     (E-is : m ^ n ≡ E) where
   layout : Layout
-  layout = record { orders = m; entries = E; base = 0; strides = node_stride (one s) 0 ∷ node_stride (one s) 1 ∷ node_stride (one s) 2 ∷ [] }
+  layout = record {
+    orders = m;
+    entries = E;
+    base = 0;
+    strides = node_stride (one s) 0 ∷ node_stride (one s) 1 ∷ node_stride (one s) 2 ∷ [];
+  }
 
   entries-are : E ≡ entries (one s)
   unfolding entries one_cell
@@ -147,7 +152,8 @@ module _ {round : Rounding} (sound : Sound round) (s : Shape) (held : List ℤ) 
   unfolding last_axis axes without pick
   on_line n-is e = doses s held xs f m 1 E m-is n-is e sound 0 refl _ [] (along-x s held xs f m 1 E m-is n-is e) tt
 
-  pub on-plane : s.axes ≡ 2 → m ^ 2 ≡ E → Doses round s held xs m (strides_of (get_or xs 1 0) (2 * E) m) (strides_of (get_or xs 0 0) E 1 ∷ [])
+  pub on-plane : s.axes ≡ 2 → m ^ 2 ≡ E → Doses round s held xs m (strides_of (get_or xs 1 0) (2 * E) m)
+      (strides_of (get_or xs 0 0) E 1 ∷ [])
   unfolding last_axis axes without pick
   on-plane n-is e =
       doses s held xs f m 2 E m-is n-is e sound 1 refl _ _ (along-y s held xs f m 2 E m-is n-is e)

@@ -107,7 +107,8 @@ module _ (s : Shape) (even : Bool) (rs ps : List ℤ) where
               ∙ fetches-more cell k ∙ ap (λ (n : ℕ). fetches cell (suc n)) (sym z)
 
       -- an answered query
-      pub more : place_at here ≡ cell i → (held' : List ℤ) → Held s rs (place_at here) held' → corners_outcome s rs (place_at here) ≡ done tt
+      pub more : place_at here ≡ cell i → (held' : List ℤ) → Held s rs (place_at here) held' → corners_outcome s rs (place_at here) ≡ done
+          tt
           → (v : ℤ) → i < 256 → own i ≡ done v → Before (i + 1) (set found i v) held' here (fetched + pick new 1 0)
       more at_here held' h within v l e =
           record {

@@ -57,7 +57,8 @@ first_of-number number ok place (suc n) h =
 corners-five : (s : Shape) (rs : List ℤ) (cell : Place) → passed (corners_outcome s rs cell) ≡ false → Refuses 5 (corners_outcome s rs cell)
 unfolding corners_outcome entry_outcome
 corners-five s rs cell =
-    first_of-number 5 (λ i. leb (nat_abs (records_field s rs (corner_place s cell i))) (entry_limit (orders s) s.axes (corner_place s cell i)))
+    first_of-number 5 (λ i. leb (nat_abs (records_field s rs (corner_place s cell i)))
+    (entry_limit (orders s) s.axes (corner_place s cell i)))
     (λ i. entry_index s (corner_place s cell i)) (corner_entries s)
 
 -- the step of a position that is not refused is not refused
@@ -142,4 +143,5 @@ module _ (s : Shape) (even : Bool) (rs ps : List ℤ) (listed : Listed s rs ps) 
           ∙ ap (reading full rs dose cell) (sym (st.step_is passes)) ∙ reading-passes full rs dose cell step within
           ∙ ap done (sym (finest-answer s even dose cell step (asked-facts full rs dose asked) (records_field s rs))
           ∙ answer-one-cell s ok cell st.here rs dose step last (λ a. steps) (rounding_of even)
-          ∙ ap (λ (l : List ℤ). answer_by (rounding_of even) (ask_at (one s) dose origin step) (records_field (one s) l)) (sym h.is) ∙ sym e)
+          ∙ ap (λ (l : List ℤ). answer_by (rounding_of even) (ask_at (one s) dose origin step) (records_field (one s) l)) (sym h.is) ∙ sym
+          e)

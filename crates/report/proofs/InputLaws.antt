@@ -32,7 +32,8 @@ module _ (input : List ℕ) where
   too_long h = ap (λ t. text_of (first (refuse_unless t 9 0) (read_outcome input held_nodes)) (samples_in input))
       (lt-leb (length input) held_bytes h)
 
-  pub read-refused : (n p : ℕ) → length input ≤ held_bytes → read_outcome input held_nodes ≡ refused n p → report_text input ≡ refused_line n
+  pub read-refused : (n p : ℕ) → length input ≤ held_bytes → read_outcome input held_nodes ≡ refused n p → report_text input ≡ refused_line
+      n
   unfolding report_text text_of
   read-refused n p h e = ap (λ (o : Outcome Header). text_of o (samples_in input)) (outcome h ∙ e)
 

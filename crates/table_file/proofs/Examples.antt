@@ -17,8 +17,10 @@ use Rattle.table_file.specs.File.{header, section_one, section_two, section_thre
 
 -- all definitions that the examples compute with, opened together
 opened : Unit {0}
-unfolding pick first_of tabulate number span digit finest_on axes_outcome count_allowed limit_outcome number_at bytes_of bytes_of_all signed_of
-    unsigned_of section_one section_two section_three file_of complete count_in header_in nodes_in samples_in start_of_three second_in count_outcome
+unfolding pick first_of tabulate number span digit finest_on axes_outcome count_allowed limit_outcome number_at bytes_of bytes_of_all
+    signed_of
+    unsigned_of section_one section_two section_three file_of complete count_in header_in nodes_in samples_in start_of_three second_in
+    count_outcome
     one_outcome nothing_after two_outcome three_outcome read_check read_outcome
 opened = tt
 

@@ -16,7 +16,8 @@ use Rattle.table_file.specs.Numbers.{number_at, bytes_of, bytes_of_all}
 -- ---- one number
 
 pub number_is : (bytes : List ℕ) (at : ℕ)
-    → number_at bytes at ≡ get_or bytes at 0 + 256 * get_or bytes (at + 1) 0 + 65536 * (get_or bytes (at + 2) 0 + 256 * get_or bytes (at + 2 + 1) 0)
+    → number_at bytes at ≡ get_or bytes at 0 + 256 * get_or bytes (at + 1) 0 + 65536 *
+    (get_or bytes (at + 2) 0 + 256 * get_or bytes (at + 2 + 1) 0)
 unfolding number_at number
 number_is bytes at = let e : at + 3 ≡ at + 2 + 1 = omega arith in rw (add-zero at, e) (omega arith)
 

@@ -132,7 +132,8 @@ module _ (bytes : List ℕ) where
       let g = first_done (refuse_unless (eqb many (nodes_in bytes)) 8 0) (complete bytes (start_of_three bytes)) tt f.1 in
       (eqb-true many (nodes_in bytes) (refuse-done (eqb many (nodes_in bytes)) 8 0 g.0), complete-holds (start_of_three bytes) g.1)
 
-  pub two-passes : file_number bytes (1 + axes_in bytes) ≡ nodes_in bytes → 4 * start_of_three bytes ≤ length bytes → two_outcome bytes ≡ done tt
+  pub two-passes : file_number bytes (1 + axes_in bytes) ≡ nodes_in bytes → 4 * start_of_three bytes ≤ length bytes → two_outcome bytes ≡
+      done tt
   unfolding two_outcome start_of_three
   two-passes e f =
       rw (

@@ -63,7 +63,8 @@ module _ (n : ℕ) (cs : List ℕ) (xs : List ℤ) (few : n ≤ length cs) where
   unfolding section_one section_two
   number-many =
       let e : 1 + n ≡ suc n = omega arith in
-      ap (λ (k : ℕ). get_or (numbers n cs xs few) k 0) e ∙ get_or_at (take n cs) (length xs) (map unsigned_of xs) 0 n (length-take-le n cs few)
+      ap (λ (k : ℕ). get_or (numbers n cs xs few) k 0) e ∙ get_or_at (take n cs) (length xs) (map unsigned_of xs) 0 n
+      (length-take-le n cs few)
 
   number-sample : (i : ℕ) → get_or (numbers n cs xs few) (2 + n + i) 0 ≡ unsigned_of (at xs i)
   unfolding section_one section_two

@@ -20,7 +20,8 @@ indices cell = word (decimal (get_or cell 0 0)) 32 ++ (word (decimal (get_or cel
 -- a cell's three indices, the cubic dose and the quintic dose
 unfoldable pub cell_line : List ℕ → ℤ → ℤ → List ℕ
 cell_line cell cubic quintic =
-    line (decimal (get_or cell 0 0) ∷ decimal (get_or cell 1 0) ∷ decimal (get_or cell 2 0) ∷ signed_decimal cubic ∷ signed_decimal quintic ∷ [])
+    line (decimal (get_or cell 0 0) ∷ decimal (get_or cell 1 0) ∷ decimal (get_or cell 2 0) ∷ signed_decimal cubic ∷ signed_decimal quintic
+    ∷ [])
 
 -- `refused` in ASCII
 abbrev pub refused_word : List ℕ

@@ -178,7 +178,8 @@ module _ (s : Shape) (ok : Shaped s) (from to : Place) (boxed : Boxed s from to)
             place-node s (node_at s x y z) e he 2 ∙ node-z s x y z hx hy hz,
           ) refl
 
-      record-in : inside x y z ≡ true → record_test (node_at s x y z) ≡ record_outcome (limit_of (orders s)) (E s) rs (E s * node_at s x y z)
+      record-in : inside x y z ≡ true → record_test (node_at s x y z) ≡ record_outcome (limit_of (orders s)) (E s) rs
+          (E s * node_at s x y z)
       unfolding record_test record_outcome
       record-in h = first_of-same (E s) _ _ (λ e he.
           ap (λ (t : Bool). refuse_unless t 5 (E s * node_at s x y z + e))
@@ -232,7 +233,8 @@ module _ (s : Shape) (ok : Shaped s) (from to : Place) (boxed : Boxed s from to)
     out-y : (y z : ℕ) → y < count s 1 → z < count s 2 → in_axis 1 y ≡ false → first_of (count s 0) (λ x. record_test (node_at s x y z))
         ≡ done tt
     unfolding inside
-    out-y y z hy hz h = first_of-passes (count s 0) (λ x. record_test (node_at s x y z)) (λ x l. record-out x y z l hy hz (off x (in_axis 2 z)))
+    out-y y z hy hz h = first_of-passes (count s 0) (λ x. record_test (node_at s x y z))
+        (λ x l. record-out x y z l hy hz (off x (in_axis 2 z)))
       where
         off : (x : ℕ) (b : Bool) → (b && (in_axis 1 y && (in_axis 0 x && true))) ≡ false
         off x true = rw h refl
@@ -245,7 +247,8 @@ module _ (s : Shape) (ok : Shaped s) (from to : Place) (boxed : Boxed s from to)
         first_of-passes (count s 1) (λ y. first_of (count s 0) (λ x. record_test (node_at s x y z)))
         (λ y hy. first_of-passes (count s 0) (λ x. record_test (node_at s x y z)) (λ x l. record-out x y z l hy hz (rw h refl)))
 
-    in-plane : (k : ℕ) → k < nodes_along 2 → first_of (count s 1) (λ y. first_of (count s 0) (λ x. record_test (node_at s x y (from 2 + k))))
+    in-plane : (k : ℕ) → k < nodes_along 2 → first_of (count s 1) (λ y. first_of (count s 0)
+        (λ x. record_test (node_at s x y (from 2 + k))))
         ≡ first_of (nodes_along 1) (λ j. first_of (nodes_along 0) (λ i. box_test i j k))
     in-plane k hk =
         window (count s 1) (from 1) (nodes_along 1) (λ y. first_of (count s 0) (λ x. record_test (node_at s x y (from 2 + k))))

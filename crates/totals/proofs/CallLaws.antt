@@ -151,7 +151,8 @@ module _ (s : Shape) (ok : Shaped s) (from to : Place) (box : Boxed s from to) (
       unfolding record_outcome
       rows-tested = sym (by_rows s ok from to box l laid K cells rs ∙ first_of-same (row_count K) _ _ (λ r hr.
           first_of-same (get_or K 0 0 + 1) _ _ (λ i hi.
-          ap (λ (n : ℕ). first_of n (λ e. refuse_unless (leb (nat_abs (at rs (row_start l K r + l.entries * i + e))) (limit_of (orders s) e)) 5
+          ap (λ (n : ℕ). first_of n (λ e. refuse_unless (leb (nat_abs (at rs (row_start l K r + l.entries * i + e)))
+          (limit_of (orders s) e)) 5
           (row_start l K r + l.entries * i + e))) (sym laid.entries-are)
           ∙ first_of-same l.entries _ _ (λ e he.
           ap (λ (k : ℕ). refuse_unless (leb (nat_abs (at rs (row_start l K r + l.entries * i + e))) k) 5

@@ -277,7 +277,8 @@ module _ (s : Shape) (ok : Shaped s) (from to : Place) (boxed : Boxed s from to)
           ∙ ap₂ (λ (y z : ℕ). entries s * node_at s (from 0 + i) (from 1 + y) (from 2 + z)) row_low row-high
 
       group_at : (c b : ℕ) → c < M 2 → b < M 1
-          → group_sum m (taken_at m (get_or Ks 0 0) i) rs (row_start l Ks (row k j) + m * (M 1 * M 2) * i + m * (M 1 * c + b)) ≡ summed k j i c b
+          → group_sum m (taken_at m (get_or Ks 0 0) i) rs (row_start l Ks (row k j) + m * (M 1 * M 2) * i + m * (M 1 * c + b)) ≡ summed k j
+          i c b
       unfolding group_sum summed records_field put place
       group_at c b hc hb =
           rw (cells 0 (lit< tt), orders-used 0 ok.axes-low)

@@ -82,7 +82,8 @@ module _ (m K j : ℕ) where
       (by_tests 3 K j false above below (ne_eqb K 0 (λ z. omega arith)) a b (at xs) (by-3 _ p q r))
 
 -- numbers that are what the total takes are small
-pub factors-light : (m K j : ℕ) (f : ℕ → ℤ) → 2 ≤ m → m ≤ 3 → ((o : ℕ) → o < m → f o ≡ taken_at m K j o) → total m (λ o. nat_abs (f o)) ≤ 128
+pub factors-light : (m K j : ℕ) (f : ℕ → ℤ) → 2 ≤ m → m ≤ 3 → ((o : ℕ) → o < m → f o ≡ taken_at m K j o) → total m (λ o. nat_abs (f o)) ≤
+    128
 factors-light m K j f m2 m3 h =
     le_trans (le_of_eq (total_ext m (λ o. nat_abs (f o)) (λ o. nat_abs (taken_at m K j o)) (λ o l. ap nat_abs (h o l))))
     (taken-light m K j m2 m3)

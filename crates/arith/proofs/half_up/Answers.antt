@@ -24,7 +24,8 @@ module _ (x : ℤ) (k : ℕ) (f : SFits w64 x) (hk : k ≤ 61) (small : nat_abs 
   raised : SFits w64 (to_z w64 (of_z w64 x) +ℤ to_z w64 (1 * 2 ^ k % 18446744073709551616))
   raised = rw (to_z-of_z f, power-held k hk) sum_fits
 
-  ends : to_z w64 (of_z w64 (shr_z (to_z w64 (of_z w64 (to_z w64 (of_z w64 x) +ℤ to_z w64 (1 * 2 ^ k % 18446744073709551616)))) (2 ^ (k + 1))))
+  ends : to_z w64 (of_z w64 (shr_z (to_z w64 (of_z w64 (to_z w64 (of_z w64 x) +ℤ to_z w64 (1 * 2 ^ k % 18446744073709551616))))
+      (2 ^ (k + 1))))
       ≡ round_half_up x (2 ^ (k + 1))
   ends = rw (to_z-of_z f, power-held k hk, to_z-of_z sum_fits, to_z-of_z (sfits_shr (x +ℤ pos (2 ^ k)) (2 ^ (k + 1)) sum_fits)) nearest
 

@@ -9,7 +9,8 @@ use Rattle.cell.proofs.beyond_in.Given as goal
 
 abbrev pub invariant-loop-e : goal.invariant-loop-e
 invariant-loop-e l =
-    (l.e ≤ l.n) × (eqb l.over 0 ≡ (passed (first_of l.e (test l.limits l.records l.start)) && passed (first_of l.e (test l.limits l.records (l.start + l.n)))))
+    (l.e ≤ l.n) × (eqb l.over 0 ≡ (passed (first_of l.e (test l.limits l.records l.start)) && passed
+    (first_of l.e (test l.limits l.records (l.start + l.n)))))
 
 abbrev pub decreases-loop-e : goal.decreases-loop-e
 decreases-loop-e l = l.n - l.e

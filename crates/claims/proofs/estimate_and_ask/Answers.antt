@@ -35,7 +35,8 @@ returns-in-Refused c =
     let want = wanted a.derivative in
     let question = query_of a.q in
     let e = c.estimate-answer.ensures in
-    let g = ap (in_float want) (both-refused a.t a.samples.now a.records.now want question (sym e.answer ∙ ap outcome_of c.in-Refused.is)) in
+    let g = ap (in_float want) (both-refused a.t a.samples.now a.records.now want question (sym e.answer ∙ ap outcome_of c.in-Refused.is))
+    in
     record { given = g; written = e.written; claimed = claimed-told a.t a.samples.now a.records.now want question _ g }
 
 pub returns-in-Done : goal.returns-in-Done

@@ -105,15 +105,30 @@ solve_first-requires c = let s = c in (s.requires.sizes.0, s.requires.sizes.1, s
 
 pub solve_axis-requires : goal.solve_axis-requires
 solve_axis-requires c = let w = c.before in
-    record { le_m = sizes (S w); all_within = (low (S w) w.solve_first.ensures.all_within 1 (lit≤ tt) (first w) (once w), (S w).requires.xs_len.1) }
+    record {
+      le_m = sizes (S w);
+      all_within = (
+        low (S w) w.solve_first.ensures.all_within 1 (lit≤ tt) (first w) (once w),
+        (S w).requires.xs_len.1,
+      );
+    }
 
 pub solve_first-requires-2 : goal.solve_first-requires-2
 solve_first-requires-2 c = let s = c in (s.requires.sizes.0, s.requires.sizes.1, s.requires.sizes.2, s.requires.xs_len.1)
 
 pub solve_axis-requires-2 : goal.solve_axis-requires-2
 solve_axis-requires-2 c = let w = c.before.before in
-    record { le_m = sizes (T w); all_within = (low (T w) w.solve_first-2.ensures.all_within 1 (lit≤ tt) (one w) (one-is w), (T w).requires.xs_len.0) }
+    record {
+      le_m = sizes (T w);
+      all_within = (
+        low (T w) w.solve_first-2.ensures.all_within 1 (lit≤ tt) (one w) (one-is w),
+        (T w).requires.xs_len.0,
+      );
+    }
 
 pub solve_axis-requires-3 : goal.solve_axis-requires-3
 solve_axis-requires-3 c = let v = c.before in let w = W v in
-    record { le_m = sizes (T w); all_within = (low (T w) w.solve_first-2.ensures.all_within 2 (lit≤ tt) (two v) (two_is v), (one-is w).long) }
+    record {
+      le_m = sizes (T w);
+      all_within = (low (T w) w.solve_first-2.ensures.all_within 2 (lit≤ tt) (two v) (two_is v), (one-is w).long);
+    }

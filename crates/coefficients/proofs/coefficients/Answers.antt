@@ -79,7 +79,8 @@ returns-in-Refused c =
     record { result_value = e ∙ sym h; out_after = when-refused (written w.before.before) a.out.now h }
 
 pub check_corners-tested-requires : goal.check_corners-tested-requires
-check_corners-tested-requires c = let f = facts c.before.before.before in record { shaped = (f.shape, f.many); accepted = (f.here, c.layout_of-l.ensures) }
+check_corners-tested-requires c = let f = facts c.before.before.before in record
+    { shaped = (f.shape, f.many); accepted = (f.here, c.layout_of-l.ensures) }
 
 pub returns-in-Refused-tested : goal.returns-in-Refused-tested
 unfolding coefficients_writes tests

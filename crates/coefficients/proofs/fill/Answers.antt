@@ -55,7 +55,10 @@ pub block_solve-requires : goal.block_solve-requires
 block_solve-requires c =
     let h = c.requires.sizes.1.inside c.corner_at-c.result c.corner_at-c.ensures.1 in
     let e = c.corner_start-start.ensures in
-    record { sizes = (c.requires.sizes.0, c.corner_at-c.ensures.1, omega arith); xs_len = (c.loop-turn.invariant.0, c.loop-turn.invariant.1) }
+    record {
+      sizes = (c.requires.sizes.0, c.corner_at-c.ensures.1, omega arith);
+      xs_len = (c.loop-turn.invariant.0, c.loop-turn.invariant.1);
+    }
 
 pub loop-turn-preserved : goal.loop-turn-preserved
 loop-turn-preserved c =
@@ -80,7 +83,8 @@ returns c =
     subst (λ (k : ℕ). Filled a.m a.n (cell_coefficient a.m a.n a.l a.records.now) k w.out) e w.invariant.2
 
 pub corner_at-c-requires : goal.corner_at-c-requires
-corner_at-c-requires c = let st = c in let ok = st.requires.sizes.0 in let k = st.requires.sizes.2 in (ok.axes-low, ok.axes-high, omega arith)
+corner_at-c-requires c = let st = c in let ok = st.requires.sizes.0 in let k = st.requires.sizes.2 in
+    (ok.axes-low, ok.axes-high, omega arith)
 
 pub corner_start-start-requires : goal.corner_start-start-requires
 corner_start-start-requires c = (corner-low c.requires.sizes.0 _ c.corner_at-c.ensures.1, c.requires.sizes.1.small)
@@ -96,7 +100,8 @@ store-requires c =
 
 pub overflow_add-turn : goal.overflow_add-turn
 overflow_add-turn c =
-    let h = corner-low c.requires.sizes.0 c.loop-turn.turn (turn_low c.args.n c.args.k c.requires.sizes.2 c.loop-turn.turn c.loop-turn-test.true) in
+    let h = corner-low c.requires.sizes.0 c.loop-turn.turn (turn_low c.args.n c.args.k c.requires.sizes.2 c.loop-turn.turn
+    c.loop-turn-test.true) in
     omega arith
 
 pub loop-turn-smaller : goal.loop-turn-smaller

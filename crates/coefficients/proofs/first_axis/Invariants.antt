@@ -11,7 +11,8 @@ use Rattle.coefficients.proofs.first_axis.Given as goal
 
 abbrev pub invariant-loop-g : goal.invariant-loop-g
 invariant-loop-g l =
-    (l.g ≤ l.r) × RowOf l.m l.g l.o × (length l.zs ≡ 27) × Rows l.m l.r (λ k j. end_rule false l.m (λ t. signed_record l.m l.c l.start l.records (l.m * j + t)) k) l.g l.zs
+    (l.g ≤ l.r) × RowOf l.m l.g l.o × (length l.zs ≡ 27) × Rows l.m l.r
+    (λ k j. end_rule false l.m (λ t. signed_record l.m l.c l.start l.records (l.m * j + t)) k) l.g l.zs
     × AllWithin (2 ^ 31) (l.m * l.g) (signed_record l.m l.c l.start l.records)
 
 abbrev pub decreases-loop-g : goal.decreases-loop-g

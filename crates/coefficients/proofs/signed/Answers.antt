@@ -85,7 +85,11 @@ sign_row-requires c =
     let j = i d in
     let ok = (s j).requires.0 in
     let h = room j in
-    let e = entries-low ok in record { le_m = (ok.orders-low, ok.orders-high, row_low d, both-low d); m_bound = (omega arith, λ o l. (s j).requires.2 ((s j).args.m * j.loop-g.g + o) (omega arith)) }
+    let e = entries-low ok in record {
+      le_m = (ok.orders-low, ok.orders-high, row_low d, both-low d);
+      m_bound =
+          (omega arith, λ o l. (s j).requires.2 ((s j).args.m * j.loop-g.g + o) (omega arith));
+    }
 
 pub next_row-o-requires : goal.next_row-o-requires
 next_row-o-requires c =
@@ -138,7 +142,8 @@ pub overflow_mul-m : goal.overflow_mul-m
 overflow_mul-m c = let h = room (i c) in let e = entries-low (s (i c)).requires.0 in omega arith
 
 pub overflow_add-g : goal.overflow_add-g
-overflow_add-g c = let j = i c.before.before.before in let h = room j in let p = (s j).requires.0.orders-low in let e = entries-low (s j).requires.0 in
+overflow_add-g c = let j = i c.before.before.before in let h = room j in let p = (s j).requires.0.orders-low in let e = entries-low
+    (s j).requires.0 in
     omega arith
 
 pub loop-g-smaller : goal.loop-g-smaller

@@ -100,7 +100,15 @@ pub solve_axis-requires-2 : goal.solve_axis-requires-2
 solve_axis-requires-2 c = let s = c.before.before in record { le_m = sizes s; all_within = (start-low s, s.requires.xs_len.1) }
 
 pub solve_axis-requires-3 : goal.solve_axis-requires-3
-solve_axis-requires-3 c = let w = c.before.before in record { le_m = sizes (T w); all_within = (low (T w) 1 (lit≤ tt) (one w) (one-is w), (T w).requires.xs_len.0) }
+solve_axis-requires-3 c = let w = c.before.before in record {
+  le_m = sizes (T w);
+  all_within =
+      (low (T w) 1 (lit≤ tt) (one w) (one-is w), (T w).requires.xs_len.0);
+}
 
 pub solve_axis-requires-4 : goal.solve_axis-requires-4
-solve_axis-requires-4 c = let v = c.before in let w = W v in record { le_m = sizes (T w); all_within = (low (T w) 2 (lit≤ tt) (two v) (two_is v), (one-is w).long) }
+solve_axis-requires-4 c = let v = c.before in let w = W v in record {
+  le_m = sizes (T w);
+  all_within =
+      (low (T w) 2 (lit≤ tt) (two v) (two_is v), (one-is w).long);
+}

@@ -39,13 +39,15 @@ three s left = let low = s.requires.0.orders-low in let high = s.requires.0.orde
 pub returns-then-m-eq2 : goal.returns-then-m-eq2
 returns-then-m-eq2 c =
     let s = c.before.before.before in
-    let e : 2 ≡ s.args.m = (let h = c.if-m-eq2.true in omega arith) in let both = gives s 2 e _ (c.first_axis.ensures.starts_with, c.first_axis.ensures.all_within) in
+    let e : 2 ≡ s.args.m = (let h = c.if-m-eq2.true in omega arith) in let both = gives s 2 e _
+    (c.first_axis.ensures.starts_with, c.first_axis.ensures.all_within) in
     record { starts_with = both.0; all_within = both.1 }
 
 pub returns : goal.returns
 returns c =
     let s = c.before.before.before in
-    let e : 3 ≡ s.args.m = (let h = three s c.if-m-eq2.false in omega arith) in let both = gives s 3 e _ (c.first_axis-2.ensures.starts_with, c.first_axis-2.ensures.all_within) in
+    let e : 3 ≡ s.args.m = (let h = three s c.if-m-eq2.false in omega arith) in let both = gives s 3 e _
+    (c.first_axis-2.ensures.starts_with, c.first_axis-2.ensures.all_within) in
     record { starts_with = both.0; all_within = both.1 }
 
 pub first_axis-requires : goal.first_axis-requires

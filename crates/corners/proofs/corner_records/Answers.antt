@@ -81,7 +81,8 @@ signed-requires c = (
 
 pub store-one-requires : goal.store-one-requires
 store-one-requires c =
-    let b : Block c.args.m c.args.n c.args.r c.args.cs.now c.loop-c.c c.entry_limits-limits.result c.gather.new.xs c.solve_back.new.zs c.signed.new.zs =
+    let b : Block c.args.m c.args.n c.args.r c.args.cs.now c.loop-c.c c.entry_limits-limits.result c.gather.new.xs c.solve_back.new.zs
+    c.signed.new.zs =
     record {
       sizes = c.requires.0;
       table = c.entry_limits-limits.ensures;
@@ -101,7 +102,8 @@ store-one-requires c =
 
 pub returns-in-Refused : goal.returns-in-Refused
 returns-in-Refused c =
-    let b : Block c.args.m c.args.n c.args.r c.args.cs.now c.loop-c.c c.entry_limits-limits.result c.gather.new.xs c.solve_back.new.zs c.signed.new.zs =
+    let b : Block c.args.m c.args.n c.args.r c.args.cs.now c.loop-c.c c.entry_limits-limits.result c.gather.new.xs c.solve_back.new.zs
+    c.signed.new.zs =
     record {
       sizes = c.requires.0;
       table = c.entry_limits-limits.ensures;
@@ -120,7 +122,8 @@ returns-in-Refused c =
 
 pub loop-c-preserved : goal.loop-c-preserved
 loop-c-preserved c =
-    let b : Block c.args.m c.args.n c.args.r c.args.cs.now c.loop-c.c c.entry_limits-limits.result c.gather.new.xs c.solve_back.new.zs c.signed.new.zs =
+    let b : Block c.args.m c.args.n c.args.r c.args.cs.now c.loop-c.c c.entry_limits-limits.result c.gather.new.xs c.solve_back.new.zs
+    c.signed.new.zs =
     record {
       sizes = c.requires.0;
       table = c.entry_limits-limits.ensures;
@@ -149,7 +152,10 @@ returns c =
     let st = c in
     let a = st.args in
     let l = c.loop-c in
-    let e : l.c ≡ 2 ^ a.n = (let h = c.power-corners.ensures in omega arith) in record { result_value = sym (rows a.m a.n a.cs.now ∙ subst (λ (k : ℕ). first_of k (row a.m a.n a.cs.now) ≡ done tt) e l.invariant.3); i_after = (λ h j q. l.invariant.4 j (subst (λ (k : ℕ). j < a.m ^ a.n * k) (sym e) (subst (λ (k : ℕ). j < k) (count-is a.m a.n) q))) }
+    let e : l.c ≡ 2 ^ a.n = (let h = c.power-corners.ensures in omega arith) in record {
+      result_value = sym (rows a.m a.n a.cs.now ∙ subst (λ (k : ℕ). first_of k (row a.m a.n a.cs.now) ≡ done tt) e l.invariant.3);
+      i_after = (λ h j q. l.invariant.4 j (subst (λ (k : ℕ). j < a.m ^ a.n * k) (sym e) (subst (λ (k : ℕ). j < k) (count-is a.m a.n) q)));
+    }
 
 pub entry_limits-limits-requires : goal.entry_limits-limits-requires
 entry_limits-limits-requires c = (c.requires.0.orders-low, c.requires.0.orders-high)
@@ -170,7 +176,8 @@ overflow_mul-m c = let h = size_low c.requires.0 in omega arith
 
 pub overflow_add-c : goal.overflow_add-c
 overflow_add-c c =
-    let h = corner-low c.requires.0 c.loop-c.c (corner c.args.n c.loop-c.c c.power-corners.result c.power-corners.ensures c.loop-c-test.true) in
+    let h = corner-low c.requires.0 c.loop-c.c (corner c.args.n c.loop-c.c c.power-corners.result c.power-corners.ensures
+    c.loop-c-test.true) in
     omega arith
 
 pub loop-c-smaller : goal.loop-c-smaller

@@ -82,7 +82,8 @@ pub overflow_mul-m : goal.overflow_mul-m
 overflow_mul-m c = let h = room c in let e = entries-low (s c).requires.0 in omega arith
 
 pub overflow_add-g : goal.overflow_add-g
-overflow_add-g c = let i = c.before.before.before in let h = room i in let p = (s i).requires.0.orders-low in let e = entries-low (s i).requires.0 in
+overflow_add-g c = let i = c.before.before.before in let h = room i in let p = (s i).requires.0.orders-low in let e = entries-low
+    (s i).requires.0 in
     omega arith
 
 pub loop-g-smaller : goal.loop-g-smaller

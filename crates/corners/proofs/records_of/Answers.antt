@@ -40,7 +40,8 @@ corner_records-requires c = asked c.before.before.before 2 (omega arith) c.power
 
 pub returns-then-m-eq2 : goal.returns-then-m-eq2
 returns-then-m-eq2 c =
-    let g = c.corner_records in let both = gives c.before.before.before.before 2 (omega arith) _ g.new.out (g.ensures.result_value, g.ensures.i_after) in
+    let g = c.corner_records in let both = gives c.before.before.before.before 2 (omega arith) _ g.new.out
+    (g.ensures.result_value, g.ensures.i_after) in
     record { result_value = both.0; i_after = both.1 }
 
 pub corner_records-requires-2 : goal.corner_records-requires-2
@@ -48,5 +49,6 @@ corner_records-requires-2 c = asked c.before.before.before 3 (omega arith) c.pow
 
 pub returns : goal.returns
 returns c =
-    let g = c.corner_records-2 in let both = gives c.before.before.before.before 3 (omega arith) _ g.new.out (g.ensures.result_value, g.ensures.i_after) in
+    let g = c.corner_records-2 in let both = gives c.before.before.before.before 3 (omega arith) _ g.new.out
+    (g.ensures.result_value, g.ensures.i_after) in
     record { result_value = both.0; i_after = both.1 }

@@ -114,7 +114,11 @@ returns-else-whole_within c =
     ∙ sym (first_of-stops s.args.size (k (a w)) (block_test (n w) s.args.limits.now (at s.args.zs.now)) 13 0
     (i (a w)).loop-k-test.true (i (a w)).loop-k.invariant.1
     (ap (λ (b : Bool). refuse_unless b 13 0) (sym (test-is w) ∙ c.if-whole_within.false))) in
-    record { result_value = stop; out_after = (λ e. absurd (done_refused (outcome_of c.refuse_unless.result) 13 0 e c.refuse_unless.ensures)) }
+    record {
+      result_value = stop;
+      out_after = (λ e. absurd (done_refused (outcome_of c.refuse_unless.result) 13 0 e
+          c.refuse_unless.ensures));
+    }
 
 pub loop-k-preserved : goal.loop-k-preserved
 loop-k-preserved c =
@@ -134,13 +138,15 @@ returns c =
     let s = c in
     let l = c.loop-k in
     let e : l.k ≡ s.args.size = omega arith in record {
-      result_value = sym (subst (λ (k : ℕ). first_of k (block_test s.args.n s.args.limits.now (at s.args.zs.now)) ≡ done tt) e l.invariant.1);
+      result_value = sym (subst (λ (k : ℕ). first_of k (block_test s.args.n s.args.limits.now (at s.args.zs.now)) ≡ done tt) e
+          l.invariant.1);
       out_after = (λ h. subst (λ (k : ℕ). l.out ≡ scatter k (λ j. s.args.size * s.args.c + j)
           (λ j. floor_div (at s.args.zs.now j) (2 ^ s.args.n)) s.args.out.now) e l.invariant.2);
     }
 
 pub overflow_mul-first : goal.overflow_mul-first
-overflow_mul-first c = let h = mul-le-mul {n₁ = c.args.size} {m₁ = c.args.c} {n₂ = 27} {m₂ = 8} c.requires.1 (let l = c.requires.2 in omega arith) in
+overflow_mul-first c = let h = mul-le-mul {n₁ = c.args.size} {m₁ = c.args.c} {n₂ = 27} {m₂ = 8} c.requires.1
+    (let l = c.requires.2 in omega arith) in
     omega arith
 
 pub offset_bounds-zs-k : goal.offset_bounds-zs-k

@@ -32,7 +32,11 @@ loop-i-preserved c =
     let i = c.loop-i.i in
     let is = c.magnitude.ensures ∙ ap nat_abs (widened (at xs i) c.x-1.given) in (
       omega arith,
-      elim c.if-limit-magnitude.branch [ then-limit-magnitude w ↦ off w.within-is | else-limit-magnitude w ↦ λ h. more xs c.args.limit i (c.loop-i.invariant.1 (sym w.within-is ∙ h)) (omega (arith, w.if-limit-magnitude.false, is)) ],
+      elim c.if-limit-magnitude.branch [
+        | then-limit-magnitude w ↦ off w.within-is
+        | else-limit-magnitude w ↦ λ h. more xs c.args.limit i
+            (c.loop-i.invariant.1 (sym w.within-is ∙ h)) (omega (arith, w.if-limit-magnitude.false, is))
+      ],
     )
 
 pub returns : goal.returns

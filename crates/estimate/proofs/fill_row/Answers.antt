@@ -154,13 +154,21 @@ overflow_add-q c = omega (arith, entries c.requires.rows.0, c.requires.rows.1, c
 
 pub pass-requires : goal.pass-requires
 pass-requires c = let s = c.before in let ok = s.requires.rows.0 in let r = read ok s.requires.read in
-    record { order_count = (ok.orders, omega (arith, entries ok, s.requires.rows.1)); read = (r _ _ (omega arith), r _ _ (omega arith), r _ _ (omega arith)) }
+    record {
+      order_count = (ok.orders, omega (arith, entries ok, s.requires.rows.1));
+      read =
+          (r _ _ (omega arith), r _ _ (omega arith), r _ _ (omega arith));
+    }
 
 pub overflow_mul-size : goal.overflow_mul-size
 overflow_mul-size c = let s = begun c in omega (arith, s.requires.rows.0.size-high)
 
 pub pass-requires-2 : goal.pass-requires-2
-pass-requires-2 c = let s = begun c.before in let ok = s.requires.rows.0 in let r = read ok s.requires.read in record { order_count = (ok.orders, omega (arith, entries ok, s.requires.rows.1, c.pass.auto)); read = (r _ _ (omega arith), r _ _ (omega arith), r _ _ (omega arith)) }
+pass-requires-2 c = let s = begun c.before in let ok = s.requires.rows.0 in let r = read ok s.requires.read in record {
+  order_count = (ok.orders, omega (arith, entries ok, s.requires.rows.1, c.pass.auto));
+  read =
+      (r _ _ (omega arith), r _ _ (omega arith), r _ _ (omega arith));
+}
 
 pub pass-requires-3 : goal.pass-requires-3
 pass-requires-3 c = let s = begun c.before.before.before.before in let ok = s.requires.rows.0 in let r = read ok s.requires.read in record {

@@ -33,7 +33,8 @@ pub inner_pass-requires : goal.inner_pass-requires
 inner_pass-requires c = let s = c.before.before.before in record { order_count = room s c.if-m-eq2.true; read = s.requires.read }
 
 pub inner_pass-requires-then-m-eq3 : goal.inner_pass-requires-then-m-eq3
-inner_pass-requires-then-m-eq3 c = let s = c.before.before.before.before in record { order_count = room s c.if-m-eq3.true; read = s.requires.read }
+inner_pass-requires-then-m-eq3 c = let s = c.before.before.before.before in record
+    { order_count = room s c.if-m-eq3.true; read = s.requires.read }
 
 pub inner_pass-requires-else-m-eq3 : goal.inner_pass-requires-else-m-eq3
 inner_pass-requires-else-m-eq3 c = let s = c.before.before.before.before in

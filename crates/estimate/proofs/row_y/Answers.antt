@@ -27,7 +27,11 @@ in-samples c =
 pub pass-requires : goal.pass-requires
 pass-requires c =
     let r = c.before.before in
-    let s = r.before.before.before.before.before in record { order_count = (s.requires.0.grid.my, omega (arith, s.requires.4)); read = rw (← numbers s.args.g s.requires.2) (reads s.requires.0 (in-samples r)) }
+    let s = r.before.before.before.before.before in record {
+      order_count = (s.requires.0.grid.my, omega (arith, s.requires.4));
+      read = rw
+          (← numbers s.args.g s.requires.2) (reads s.requires.0 (in-samples r));
+    }
 
 pub returns : goal.returns
 returns c =
@@ -50,4 +54,8 @@ pub row_start-mid-requires : goal.row_start-mid-requires
 row_start-mid-requires c = let s = c.before.before in (s.requires.0.grid, s.requires.1, (let h = s.requires.3 in omega arith))
 
 pub row_start-high-requires : goal.row_start-high-requires
-row_start-high-requires c = let s = c.before.before.before.before in (s.requires.0.grid, c.node_behind.ensures.1, (let h = s.requires.3 in omega arith))
+row_start-high-requires c = let s = c.before.before.before.before in (
+  s.requires.0.grid,
+  c.node_behind.ensures.1,
+  (let h = s.requires.3 in omega arith),
+)

@@ -57,7 +57,8 @@ end_in-high-requires c =
 pub stage-requires : goal.stage-requires
 unfolding after
 stage-requires c =
-    let s = start c.before in let both = stage-asks s.requires.prepared.0 (ends c.before) s.args.k s.requires.prepared.1 s.requires.safe.1 in
+    let s = start c.before in let both = stage-asks s.requires.prepared.0 (ends c.before) s.args.k s.requires.prepared.1 s.requires.safe.1
+    in
     record { k_bound = both.0; low_value = both.1 }
 
 pub returns : goal.returns

@@ -63,7 +63,11 @@ returns-then-m-eq2 c =
     let u = d.first-a in
     let v = d.first-b in
     let a = reads s s.args.p u.result u.ensures c.struct_told-1.given.0.1 in
-    let b = reads s (s.args.p + s.args.order) v.result v.ensures c.struct_told-then-m-eq2-1.given.0.1 in record { end = end-of-two s.args.m (number s) s.args.p s.args.order _ _ a.0 b.0 d.if-m-eq2.true; rest_value = rest-of-two s.args.m (keeps s) s.args.p s.args.order u.result.rest v.result.rest a.1 b.1 d.if-m-eq2.true }
+    let b = reads s (s.args.p + s.args.order) v.result v.ensures c.struct_told-then-m-eq2-1.given.0.1 in record {
+      end = end-of-two s.args.m (number s) s.args.p s.args.order _ _ a.0 b.0 d.if-m-eq2.true;
+      rest_value = rest-of-two s.args.m
+          (keeps s) s.args.p s.args.order u.result.rest v.result.rest a.1 b.1 d.if-m-eq2.true;
+    }
 
 pub returns : goal.returns
 returns c =

@@ -52,7 +52,8 @@ three s n = let h = s.requires.all_prepared.0 in omega (arith, h.m-low, h.m-high
 pub second-requires : goal.second-requires
 second-requires c =
     let d = c in
-    let s = d.before.before.before in let both = asks s 2 d.if-m-eq2.true false (not-true _ d.if-not-even.true-raw) c.shift.result c.shift.ensures in
+    let s = d.before.before.before in let both = asks s 2 d.if-m-eq2.true false (not-true _ d.if-not-even.true-raw) c.shift.result
+    c.shift.ensures in
     record { all_prepared = both.0; safe = both.1 }
 
 pub returns-then-m-eq2 : goal.returns-then-m-eq2
@@ -64,7 +65,8 @@ returns-then-m-eq2 c = let d = c in
 pub second-requires-then-not-even : goal.second-requires-then-not-even
 second-requires-then-not-even c =
     let d = c in
-    let s = d.before.before.before in let both = asks s 3 (three s d.if-m-eq2.false) false (not-true _ d.if-not-even.true-raw) c.shift-then-not-even.result c.shift-then-not-even.ensures in
+    let s = d.before.before.before in let both = asks s 3 (three s d.if-m-eq2.false) false (not-true _ d.if-not-even.true-raw)
+    c.shift-then-not-even.result c.shift-then-not-even.ensures in
     record { all_prepared = both.0; safe = both.1 }
 
 pub returns-then-not-even : goal.returns-then-not-even
@@ -76,7 +78,8 @@ returns-then-not-even c = let d = c in
 pub second-requires-then-m-eq2-2 : goal.second-requires-then-m-eq2-2
 second-requires-then-m-eq2-2 c =
     let d = c in
-    let s = d.before.before.before in let both = asks s 2 d.if-m-eq2-2.true true (not-false _ d.if-not-even.false-raw) c.shift-then-m-eq2-2.result c.shift-then-m-eq2-2.ensures in
+    let s = d.before.before.before in let both = asks s 2 d.if-m-eq2-2.true true (not-false _ d.if-not-even.false-raw)
+    c.shift-then-m-eq2-2.result c.shift-then-m-eq2-2.ensures in
     record { all_prepared = both.0; safe = both.1 }
 
 pub returns-then-m-eq2-2 : goal.returns-then-m-eq2-2
@@ -88,7 +91,8 @@ returns-then-m-eq2-2 c = let d = c in
 pub second-requires-2 : goal.second-requires-2
 second-requires-2 c =
     let d = c in
-    let s = d.before.before.before in let both = asks s 3 (three s d.if-m-eq2-2.false) true (not-false _ d.if-not-even.false-raw) c.shift-2.result c.shift-2.ensures in
+    let s = d.before.before.before in let both = asks s 3 (three s d.if-m-eq2-2.false) true (not-false _ d.if-not-even.false-raw)
+    c.shift-2.result c.shift-2.ensures in
     record { all_prepared = both.0; safe = both.1 }
 
 pub returns : goal.returns

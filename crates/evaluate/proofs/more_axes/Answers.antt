@@ -15,7 +15,8 @@ low s = let a = s.args in steps_of a.a a.b a.c a.three s.requires.steps-in
 pub both_stages-requires : goal.both_stages-requires
 both_stages-requires c =
     let d = c in
-    let s = d in let both = two-ask s.args.b d.axis_of-x.ensures d.last_stage-z.ensures s.args.three (not-true _ c.if-not-three.true-raw) s.requires in
+    let s = d in let both = two-ask s.args.b d.axis_of-x.ensures d.last_stage-z.ensures s.args.three (not-true _ c.if-not-three.true-raw)
+    s.requires in
     record { all_prepared = both.0; safe = both.1 }
 
 pub returns-then-not-three : goal.returns-then-not-three

@@ -79,7 +79,8 @@ module _ (c : After-in_sequence-sequence) where
       c.in_sequence-sequence.result.first c.in_sequence-sequence.ensures.0
 
   is-middle : Is (beside 2 last) c.in_sequence-sequence.result.middle
-  is-middle = named (beside 2 f.last_axis-last.result) (beside 2 last) (ap (beside 2) f.last_axis-last.ensures) (beside-low 2 last (lit< tt))
+  is-middle = named (beside 2 f.last_axis-last.result) (beside 2 last) (ap (beside 2) f.last_axis-last.ensures)
+      (beside-low 2 last (lit< tt))
       c.in_sequence-sequence.result.middle c.in_sequence-sequence.ensures.1
 
   is_last : Is last c.in_sequence-sequence.result.last
@@ -187,4 +188,5 @@ pub more_axes-r-requires : goal.more_axes-r-requires
 more_axes-r-requires c = asks c.before.before.before.before
 
 pub overflow_cast-result : goal.overflow_cast-result
-overflow_cast-result c = fits_in c.before.before.before.before.before.before.before.before c.more_axes-r.result c.type_inv.r.0.1 c.more_axes-r.ensures
+overflow_cast-result c = fits_in c.before.before.before.before.before.before.before.before c.more_axes-r.result c.type_inv.r.0.1
+    c.more_axes-r.ensures

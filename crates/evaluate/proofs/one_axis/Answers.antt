@@ -4,7 +4,11 @@ use Rattle.evaluate.proofs.StageOrder.{made-prepared, made-small}
 use Rattle.evaluate.proofs.one_axis.Goals as goal
 
 pub first-requires : goal.first-requires
-first-requires c = let e = c.axis_of-x.ensures in record { prepared = (made-prepared e, made-small e); safe = c.requires.safe c.axis_of-x.result [] e tt }
+first-requires c = let e = c.axis_of-x.ensures in record {
+  prepared = (made-prepared e, made-small e);
+  safe = c.requires.safe
+      c.axis_of-x.result [] e tt;
+}
 
 pub returns : goal.returns
 returns c =

@@ -60,14 +60,16 @@ one_axis-requires-then-order-eq0-2 c = asks c.before.before 3 0 (three c.before)
 
 pub returns-then-order-eq0-2 : goal.returns-then-order-eq0-2
 returns-then-order-eq0-2 c = let d = c in
-    gives d.before.before.before 3 0 (three d.before.before) d.if-order-eq0-2.true c.one_axis-then-order-eq0-2.result c.one_axis-then-order-eq0-2.ensures
+    gives d.before.before.before 3 0 (three d.before.before) d.if-order-eq0-2.true c.one_axis-then-order-eq0-2.result
+    c.one_axis-then-order-eq0-2.ensures
 
 pub one_axis-requires-then-order-eq2 : goal.one_axis-requires-then-order-eq2
 one_axis-requires-then-order-eq2 c = asks c.before.before.before 3 2 (three c.before.before) c.if-order-eq2.true
 
 pub returns-then-order-eq2 : goal.returns-then-order-eq2
 returns-then-order-eq2 c = let d = c in
-    gives d.before.before.before.before 3 2 (three d.before.before.before) d.if-order-eq2.true c.one_axis-then-order-eq2.result c.one_axis-then-order-eq2.ensures
+    gives d.before.before.before.before 3 2 (three d.before.before.before) d.if-order-eq2.true c.one_axis-then-order-eq2.result
+    c.one_axis-then-order-eq2.ensures
 
 pub one_axis-requires-2 : goal.one_axis-requires-2
 one_axis-requires-2 c = asks c.before.before.before 3 1 (three c.before.before) (slope c)

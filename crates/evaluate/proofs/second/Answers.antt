@@ -51,7 +51,8 @@ module _ (c : After-first_ends-ends) where
 
 pub stage-requires : goal.stage-requires
 stage-requires c =
-    let s = start c.before in let both = stage-asks s.requires.all_prepared.0.0 (ends c.before) s.args.k s.requires.all_prepared.1 s.requires.safe.1 in
+    let s = start c.before in let both = stage-asks s.requires.all_prepared.0.0 (ends c.before) s.args.k s.requires.all_prepared.1
+    s.requires.safe.1 in
     record { k_bound = both.0; low_value = both.1 }
 
 pub returns : goal.returns

@@ -124,8 +124,10 @@ loop-t-preserved c =
       omega (arith, d.loop-t-test.true),
       simp length-set i.invariant.1,
       fill i.n i.t (λ j. number s (s.args.p + place s j)) (to_z w64 (of_z w64 f.first_stages-r.result.number))
-          (let e = i.invariant.1 in let h = few d in omega arith) i.invariant.2 (number-here c.before.before.before f.first_stages-r.result c.struct_told-1.given.0.1 f.first_stages-r.ensures),
-      or-none f.first_stages-r.result.rest i.rest ∙ ap₂ ◌&&◌ (rest-here c.before.before.before f.first_stages-r.result c.struct_told-1.given.0.1 f.first_stages-r.ensures) i.invariant.3
+          (let e = i.invariant.1 in let h = few d in omega arith) i.invariant.2
+          (number-here c.before.before.before f.first_stages-r.result c.struct_told-1.given.0.1 f.first_stages-r.ensures),
+      or-none f.first_stages-r.result.rest i.rest ∙ ap₂ ◌&&◌ (rest-here c.before.before.before f.first_stages-r.result
+          c.struct_told-1.given.0.1 f.first_stages-r.ensures) i.invariant.3
           ∙ ap (λ (n : ℕ). all n keep) {x = suc i.t} {y = i.t + 1} (omega arith),
     )
 

@@ -15,7 +15,8 @@ abbrev pub invariant-loop-t : goal.invariant-loop-t
 invariant-loop-t l =
     (l.t ≤ 2 * l.m) × (length l.n ≡ 6)
     × ((j : ℕ) → j < l.t → at l.n j ≡ after (rounding_of l.even) l.m (l.y ∷ l.x ∷ []) (at l.records) (l.p + place_of l.m l.order l.node j))
-    × (eqb l.rest 0 ≡ all l.t (λ j. clean_after (rounding_of l.even) l.m (l.y ∷ l.x ∷ []) (at l.records) (l.p + place_of l.m l.order l.node j)))
+    × (eqb l.rest 0 ≡ all l.t (λ j. clean_after (rounding_of l.even) l.m (l.y ∷ l.x ∷ []) (at l.records)
+    (l.p + place_of l.m l.order l.node j)))
 
 abbrev pub decreases-loop-t : goal.decreases-loop-t
 decreases-loop-t l = 2 * l.m - l.t

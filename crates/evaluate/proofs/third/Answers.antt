@@ -9,7 +9,8 @@ use Rattle.evaluate.proofs.third.Goals as goal
 
 pub stage-requires : goal.stage-requires
 stage-requires c =
-    let s = c in let both = stage-asks s.requires.all_prepared.0.0 c.second_ends-ends.ensures.are_ends s.args.z.shift s.requires.all_prepared.1 s.requires.safe.1 in
+    let s = c in let both = stage-asks s.requires.all_prepared.0.0 c.second_ends-ends.ensures.are_ends s.args.z.shift
+    s.requires.all_prepared.1 s.requires.safe.1 in
     record { k_bound = both.0; low_value = both.1 }
 
 pub returns : goal.returns

@@ -1,4 +1,5 @@
--- `hermite::basis_at` meets its contract: the low end's part, the high end's from the same with the distances exchanged, and its value's from
+-- `hermite::basis_at` meets its contract: the low end's part, the high end's from the same with the distances exchanged, and its value's
+-- from
 -- both values.
 use lib.Dec.{lit<}
 use native.Mathlib.Nat.{le_trans, le_of_eq, lt_of_le_of_lt}

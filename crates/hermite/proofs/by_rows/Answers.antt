@@ -10,7 +10,11 @@ apart : ◌≡◌ {A = ℕ} 3 2 → ⊥
 apart e = omega arith
 
 pub dot-first-requires : goal.dot-first-requires
-dot-first-requires c = (row-load (at c.args.a) (at c.args.x) (λ o l. (c.requires.by_index o l).0) c.requires.by_index_2, λ e. absurd (apart e))
+dot-first-requires c = (
+  row-load (at c.args.a) (at c.args.x) (λ o l. (c.requires.by_index o l).0) c.requires.by_index_2,
+  λ e. absurd
+      (apart e),
+)
 
 pub dot-second-requires : goal.dot-second-requires
 dot-second-requires c = let s = c.before in

@@ -11,7 +11,15 @@ loop-i-preserved c =
     let l = d.before.before in
     let text = l.args.text.now in (
       omega arith,
-      elim c.if-starts_token.branch [ then-starts_token w ↦ omega (arith, before-start text l.loop-i.i (sym d.starts_token.ensures ∙ w.if-starts_token.true)) | else-starts_token w ↦ omega (arith, before-other text l.loop-i.i (sym d.starts_token.ensures ∙ w.if-starts_token.false)) ],
+      elim c.if-starts_token.branch [
+        | then-starts_token w ↦ omega (
+          arith,
+          before-start text l.loop-i.i
+              (sym d.starts_token.ensures ∙ w.if-starts_token.true),
+        )
+        | else-starts_token w ↦ omega
+            (arith, before-other text l.loop-i.i (sym d.starts_token.ensures ∙ w.if-starts_token.false))
+      ],
     )
 
 pub overflow_add-count : goal.overflow_add-count

@@ -17,6 +17,7 @@ returns c =
     let s = c.skipped-fraction.ensures in
     c.fits_exp.ensures ∙ ap fits_exp (c.after_digits.ensures ∙ ap after_digits s)
     ∙ sym (elim c.if-leads_with.branch [
-      | then-leads_with+else-digits_of-eq0 w ↦ frac-present _ (ap none (sym (w.digits_of.ensures ∙ ap digits s)) ∙ ne_eqb _ _ w.if-digits_of-eq0.false)
+      | then-leads_with+else-digits_of-eq0 w ↦ frac-present _ (ap none (sym (w.digits_of.ensures ∙ ap digits s)) ∙ ne_eqb _ _
+          w.if-digits_of-eq0.false)
       | else-leads_with w ↦ frac-absent _ (sym c.leads_with.ensures ∙ w.if-leads_with.false)
     ])

@@ -16,7 +16,12 @@ use Rattle.import.proofs.measure.Goals as goal
 pub digits_kept-requires : goal.digits_kept-requires
 digits_kept-requires c =
     let t = c.args.token.now in
-    omega (arith, ap length (c.digits_of-whole.ensures ∙ ap digits c.skipped-number.ensures), (leading-front is_digit (skip 45 45 t)).0, skip-short 45 45 t)
+    omega (
+      arith,
+      ap length (c.digits_of-whole.ensures ∙ ap digits c.skipped-number.ensures),
+      (leading-front is_digit (skip 45 45 t)).0,
+      skip-short 45 45 t,
+    )
 
 pub returns : goal.returns
 returns c =

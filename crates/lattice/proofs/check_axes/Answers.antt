@@ -8,4 +8,8 @@ use Rattle.lattice.proofs.check_axes.Goals.{else-n-ge1, then-n-ge1}
 pub returns : goal.returns
 unfolding axes_outcome
 returns c = c.refuse_unless.ensures
-    ∙ elim c.if-n-ge1.branch [ then-n-ge1 w ↦ simp (w.refuse_unless-is, le-leb _ _ w.if-n-ge1.true) | else-n-ge1 w ↦ simp (w.refuse_unless-is, lt-leb _ _ w.if-n-ge1.false) ]
+    ∙ elim c.if-n-ge1.branch [
+      | then-n-ge1 w ↦ simp (w.refuse_unless-is, le-leb _ _ w.if-n-ge1.true)
+      | else-n-ge1 w ↦ simp
+          (w.refuse_unless-is, lt-leb _ _ w.if-n-ge1.false)
+    ]

@@ -8,4 +8,8 @@ use Rattle.lattice.proofs.check_degree.Goals.{else-degree-eq3, then-degree-eq3}
 pub returns : goal.returns
 unfolding degree_outcome
 returns c = c.refuse_unless.ensures
-    ∙ elim c.if-degree-eq3.branch [ then-degree-eq3 w ↦ simp (w.refuse_unless-is, eq-eqb _ _ w.if-degree-eq3.true) | else-degree-eq3 w ↦ simp (w.refuse_unless-is, ne_eqb _ _ w.if-degree-eq3.false) ]
+    ∙ elim c.if-degree-eq3.branch [
+      | then-degree-eq3 w ↦ simp (w.refuse_unless-is, eq-eqb _ _ w.if-degree-eq3.true)
+      | else-degree-eq3 w ↦
+          simp (w.refuse_unless-is, ne_eqb _ _ w.if-degree-eq3.false)
+    ]

@@ -8,4 +8,8 @@ use Rattle.lattice.proofs.count_allowed.Goals.{else-count-ge2, then-count-ge2}
 pub returns : goal.returns
 unfolding count_allowed
 returns c = c.by_use.ensures
-    ∙ elim c.if-count-ge2.branch [ then-count-ge2 w ↦ simp (w.by_use-is, le-leb _ _ w.if-count-ge2.true) | else-count-ge2 w ↦ simp (w.by_use-is, lt-leb _ _ w.if-count-ge2.false) ]
+    ∙ elim c.if-count-ge2.branch [
+      | then-count-ge2 w ↦ simp (w.by_use-is, le-leb _ _ w.if-count-ge2.true)
+      | else-count-ge2 w ↦ simp
+          (w.by_use-is, lt-leb _ _ w.if-count-ge2.false)
+    ]

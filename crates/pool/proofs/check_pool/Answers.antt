@@ -18,7 +18,8 @@ returns-in-Refused c =
 pub check_lengths-lengths-requires : goal.check_lengths-lengths-requires
 check_lengths-lengths-requires c =
     let a = c.args in
-    pair-shaped (measured a.a a.xs.now a.v) (measured a.b a.ys.now a.w) a.room (sym c.check_pair-pair.ensures ∙ ap outcome_of c.in_default.is)
+    pair-shaped (measured a.a a.xs.now a.v) (measured a.b a.ys.now a.w) a.room
+    (sym c.check_pair-pair.ensures ∙ ap outcome_of c.in_default.is)
 
 pub returns-in-Refused-lengths : goal.returns-in-Refused-lengths
 returns-in-Refused-lengths c =

@@ -9,4 +9,8 @@ pub returns : goal.returns
 returns c =
     c.refuse_after.ensures
     ∙ ap₂ first c.check_full-shape.ensures
-    (elim c.if-t-eq2.branch [ then-t-eq2 w ↦ simp (w.refuse_after-is, eq-eqb _ _ w.if-t-eq2.true) | else-t-eq2 w ↦ simp (w.refuse_after-is, ne_eqb _ _ w.if-t-eq2.false) ])
+    (elim c.if-t-eq2.branch [
+      | then-t-eq2 w ↦ simp (w.refuse_after-is, eq-eqb _ _ w.if-t-eq2.true)
+      | else-t-eq2 w ↦ simp
+          (w.refuse_after-is, ne_eqb _ _ w.if-t-eq2.false)
+    ])

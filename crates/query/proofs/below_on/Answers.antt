@@ -36,4 +36,5 @@ pub returns-else-axis-eq2 : goal.returns-else-axis-eq2
 returns-else-axis-eq2 c =
     let b = c in
     let a = b.args in
-    ne_eqb a.axis 2 c.if-axis-eq2.false ∙ nowhere a.cell a.step a.axis (omega (arith, b.if-axis-eq0.false, b.if-axis-eq1.false, c.if-axis-eq2.false))
+    ne_eqb a.axis 2 c.if-axis-eq2.false ∙ nowhere a.cell a.step a.axis (omega
+    (arith, b.if-axis-eq0.false, b.if-axis-eq1.false, c.if-axis-eq2.false))

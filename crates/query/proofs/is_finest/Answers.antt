@@ -20,7 +20,8 @@ returns c e h =
     let one = y in
     let t = one.args.t in
     by-3 (λ (a : ℕ). steps_on t a ≡ finest_on t.shape.axes a)
-    (one.if-t-ne256.false ∙ finest-first t.shape.axes h) (two.if-t-finest_on.false ∙ y.finest_on.ensures) (eqb-true _ _ e ∙ c.finest_on-2.ensures)
+    (one.if-t-ne256.false ∙ finest-first t.shape.axes h) (two.if-t-finest_on.false ∙ y.finest_on.ensures)
+    (eqb-true _ _ e ∙ c.finest_on-2.ensures)
 
 pub returns-then-t-ne256 : goal.returns-then-t-ne256
 returns-then-t-ne256 c e = clash (cc)

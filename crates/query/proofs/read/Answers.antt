@@ -119,7 +119,8 @@ read_line-requires c = let d = c.before.before in
 
 pub returns-then-s-eq1 : goal.returns-then-s-eq1
 returns-then-s-eq1 c =
-    let d = c.before.before.before in let both = told (sp d) c.read_line.result (told-by d c.read_line.result (c.read_line.ensures.result_value, c.read_line.ensures.marks)) in
+    let d = c.before.before.before in let both = told (sp d) c.read_line.result
+    (told-by d c.read_line.result (c.read_line.ensures.result_value, c.read_line.ensures.marks)) in
     record { result_value = both.0; result_value_2 = both.1 }
 
 pub slice_bounds-read_lattice-end : goal.slice_bounds-read_lattice-end
@@ -131,5 +132,6 @@ read_lattice-requires c = let d = c.before.before in
 
 pub returns-else-s-eq1 : goal.returns-else-s-eq1
 returns-else-s-eq1 c =
-    let d = c.before.before.before in let both = told (sp d) c.read_lattice.result (told-by d c.read_lattice.result (c.read_lattice.ensures.result_value, c.read_lattice.ensures.marks)) in
+    let d = c.before.before.before in let both = told (sp d) c.read_lattice.result
+    (told-by d c.read_lattice.result (c.read_lattice.ensures.result_value, c.read_lattice.ensures.marks)) in
     record { result_value = both.0; result_value_2 = both.1 }

@@ -20,7 +20,8 @@ layout_of-l-requires c =
 pub lattice_within-requires : goal.lattice_within-requires
 lattice_within-requires c =
     let b = c.before in
-    let a = (reads b).corners-asks c.layout_of-l.result c.layout_of-l.ensures in record { shaped = a.0; accepted = a.1; n_value = (refl, b.requires.le_axes) }
+    let a = (reads b).corners-asks c.layout_of-l.result c.layout_of-l.ensures in record
+    { shaped = a.0; accepted = a.1; n_value = (refl, b.requires.le_axes) }
 
 pub on_lattice-requires : goal.on_lattice-requires
 on_lattice-requires c = let w = c in
@@ -34,19 +35,22 @@ on_lattice-requires c = let w = c in
 pub returns-then-lattice_within : goal.returns-then-lattice_within
 returns-then-lattice_within c =
     let v = c.on_lattice in
-    let w = c in let both = (reads w.before.before.before.before.before).answered w.lattice_within.result w.lattice_within.ensures c.if-lattice_within.true
+    let w = c in let both = (reads w.before.before.before.before.before).answered w.lattice_within.result w.lattice_within.ensures
+    c.if-lattice_within.true
     c.reading_of.result v.result c.reading_of.ensures (v.ensures.number_value, v.ensures.exact_value) in
     record { result_value = both.0; marks = both.1 }
 
 pub beyond-requires : goal.beyond-requires
 beyond-requires c =
     let w = c in
-    let l = w in let both = (reads l.before.before.before).beyond-asks l.layout_of-l.result l.layout_of-l.ensures w.lattice_within.result w.lattice_within.ensures
+    let l = w in let both = (reads l.before.before.before).beyond-asks l.layout_of-l.result l.layout_of-l.ensures w.lattice_within.result
+    w.lattice_within.ensures
     c.if-lattice_within.false in
     record { shaped = both.0; accepted = both.1.0; cell_value = both.1.1 }
 
 pub returns : goal.returns
 returns c =
-    let w = c in let both = (reads w.before.before.before.before).stopped w.lattice_within.result w.lattice_within.ensures c.if-lattice_within.false c.beyond.result
+    let w = c in let both = (reads w.before.before.before.before).stopped w.lattice_within.result w.lattice_within.ensures
+    c.if-lattice_within.false c.beyond.result
     c.beyond.ensures in
     record { result_value = both.0; marks = both.1 }

@@ -74,7 +74,8 @@ returns-in-Refused c =
     let same = told a.s a.even rs ps ok w.i spot st _ (c.check_spot-tested.ensures a.even) in
     let stopped = own-stops a.s a.even rs ps ok w.i (sym same ∙ ap outcome_of c.in-Refused.is) in
     record {
-      result_value = c.refused_at.ensures ∙ stops a.s a.even rs ps w.i w.found w.held w.cell w.fetches w.invariant.1 c.loop-i-test.true stopped;
+      result_value = c.refused_at.ensures ∙ stops a.s a.even rs ps w.i w.found w.held w.cell w.fetches w.invariant.1 c.loop-i-test.true
+          stopped;
       by_index = λ k e. let q = sym c.refused_at.ensures ∙ e in clash (cc);
     }
 
@@ -108,7 +109,8 @@ returns-then-not-hold c =
     let st = c.locate-spot.ensures a.even in
     let same = told a.s a.even rs ps ok w.i spot st _ (c.check_spot-tested.ensures a.even) in
     let passes = sym same ∙ ap outcome_of c.in_default.is in
-    let five = own-five a.s a.even rs ps ok w.i passes (place_at spot.cell) (st.cell-is passes) (sym c.hold.ensures.value ∙ c.if-not-hold.true) in
+    let five = own-five a.s a.even rs ps ok w.i passes (place_at spot.cell) (st.cell-is passes)
+    (sym c.hold.ensures.value ∙ c.if-not-hold.true) in
     let r = c.refused_at-then-not-hold in
     record {
       result_value = r.ensures ∙ stops a.s a.even rs ps w.i w.found w.held w.cell w.fetches w.invariant.1 c.loop-i-test.true five.is;
@@ -151,7 +153,8 @@ dose_in-requires c =
     (readable a.s a.even rs ps ok w.i passes spot st held is_held within)
 
 pub offset_bounds-found-i : goal.offset_bounds-found-i
-offset_bounds-found-i c = let g = small c.args.s c.args.records.now c.args.positions.now c.requires.0 c.loop-i.i c.loop-i-test.true in omega arith
+offset_bounds-found-i c = let g = small c.args.s c.args.records.now c.args.positions.now c.requires.0 c.loop-i.i c.loop-i-test.true in omega
+    arith
 
 pub bounds-found-i : goal.bounds-found-i
 bounds-found-i c = small c.args.s c.args.records.now c.args.positions.now c.requires.0 c.loop-i.i c.loop-i-test.true

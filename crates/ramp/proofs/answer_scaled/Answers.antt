@@ -27,11 +27,13 @@ scale_all-requires c = (
 )
 
 pub slice_bounds-finer-end : goal.slice_bounds-finer-end
-slice_bounds-finer-end c = let e = c.scale_all.ensures.long in let l = (few c.args.t.shape c.args.records.now c.args.positions.now c.requires.1) in omega arith
+slice_bounds-finer-end c = let e = c.scale_all.ensures.long in let l = (few c.args.t.shape c.args.records.now c.args.positions.now
+    c.requires.1) in omega arith
 
 pub slice_bounds-answer_anew-end : goal.slice_bounds-answer_anew-end
 unfolding steps_on
-slice_bounds-answer_anew-end c = sym (lent-long c.args.t c.requires.0 _ _ _ c.factor_on-x.ensures c.factor_on-y.ensures c.factor_on-z.ensures
+slice_bounds-answer_anew-end c = sym (lent-long c.args.t c.requires.0 _ _ _ c.factor_on-x.ensures c.factor_on-y.ensures
+    c.factor_on-z.ensures
     c.args.positions.now c.scale_all.new.finer c.scale_all.ensures
     (few c.args.t.shape c.args.records.now c.args.positions.now c.requires.1) c.requires.1.whole)
 
@@ -56,5 +58,6 @@ returns c =
     (few a.t.shape a.records.now a.positions.now c.requires.1) c.requires.1.whole)
     (lent-scaled a.t c.requires.0 _ _ _ c.factor_on-x.ensures c.factor_on-y.ensures c.factor_on-z.ensures
     a.positions.now c.scale_all.new.finer c.scale_all.ensures
-    (few a.t.shape a.records.now a.positions.now c.requires.1) c.requires.1.whole) _ (c.answer_anew.ensures.result_value, c.answer_anew.ensures.by_index) in
+    (few a.t.shape a.records.now a.positions.now c.requires.1) c.requires.1.whole) _
+    (c.answer_anew.ensures.result_value, c.answer_anew.ensures.by_index) in
     record { result_value = both.0; by_index = both.1 }

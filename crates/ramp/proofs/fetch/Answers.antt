@@ -73,7 +73,8 @@ module _ (s : Shape) (rs : List ℤ) (cell : List ℕ) (old : List ℤ)
         (lit≤ tt) (lit≤ tt) (lit≤ tt) (lit≤ tt)
 
     quintic-3 : (s.axes ≡ 1 → ⊥) → (s.axes ≡ 2 → ⊥) → Fetched s rs cell old l limits 27 4
-    quintic-3 f g = fetched s rs cell old p l laid limits 3 3 27 4 (quintic s rs cell old p l laid m-is) (three s rs cell old p l laid f g) row refl refl
+    quintic-3 f g = fetched s rs cell old p l laid limits 3 3 27 4 (quintic s rs cell old p l laid m-is) (three s rs cell old p l laid f g)
+        row refl refl
         (lit≤ tt) (lit≤ tt) (lit≤ tt) (lit≤ tt)
 
 pub copy_within-requires : goal.copy_within-requires

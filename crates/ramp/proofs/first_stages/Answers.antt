@@ -76,7 +76,8 @@ strided-a-requires c = strides-x c.before.before 2 c.if-m-eq2.true
 
 pub second-requires : goal.second-requires
 second-requires c =
-    let t = c in let a = t.before.before in let d = cubic a in let both = asks d.before 2 d.if-m-eq2.true true t.if-even.true c.shift.result c.shift.ensures _ _ a.strided-b.ensures
+    let t = c in let a = t.before.before in let d = cubic a in let both = asks d.before 2 d.if-m-eq2.true true t.if-even.true c.shift.result
+    c.shift.ensures _ _ a.strided-b.ensures
     a.strided-a.ensures in
     record { all_prepared = both.0; safe = both.1 }
 
@@ -88,7 +89,8 @@ returns-then-even c = let t = c in let a = t.before.before.before in let d = cub
 
 pub second-requires-then-m-eq2 : goal.second-requires-then-m-eq2
 second-requires-then-m-eq2 c =
-    let t = c in let a = t.before.before in let d = cubic a in let both = asks d.before 2 d.if-m-eq2.true false t.if-even.false c.shift-then-m-eq2.result c.shift-then-m-eq2.ensures _ _ a.strided-b.ensures
+    let t = c in let a = t.before.before in let d = cubic a in let both = asks d.before 2 d.if-m-eq2.true false t.if-even.false
+    c.shift-then-m-eq2.result c.shift-then-m-eq2.ensures _ _ a.strided-b.ensures
     a.strided-a.ensures in
     record { all_prepared = both.0; safe = both.1 }
 
@@ -106,7 +108,8 @@ strided-a-requires-2 c = strides-x c.before.before 3 (three c.before)
 
 pub second-requires-then-even-2 : goal.second-requires-then-even-2
 second-requires-then-even-2 c =
-    let t = c in let a = t.before.before in let d = quintic a in let both = asks d.before 3 (three d) true t.if-even-2.true c.shift-then-even-2.result c.shift-then-even-2.ensures _ _ a.strided-b-2.ensures
+    let t = c in let a = t.before.before in let d = quintic a in let both = asks d.before 3 (three d) true t.if-even-2.true
+    c.shift-then-even-2.result c.shift-then-even-2.ensures _ _ a.strided-b-2.ensures
     a.strided-a-2.ensures in
     record { all_prepared = both.0; safe = both.1 }
 
@@ -118,7 +121,8 @@ returns-then-even-2 c = let t = c in let a = t.before.before.before in let d = q
 
 pub second-requires-2 : goal.second-requires-2
 second-requires-2 c =
-    let t = c in let a = t.before.before in let d = quintic a in let both = asks d.before 3 (three d) false t.if-even-2.false c.shift-2.result c.shift-2.ensures _ _ a.strided-b-2.ensures
+    let t = c in let a = t.before.before in let d = quintic a in let both = asks d.before 3 (three d) false t.if-even-2.false
+    c.shift-2.result c.shift-2.ensures _ _ a.strided-b-2.ensures
     a.strided-a-2.ensures in
     record { all_prepared = both.0; safe = both.1 }
 

@@ -45,7 +45,8 @@ ends-both-requires c =
 pub stage-requires : goal.stage-requires
 stage-requires c =
     let d = c in
-    let a = asks d.before.before in let both = stage-asks a.0.0.0 d.ends-both.ensures (z d.before.before).axis_of-z.result.shift a.0.1 a.1.1 in
+    let a = asks d.before.before in let both = stage-asks a.0.0.0 d.ends-both.ensures (z d.before.before).axis_of-z.result.shift a.0.1 a.1.1
+    in
     record { k_bound = both.0; low_value = both.1 }
 
 pub returns : goal.returns

@@ -21,7 +21,8 @@ returns-then-before-here-2 c =
     let d = c in
     let e = d in
     let a = e.args in
-    differ-y (place_at a.before) (place_at a.here) d.if-before-here.false c.if-before-here-2.true ∙ sym (new-later a.fetches _ e.if-fetches-eq0.false)
+    differ-y (place_at a.before) (place_at a.here) d.if-before-here.false c.if-before-here-2.true ∙ sym
+    (new-later a.fetches _ e.if-fetches-eq0.false)
 
 pub returns : goal.returns
 unfolding place_at pick
@@ -29,4 +30,5 @@ returns c =
     let d = c in
     let e = d in
     let a = e.args in
-    differ-z (place_at a.before) (place_at a.here) d.if-before-here.false c.if-before-here-2.false ∙ sym (new-later a.fetches _ e.if-fetches-eq0.false)
+    differ-z (place_at a.before) (place_at a.here) d.if-before-here.false c.if-before-here-2.false ∙ sym
+    (new-later a.fetches _ e.if-fetches-eq0.false)

@@ -51,4 +51,5 @@ returns-in-Exact-2 c =
     c.in-Exact.ensures.result_value c.table_with-table.ensures c.requires.answers c.requires.accepted c.middle_of-step.ensures)
 
 pub middle_of-step-requires : goal.middle_of-step-requires
-middle_of-step-requires c = (shaped (table_with (file_header c.args.axes c.args.counts c.args.second) c.args.degree).shape (full-shape _ c.requires.answers.shape)).axes-high
+middle_of-step-requires c = (shaped (table_with (file_header c.args.axes c.args.counts c.args.second) c.args.degree).shape
+    (full-shape _ c.requires.answers.shape)).axes-high

@@ -14,7 +14,8 @@ line_at h cubic quintic i = line_from h cubic quintic (cell_at (with_degree h 3)
 
 abbrev pub invariant-loop-i : goal.invariant-loop-i
 invariant-loop-i l =
-    (l.i ≤ l.total) × (l.at ≤ line_limit * l.i) × Put l.initial.out 0 (joined l.i (line_at (file_header l.axes l.counts l.second) l.cubic l.quintic)) l.out l.at
+    (l.i ≤ l.total) × (l.at ≤ line_limit * l.i) × Put l.initial.out 0 (joined l.i
+    (line_at (file_header l.axes l.counts l.second) l.cubic l.quintic)) l.out l.at
 
 abbrev pub decreases-loop-i : goal.decreases-loop-i
 decreases-loop-i l = l.total - l.i

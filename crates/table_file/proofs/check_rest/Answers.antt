@@ -16,21 +16,25 @@ pub returns-in-Refused-three : goal.returns-in-Refused-three
 returns-in-Refused-three c =
     let a = c.args in
     let g = ap outcome_of c.in-Refused-three.is in
-    g ∙ sym (rest-is a.bytes.now a.axes a.nodes c.requires a.room ∙ first-passed _ _ (sym c.check_two-two.ensures ∙ ap outcome_of c.in_default.is)
+    g ∙ sym (rest-is a.bytes.now a.axes a.nodes c.requires a.room ∙ first-passed _ _
+    (sym c.check_two-two.ensures ∙ ap outcome_of c.in_default.is)
     ∙ refused-first _ (sym c.check_three-three.ensures ∙ g))
 
 pub returns-in-Refused-short : goal.returns-in-Refused-short
 returns-in-Refused-short c =
     let a = c.args in
     let g = ap outcome_of c.in-Refused-short.is in
-    g ∙ sym (rest-is a.bytes.now a.axes a.nodes c.requires a.room ∙ first-passed _ _ (sym c.check_two-two.ensures ∙ ap outcome_of c.in_default.is)
-    ∙ first-passed _ _ (sym c.check_three-three.ensures ∙ ap outcome_of c.in_default-three.is) ∙ refused-first _ (sym c.refuse_unless-short.ensures ∙ g))
+    g ∙ sym (rest-is a.bytes.now a.axes a.nodes c.requires a.room ∙ first-passed _ _
+    (sym c.check_two-two.ensures ∙ ap outcome_of c.in_default.is)
+    ∙ first-passed _ _ (sym c.check_three-three.ensures ∙ ap outcome_of c.in_default-three.is) ∙ refused-first _
+    (sym c.refuse_unless-short.ensures ∙ g))
 
 pub returns : goal.returns
 returns c =
     let a = c.args in
     c.check_samples.ensures
-    ∙ sym (rest-is a.bytes.now a.axes a.nodes c.requires a.room ∙ first-passed _ _ (sym c.check_two-two.ensures ∙ ap outcome_of c.in_default.is)
+    ∙ sym (rest-is a.bytes.now a.axes a.nodes c.requires a.room ∙ first-passed _ _
+    (sym c.check_two-two.ensures ∙ ap outcome_of c.in_default.is)
     ∙ first-passed _ _ (sym c.check_three-three.ensures ∙ ap outcome_of c.in_default-three.is)
     ∙ first-passed _ _ (sym c.refuse_unless-short.ensures ∙ ap outcome_of c.in_default-short.is))
 

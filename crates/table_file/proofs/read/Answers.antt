@@ -33,13 +33,15 @@ returns-in-Refused-rest c =
 pub second_in-second-requires : goal.second_in-second-requires
 second_in-second-requires c =
     let one : one_outcome c.args.bytes.now ≡ done tt = sym c.check_one-one.ensures ∙ ap outcome_of c.in_default.is in
-    let gave = after_one c.args.bytes.now one c.shape_in-s.result c.shape_in-s.ensures c.node_count-nodes.result c.node_count-nodes.ensures in
+    let gave = after_one c.args.bytes.now one c.shape_in-s.result c.shape_in-s.ensures c.node_count-nodes.result c.node_count-nodes.ensures
+    in
     start_is _ _ _ gave
 
 pub fill-requires : goal.fill-requires
 fill-requires c =
     let one : one_outcome c.args.bytes.now ≡ done tt = sym c.check_one-one.ensures ∙ ap outcome_of c.in_default.is in
-    let gave = after_one c.args.bytes.now one c.shape_in-s.result c.shape_in-s.ensures c.node_count-nodes.result c.node_count-nodes.ensures in
+    let gave = after_one c.args.bytes.now one c.shape_in-s.result c.shape_in-s.ensures c.node_count-nodes.result c.node_count-nodes.ensures
+    in
     let passed : rest_outcome c.args.bytes.now (length c.args.samples.now) ≡ done tt =
     sym c.check_rest-rest.ensures ∙ ap outcome_of c.in_default-rest.is
     in
@@ -49,7 +51,8 @@ fill-requires c =
 pub returns : goal.returns
 returns c =
     let one : one_outcome c.args.bytes.now ≡ done tt = sym c.check_one-one.ensures ∙ ap outcome_of c.in_default.is in
-    let gave = after_one c.args.bytes.now one c.shape_in-s.result c.shape_in-s.ensures c.node_count-nodes.result c.node_count-nodes.ensures in
+    let gave = after_one c.args.bytes.now one c.shape_in-s.result c.shape_in-s.ensures c.node_count-nodes.result c.node_count-nodes.ensures
+    in
     let passed : rest_outcome c.args.bytes.now (length c.args.samples.now) ≡ done tt =
     sym c.check_rest-rest.ensures ∙ ap outcome_of c.in_default-rest.is
     in
@@ -73,11 +76,13 @@ node_count-nodes-requires c =
 pub check_rest-rest-requires : goal.check_rest-rest-requires
 check_rest-rest-requires c =
     let one : one_outcome c.args.bytes.now ≡ done tt = sym c.check_one-one.ensures ∙ ap outcome_of c.in_default.is in
-    let gave = after_one c.args.bytes.now one c.shape_in-s.result c.shape_in-s.ensures c.node_count-nodes.result c.node_count-nodes.ensures in
+    let gave = after_one c.args.bytes.now one c.shape_in-s.result c.shape_in-s.ensures c.node_count-nodes.result c.node_count-nodes.ensures
+    in
     gave
 
 pub overflow_add-axes-2 : goal.overflow_add-axes-2
 overflow_add-axes-2 c =
     let one : one_outcome c.args.bytes.now ≡ done tt = sym c.check_one-one.ensures ∙ ap outcome_of c.in_default.is in
-    let gave = after_one c.args.bytes.now one c.shape_in-s.result c.shape_in-s.ensures c.node_count-nodes.result c.node_count-nodes.ensures in
+    let gave = after_one c.args.bytes.now one c.shape_in-s.result c.shape_in-s.ensures c.node_count-nodes.result c.node_count-nodes.ensures
+    in
     omega arith

@@ -43,15 +43,16 @@ asked c =
     (c.check_cell.ensures ∙ ap (cell_outcome c.args.t.shape) (indices c.args.cell))
 
 -- not refused
-module _ (t : FullShape) (given : ℕ) (k : List ℕ) (tested : first (table_outcome t given) (cell_outcome t.shape (place_at k)) ≡ done tt) where
-  passed : (table_outcome t given ≡ done tt) × (cell_outcome t.shape (place_at k) ≡ done tt)
-  passed = first_done (table_outcome t given) (cell_outcome t.shape (place_at k)) tt tested
+module _ (t : FullShape) (given : ℕ) (k : List ℕ) (tested : first (table_outcome t given) (cell_outcome t.shape (place_at k)) ≡ done tt)
+  where
+    passed : (table_outcome t given ≡ done tt) × (cell_outcome t.shape (place_at k) ≡ done tt)
+    passed = first_done (table_outcome t given) (cell_outcome t.shape (place_at k)) tt tested
 
-  facts : Tabled t.shape given
-  facts = tabled t given passed.0
+    facts : Tabled t.shape given
+    facts = tabled t given passed.0
 
-  here : Accepted t.shape (place_at k)
-  here = accepted t.shape k facts.shape.axes-high passed.1
+    here : Accepted t.shape (place_at k)
+    here = accepted t.shape k facts.shape.axes-high passed.1
 
 pub returns-in-Refused : goal.returns-in-Refused
 returns-in-Refused c =
@@ -69,7 +70,8 @@ returns-in-Done c =
     let tested = sym (asked d) ∙ ap outcome_of c.in-Done.is in
     let shape = (facts s.args.t (length rs) s.args.cell tested).shape in
     c.total_in.ensures
-    ∙ ap₂ (λ (a : Check) (v : ℤ). first a (done v)) (sym (corners-records s.args.t.shape shape p (here s.args.t (length rs) s.args.cell tested) rs))
+    ∙ ap₂ (λ (a : Check) (v : ℤ). first a (done v)) (sym (corners-records s.args.t.shape shape p
+    (here s.args.t (length rs) s.args.cell tested) rs))
     (one_cell p (place-beyond s.args.cell) (orders s.args.t.shape) s.args.t.shape.axes (records_field s.args.t.shape rs))
     ∙ sym (first-passed (first (table s) (cell s)) (rest s) tested)
     ∙ total-is s

@@ -27,4 +27,5 @@ returns c =
     ∙ sym (first-passed (full_outcome a.t) (refuse_unless (eqb a.given (size a.t.shape)) 4 0) passes)
 
 pub table_entries-requires : goal.table_entries-requires
-table_entries-requires c = let t = c.args.t in shaped t.shape (full-shape t (sym c.check_full-shape.ensures ∙ ap outcome_of c.in_default.is))
+table_entries-requires c = let t = c.args.t in shaped t.shape (full-shape t
+    (sym c.check_full-shape.ensures ∙ ap outcome_of c.in_default.is))

@@ -29,7 +29,11 @@ numerator_of v = done v
 pub layout_of-l-requires : goal.layout_of-l-requires
 layout_of-l-requires c =
     let a = c.args in
-    record { shaped = c.requires.0; accepted = first-accepted a.s c.requires.0 (place_at a.from) (place_at a.to) c.requires.2 a.records.now c.requires.1 }
+    record {
+      shaped = c.requires.0;
+      accepted = first-accepted a.s c.requires.0 (place_at a.from) (place_at a.to) c.requires.2 a.records.now
+          c.requires.1;
+    }
 
 pub entry_limits-limits-requires : goal.entry_limits-limits-requires
 entry_limits-limits-requires c =
