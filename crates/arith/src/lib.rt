@@ -25,14 +25,12 @@ fn half_even(x: i64, k: u32) -> i64
 }
 
 // x / 2^(k+1) to the nearest, halves to the even number where `even` is set, else up.
+// The flag stays: it is the edition of a table, a field of a struct of C, and a constant of the inner calls.
 pub fn rounded(even: bool, x: i64, k: u32) -> i64
     requires { (k ≤ 61) × (nat_abs x + 2 ^ k < 2 ^ 63) }
     ensures { result ≡ rounding_of even x (2 ^ (k + 1)) }
 {
-    if even {
-        return half_even(x, k);
-    }
-    half_up(x, k)
+    if even { half_even(x, k) } else { half_up(x, k) }
 }
 
 // What a quotient x / 2^(k+1) drops: x less the multiple of 2^(k+1) below it.
@@ -49,16 +47,12 @@ pub fn dropped(x: i64, k: u32) -> u64
 pub fn magnitude(x: i64) -> u64
     ensures { result ≡ nat_abs x }
 {
-    if x < 0 { (-1 - x) as u64 + 1 } else { x as u64 }
+    x.unsigned_abs()
 }
 
 // The number that stands for x in two's complement.
 pub fn unsigned(x: i32) -> u32
     ensures { result ≡ unsigned_of x }
 {
-    if x < 0 {
-        (x as i64 + 0x1_0000_0000) as u32
-    } else {
-        x as u32
-    }
+    x.cast_unsigned()
 }

@@ -12,28 +12,20 @@ ghost use Rattle.lattice.specs.Shape.{count, orders, entries, size, Shaped};
 ghost use Rattle.cell.specs.Cells.{cells_along, Between};
 ghost use Rattle.cell.specs.Cell.{place_at, cell_outcome, corners_outcome, Accepted, Laid, Small, start_of, limit_of, limit_in, Limits, record_outcome, CornerRows};
 
-use lattice::{Check, Shape};
+use lattice::{Orders, Reason, Refusal, Shape};
+
+mod entries;
+
+pub use entries::{EntryLimits, entry_limits};
 
 // Where the corner records of a cell stand.
 #[derive(Clone, Copy)]
 pub struct Layout {
-    pub orders: usize,
+    pub orders: Orders,
     pub entries: usize,
     pub base: usize,
     pub strides: [usize; 3],
 }
-
-const LIMITS: [[i32; 27]; 2] = [
-    [
-        32768, 65536, 65536, 131072, 65536, 131072, 131072, 262144, 0, 0, 0, 0, 0, 0, 0, 0, 0, 0,
-        0, 0, 0, 0, 0, 0, 0, 0, 0,
-    ],
-    [
-        32768, 65536, 131072, 65536, 131072, 262144, 131072, 262144, 524288, 65536, 131072, 262144,
-        131072, 262144, 524288, 262144, 524288, 1048576, 131072, 262144, 524288, 262144, 524288,
-        1048576, 524288, 1048576, 2097152,
-    ],
-];
 
 fn index_allowed(n: u32, count: u32, index: u32, axis: u32) -> bool
     ensures { result ≡ pick (ltb axis n) (leb (index + 2) count) (eqb index 0) }
@@ -42,13 +34,14 @@ fn index_allowed(n: u32, count: u32, index: u32, axis: u32) -> bool
 }
 
 // Refusal 14.
-pub fn check_cell(n: u32, s: Shape, i: u32, j: u32, k: u32) -> Check
+pub fn check_cell(n: u32, s: Shape, cell: [u32; 3]) -> Result<(), Refusal>
     requires { n ≡ s.axes }
-    ensures { outcome_of result ≡ cell_outcome s (place_at (i ∷ j ∷ k ∷ [])) }
+    ensures { outcome_of result ≡ cell_outcome s (place_at cell) }
 {
-    let on_x = lattice::refuse_unless(index_allowed(n, s.counts[0], i, 0), 14, 0);
-    let on_y = lattice::refuse_after(on_x, index_allowed(n, s.counts[1], j, 1), 14, 1);
-    lattice::refuse_after(on_y, index_allowed(n, s.counts[2], k, 2), 14, 2)
+    let on_x = index_allowed(n, s.counts[0], cell[0], 0);
+    let on_y = index_allowed(n, s.counts[1], cell[1], 1);
+    let on_z = index_allowed(n, s.counts[2], cell[2], 2);
+    lattice::check_on_axes(Reason::CellIndex, [on_x, on_y, on_z])
 }
 
 pub fn layout_of(s: Shape, cell: [u32; 3]) -> Layout
@@ -101,17 +94,6 @@ pub fn cell_at(cells: [u32; 3], i: u32) -> [u32; 3]
     [along_x, along_y, along_z]
 }
 
-// The limits of the entries of a record.
-pub fn entry_limits(m: usize) -> [i32; 27]
-    requires { (2 ≤ m) × (m ≤ 3) }
-    ensures { (e : ℕ) → e < m ^ 3 → at result e ≡ pos (limit_of m e) }
-{
-    if m == 2 {
-        return LIMITS[0];
-    }
-    LIMITS[1]
-}
-
 // Whether x is beyond a limit.
 fn beyond(x: i32, limit: i32) -> bool
     requires { non_neg limit ≡ true }
@@ -121,32 +103,36 @@ fn beyond(x: i32, limit: i32) -> bool
 }
 
 // The limit test of the record that starts at `start`.
-pub fn check_record(limits: &[i32; 27], n: usize, records: &[i32], start: usize) -> Check
+pub fn check_record(
+    limits: &[i32; 27],
+    n: usize,
+    records: &[i32],
+    start: usize,
+) -> Result<(), Refusal>
     requires { (n ≤ 27) × (start + n ≤ length records.now) × Limits n limits.now }
     ensures { outcome_of result ≡ record_outcome (limit_in limits.now) n records.now start }
 {
-    let mut e: usize = 0;
-    while e < n {
+    for e in 0..n {
         if beyond(records[start + e], limits[e]) {
-            return lattice::refuse_unless(false, 5, start + e);
+            return Err(Refusal {
+                reason: Reason::BeyondLimit,
+                place: start + e,
+            });
         }
-        e += 1;
     }
-    Check::Done
+    Ok(())
 }
 
 // Not 0 where an entry of two records, one directly after the other from `start`, is beyond its limit.
-fn beyond_in(limits: &[i32; 27], n: usize, records: &[i32], start: usize) -> u32
-    requires { (n ≤ 27) × (start + 2 * n ≤ length records.now) × Limits n limits.now }
-    ensures { eqb result 0 ≡ passed (first (record_outcome (limit_in limits.now) n records.now start) (record_outcome (limit_in limits.now) n records.now (start + n))) }
+fn beyond_in(limits: &EntryLimits, n: usize, records: &[i32], start: usize) -> u32
+    requires { (n ≤ 27) × (start + 2 * n ≤ length records.now) }
+    ensures { eqb result 0 ≡ passed (first (record_outcome (limit_in limits.now.limits) n records.now start) (record_outcome (limit_in limits.now.limits) n records.now (start + n))) }
 {
     let mut over: u32 = 0;
-    let mut e: usize = 0;
-    while e < n {
-        let low = beyond(records[start + e], limits[e]);
-        let high = beyond(records[start + n + e], limits[e]);
+    for e in 0..n {
+        let low = beyond(records[start + e], limits.limits[e]);
+        let high = beyond(records[start + n + e], limits.limits[e]);
         over = over | (low as u32) | (high as u32);
-        e += 1;
     }
     over
 }
@@ -163,23 +149,21 @@ pub fn corner_start(l: Layout, c: usize) -> usize
 }
 
 // Whether the limit test of the first 2·rows corner records is passed, those of a row at once.
-pub fn all_within(limits: &[i32; 27], n: usize, rows: usize, records: &[i32], l: Layout) -> bool
-    requires { CornerRows l records.now n rows × Limits n limits.now }
-    ensures { result ≡ passed (first_of (2 * rows) (λ c. record_outcome (limit_in limits.now) n records.now (start_of l c))) }
+pub fn all_within(limits: &EntryLimits, n: usize, rows: usize, records: &[i32], l: Layout) -> bool
+    requires { CornerRows l records.now n rows }
+    ensures { result ≡ passed (first_of (2 * rows) (λ c. record_outcome (limit_in limits.now.limits) n records.now (start_of l c))) }
 {
-    let mut row: usize = 0;
-    while row < rows {
+    for row in 0..rows {
         let start = corner_start(l, 2 * row);
         if beyond_in(limits, n, records, start) != 0 {
             return false;
         }
-        row += 1;
     }
     true
 }
 
 // Refusal 5 at the first entry of the corners, in corner order, beyond its limit.
-pub fn check_corners(s: Shape, records: &[i32], cell: [u32; 3], l: Layout) -> Check
+pub fn check_corners(s: Shape, records: &[i32], cell: [u32; 3], l: Layout) -> Result<(), Refusal>
     requires shaped { Shaped s × (length records.now ≡ size s) }
     requires accepted { Accepted s (place_at cell) × Laid s (place_at cell) l }
     ensures { outcome_of result ≡ corners_outcome s records.now (place_at cell) }
@@ -187,29 +171,25 @@ pub fn check_corners(s: Shape, records: &[i32], cell: [u32; 3], l: Layout) -> Ch
     let limits = entry_limits(l.orders);
     let n = l.entries;
     let corners: usize = 1 << s.axes;
-    let mut c: usize = 0;
-    while c < corners {
+    for c in 0..corners {
         let start = corner_start(l, c);
-        let one = check_record(&limits, n, records, start);
-        if let Check::Refused(_) = one {
-            return one;
-        }
-        c += 1;
+        check_record(&limits.limits, n, records, start)?;
     }
-    Check::Done
+    Ok(())
 }
 
 // Whether refusal 5 does not arise on one axis: no entry of the corners is beyond its limit.
+// A function of its own: its sizes are constants, and one for all numbers of axes takes a seventh longer on one axis.
 pub fn line_within(s: Shape, records: &[i32], cell: [u32; 3], l: Layout) -> bool
     requires shaped { Shaped s × (length records.now ≡ size s) }
     requires accepted { Accepted s (place_at cell) × Laid s (place_at cell) l }
     requires axes_value { s.axes ≡ 1 }
     ensures { result ≡ passed (corners_outcome s records.now (place_at cell)) }
 {
-    if l.orders == 2 {
-        return all_within(&entry_limits(2), 2, 1, records, l);
+    if l.orders.count == 2 {
+        return all_within(&entry_limits(Orders::cubic()), 2, 1, records, l);
     }
-    all_within(&entry_limits(3), 3, 1, records, l)
+    all_within(&entry_limits(Orders::quintic()), 3, 1, records, l)
 }
 
 // The same on two or three axes.
@@ -219,14 +199,14 @@ pub fn lattice_within(n: u32, s: Shape, records: &[i32], cell: [u32; 3], l: Layo
     requires n_value { (n ≡ s.axes) × (2 ≤ n) }
     ensures { result ≡ passed (corners_outcome s records.now (place_at cell)) }
 {
-    if l.orders == 2 {
-        let limits = entry_limits(2);
+    if l.orders.count == 2 {
+        let limits = entry_limits(Orders::cubic());
         if n == 2 {
             return all_within(&limits, 4, 2, records, l);
         }
         return all_within(&limits, 8, 4, records, l);
     }
-    let limits = entry_limits(3);
+    let limits = entry_limits(Orders::quintic());
     if n == 2 {
         return all_within(&limits, 9, 2, records, l);
     }

@@ -2,7 +2,7 @@
 use mathlib.Core.Path.{◌≡◌, sym, ap, subst, ◌∙◌}
 use mathlib.Core.Bool.{Bool}
 use mathlib.Core.List.{List}
-use Prim.Native.Nat.{ℕ, suc, ◌+◌, ◌-◌, ◌*◌, ◌/◌, ◌%◌, ◌^◌, ◌≤◌, ◌<◌}
+use Prim.Native.Nat.{ℕ, suc, ◌+◌, ◌*◌, ◌/◌, ◌%◌, ◌^◌, ◌≤◌, ◌<◌}
 use native.Mathlib.Nat.{le_trans, le_of_eq, lt_of_lt_of_le, mul-le-mul_right, pow-succ', eq_of_mul-eq-mul_left, pow-le-pow_right, div-add-mod, mod-lt}
 use native.Mathlib.Decide.{ℕ_discrete}
 use native.Mathlib.Omega.{arith}
@@ -25,15 +25,6 @@ use Rattle.coefficients.specs.Blocks.{Sizes, RowOf, solved_block, AllWithin, Sta
 use Rattle.coefficients.proofs.SpotLaws.{scatter-off, scatter-at}
 
 -- ---- sizes
-
-pub sizes : (m n r : ℕ) → 2 ≤ m → m ≤ 3 → 1 ≤ n → n ≤ 3 → r ≡ m ^ (n - 1) → Sizes m n r
-sizes m n r m2 m3 low high e = record {
-  orders-low = m2;
-  orders-high = m3;
-  axes-low = low;
-  axes-high = high;
-  groups-are = ap (λ (k : ℕ). m * k) e ∙ sym (pow-succ' m (n - 1)) ∙ ap (λ (k : ℕ). m ^ k) (let q : suc (n - 1) ≡ n = omega arith in q);
-}
 
 module _ {m n r : ℕ} (ok : Sizes m n r) where
   pub orders-some : 0 < m
@@ -63,22 +54,18 @@ module _ {m n r : ℕ} (ok : Sizes m n r) where
   pub in-groups : (k : ℕ) → k < m ^ n → k < m * r
   in-groups k l = rw ok.groups-are l
 
--- rows: the first, and their orders along y and z are below m
-pub first-row : (m : ℕ) → 0 < m → RowOf m 0 (record { y = 0; z = 0 })
-first-row m some = record { number_is = (let e : 0 ≡ m * 0 + 0 = omega arith in e); low = some }
+-- rows: their orders along y and z are below m
+pub row-orders : (m g : ℕ) (o : Row) → 2 ≤ m → m ≤ 3 → g < m * m → RowOf m g o → o.z < m
+row-orders m g o m2 m3 l row =
+    by-m (λ m. g < m * m → g ≡ m * o.z + o.y → o.z < m) (λ a b. omega arith) (λ a b. omega arith) m m2 m3 l row.number_is
 
 module _ {m n r : ℕ} (ok : Sizes m n r) where
-  rows_few : r ≤ m * m
+  pub rows_few : r ≤ m * m
   rows_few =
       by-m (λ m. m * r ≡ m ^ n → r ≤ m * m)
       (λ e. let h = pow-le-pow_right {n = 2} (lit< tt) {i = n} {j = 3} ok.axes-high in omega arith)
       (λ e. let h = pow-le-pow_right {n = 3} (lit< tt) {i = n} {j = 3} ok.axes-high in omega arith)
       m ok.orders-low ok.orders-high ok.groups-are
-
-  pub row-orders : (g : ℕ) (o : Row) → g < r → RowOf m g o → o.z < m
-  row-orders g o l row =
-      by-m (λ m. r ≤ m * m → g ≡ m * o.z + o.y → o.z < m) (λ a b. omega arith) (λ a b. omega arith)
-      m ok.orders-low ok.orders-high rows_few row.number_is
 
 -- ---- one pass
 

@@ -1,16 +1,17 @@
 -- What follows from a call that is not refused before 5; and that the array of a cell's coefficients is the list of them.
-use mathlib.Core.Path.{◌≡◌, sym, subst, ◌∙◌}
-use mathlib.Core.List.{List}
+use mathlib.Core.Path.{◌≡◌, sym, ap, subst, ◌∙◌}
+use mathlib.Core.List.{List, ◌++◌}
 use Prim.Native.Nat.{ℕ, ◌*◌, ◌≤◌, ◌<◌}
 use native.Mathlib.Omega.{arith}
 use lib.Dec.{leb, eqb}
-use lib.IntN.{ℤ}
-use lib.ListN.{length}
+use lib.IntN.{ℤ, pos}
+use lib.ListN.{length, take, drop}
+use Rattle.std.proofs.lemmas.List.{get_or-take, length-take-le}
 use borrow.Author.Tests.{leb-true, eqb-true}
 use Rattle.lattice.specs.declared.Shape.{Shape}
 use Rattle.lattice.specs.declared.FullShape.{FullShape}
 use Rattle.lattice.specs.Outcome.{done, refuse_unless, first}
-use Rattle.lattice.specs.Buffer.{at, tabulate}
+use Rattle.lattice.specs.Buffer.{at, tabulate, overwrite}
 use Rattle.lattice.specs.Digits.{digit}
 use Rattle.lattice.specs.Shape.{orders, entries, size, full_outcome, Shaped}
 use Rattle.lattice.specs.Axes.{Place}
@@ -18,7 +19,7 @@ use Rattle.lattice.specs.Records.{records_field}
 use Rattle.lattice.proofs.OutcomeLaws.{first_done, refuse-done}
 use Rattle.lattice.proofs.ShapeLaws.{shaped, orders-range}
 use Rattle.lattice.proofs.StepLaws.{full-shape}
-use Rattle.lattice.proofs.BufferLaws.{tabulate-same}
+use Rattle.lattice.proofs.BufferLaws.{tabulate-same, tabulate-get_or, length-tabulate}
 use Rattle.lattice.proofs.DigitsLaws.{digits_in}
 use Rattle.cell.specs.declared.Layout.{Layout}
 use Rattle.cell.specs.Cell.{place_at, cell_outcome, Accepted, Laid}
@@ -53,10 +54,19 @@ asked t given xs room h =
       here = accepted s xs ok.axes-high c.1;
     }
 
+-- the first n numbers copied to the front of a slice
+pub copied : (n : ℕ) (xs out : List ℤ) → n ≤ length xs → take n xs ++ drop n out ≡ overwrite (tabulate n (at xs)) out
+copied n xs out l =
+    let e : take n xs ≡ tabulate n (at xs) =
+    sym (tabulate-get_or (take n xs) n (pos 0) (length-take-le n xs l))
+    ∙ tabulate-same n (at (take n xs)) (at xs) (λ k h. get_or-take n xs k (pos 0) h) in
+    ap (λ (ys : List ℤ). ys ++ drop n out) e
+    ∙ ap (λ (k : ℕ). tabulate n (at xs) ++ drop k out) (sym (length-tabulate n (at xs)))
+
 module _ (s : Shape) (ok : Shaped s) (cell : Place) (here : Accepted s cell) (rs : List ℤ) (many : length rs ≡ size s) (l : Layout)
     (laid : Laid s cell l) where
   pub list-is : (xs : List ℤ)
-      → ((K : ℕ) → K < coefficient_count l.orders s.axes → at xs K ≡ cell_coefficient l.orders s.axes l rs K)
+      → ((K : ℕ) → K < coefficient_count l.orders.count s.axes → at xs K ≡ cell_coefficient l.orders.count s.axes l rs K)
       → tabulate (coefficient_count (orders s) s.axes) (at xs) ≡ coefficient_list (orders s) s.axes cell (records_field s rs)
   unfolding coefficient_list entries
   list-is xs h =

@@ -1,6 +1,6 @@
 -- How the code works a cell off, corner by corner, as Listings 1 to 4 of the source do: at a corner every entry is multiplied by the
 -- product of s^order of the axes, an unsigned solve by the rows of the low end follows along each axis, and its results go to their places.
-use Rattle.std.specs.Prelude.{◌≡◌, ℕ, zero, suc, ◌+◌, ◌*◌, ◌-◌, ◌/◌, ◌%◌, ◌^◌, ◌≤◌, ◌<◌, Bool, List, ltb, ℤ, pos, ◌-ℤ◌, ◌*ℤ◌, nat_abs, length, set}
+use Rattle.std.specs.Prelude.{◌≡◌, ℕ, zero, suc, ◌+◌, ◌*◌, ◌-◌, ◌/◌, ◌%◌, ◌^◌, ◌≤◌, ◌<◌, Bool, List, ltb, ℤ, pos, ◌-ℤ◌, nat_abs, length, get_or, set}
 use Rattle.arith.specs.Choice.{pick}
 use Rattle.arith.specs.Int.{◌^ℤ◌}
 use Rattle.arith.specs.Sum.{product}
@@ -37,10 +37,6 @@ end_sign b = pos 1 -ℤ pos (2 * b)
 unfoldable pub block_sign : ℕ → ℕ → ℕ → ℤ
 block_sign m c k = product (axes 3) (λ a. end_sign (digit (λ b. 2) c a) ^ℤ digit (λ b. m) k a)
 
--- entry k of the record from `start` on, by its sign at corner c
-abbrev pub signed_record : ℕ → ℕ → ℕ → List ℤ → ℕ → ℤ
-signed_record m c start rs k = block_sign m c k *ℤ at rs (start + k)
-
 -- number k of the block of corner c, along each axis
 unfoldable pub block_numbers : ℕ → ℕ → ℕ → Place
 block_numbers m c k a = m * digit (λ b. 2) c a + digit (λ b. m) k a
@@ -67,6 +63,11 @@ solved_block back m n xs k = sweep (axes n) (λ a. end_rule back m) (λ p. xs (n
 pub record RowOf (m g : ℕ) (o : Row) : Type 0 where
   pub number_is : g ≡ m * o.z + o.y
   pub low : o.y < m
+
+-- the places of the first k coefficients of corner c
+pub record Placed (m c k : ℕ) (ps : List ℕ) : Type 0 where
+  pub long : length ps ≡ 27
+  pub is : (j : ℕ) → j < k → get_or ps j 0 ≡ coefficient_index m c j
 
 -- numbers within B
 abbrev pub AllWithin : ℕ → ℕ → (ℕ → ℤ) → Type 0

@@ -1,7 +1,9 @@
 -- The coefficients of a cell as a list, and the call. m is 2 for degree 3 and 3 for degree 5, n the number of axes.
-use Rattle.std.specs.Prelude.{ℕ, ◌*◌, List, leb, eqb, ℤ, length}
+use Rattle.std.specs.Prelude.{ℕ, ◌*◌, List, leb, eqb, ℤ, length, Result, Ok, Err}
 use Rattle.lattice.specs.declared.FullShape.{FullShape}
-use Rattle.lattice.specs.Outcome.{Check, refuse_unless, first, when_done}
+use Rattle.lattice.specs.declared.refusal.Refusal.{Refusal}
+use Rattle.lattice.specs.Answers.{number_of}
+use Rattle.lattice.specs.Outcome.{Check, done, refused, refuse_unless, first, when_done}
 use Rattle.lattice.specs.Buffer.{tabulate, overwrite}
 use Rattle.lattice.specs.Digits.{digit}
 use Rattle.lattice.specs.Shape.{orders, size, full_outcome}
@@ -30,3 +32,8 @@ unfoldable pub coefficients_writes : FullShape → List ℤ → Place → List �
 coefficients_writes t rs cell out =
     when_done (coefficients_outcome t rs cell (length out))
     (overwrite (coefficient_list (orders t.shape) t.shape.axes cell (records_field t.shape rs)) out) out
+
+-- whether a call was refused, and by what
+abbrev pub check_of : {A : Type 0} → Result A Refusal → Check
+check_of (Ok a) = done tt
+check_of (Err r) = refused (number_of r.reason) r.place

@@ -1,24 +1,28 @@
 // The coefficients of a cell, and what both conversions share: places, passes.
 #![tactic(auto)]
 
-ghost use Rattle.std.specs.Prelude.{◌≡◌, true, false, ℕ, ◌+◌, ◌*◌, ◌/◌, ◌%◌, ◌^◌, ◌<◌, ◌≤◌, leb, eqb, pos, nat_abs, ◌*ℤ◌, length};
+ghost use Rattle.std.specs.Prelude.{◌≡◌, false, ℕ, ◌+◌, ◌*◌, ◌/◌, ◌%◌, ◌^◌, ◌<◌, ◌≤◌, leb, eqb, nat_abs, ◌*ℤ◌, length, IfOk};
 ghost use Rattle.arith.specs.Choice.{pick};
 ghost use Rattle.arith.specs.Int.{◌^ℤ◌};
 ghost use Rattle.lattice.specs.Outcome.{refuse_unless, first};
 ghost use Rattle.lattice.specs.Answers.{outcome_of};
-ghost use Rattle.lattice.specs.Buffer.{at, tabulate, overwrite};
+ghost use Rattle.lattice.specs.Buffer.{at};
 ghost use Rattle.lattice.specs.Flat.{pass};
 ghost use Rattle.lattice.specs.Shape.{orders_of, orders, size, Shaped};
 ghost use Rattle.hermite.specs.Hermite.{end_rule};
-ghost use Rattle.cell.specs.Cell.{place_at};
+ghost use Rattle.cell.specs.Cell.{place_at, cell_outcome, corners_outcome, Accepted, Laid};
 ghost use Rattle.cell.specs.Coefficients.{coefficient_count};
-ghost use Rattle.coefficients.specs.Coefficients.{request_outcome, coefficients_outcome, coefficients_writes};
-ghost use Rattle.coefficients.specs.Blocks.{Sizes, RowOf, end_sign, block_sign, signed_record, coefficient_number, coefficient_index, cell_coefficient, solved_block, AllWithin, StartsWith, scatter, corner_at, Filled, Gathered};
+ghost use Rattle.coefficients.specs.Coefficients.{check_of, request_outcome, coefficients_outcome, coefficients_writes};
+ghost use Rattle.coefficients.specs.Blocks.{RowOf, end_sign, block_sign, coefficient_number, coefficient_index, cell_coefficient, solved_block, AllWithin, StartsWith, Placed, scatter, corner_at, Filled, Gathered};
 
 use cell::Layout;
-use lattice::{Check, FullShape, Shape};
+use lattice::{FullShape, Orders, Reason, Refusal, Shape};
 
-// Listings 1 to 4 of the source: FullSolve is `fill`, BlockSolve `block_solve`; on axis 0 of a corner b0 is its end,
+mod block;
+
+pub use block::Block;
+
+// Listings 1 to 4 of the source: FullSolve is `filled`, BlockSolve `block_solve`; on axis 0 of a corner b0 is its end,
 // s0 = 1 - 2 * b0 its `sign` of order 1, and z0, p0, q0 are the `place` of orders 0, 1, 2; so on each axis.
 
 // s^o of end b, s = 1 - 2b: order 1 of the high end changes its sign.
@@ -33,29 +37,30 @@ fn sign(b: usize, o: usize) -> i64
 }
 
 // The coefficient of order o of end b: d * b, (d - 2) * b + 1, (d - 4) * b + 2.
-pub fn place(m: usize, b: usize, o: usize) -> usize
-    requires { (m ≤ 3) × (b < 2) × (o < m) }
-    ensures { (result ≡ coefficient_number m (m * b + o)) × (result < 2 * m) }
+fn place(m: Orders, b: usize, o: usize) -> usize
+    requires { (b < 2) × (o < m.count) }
+    ensures { (result ≡ coefficient_number m.count (m.count * b + o)) × (result < 2 * m.count) }
 {
-    (2 * m - 1 - 2 * o) * b + o
+    (2 * m.count - 1 - 2 * o) * b + o
 }
 
 // The orders along y and z of a row of a block.
 #[derive(Clone, Copy)]
-pub struct Row {
-    pub y: usize,
-    pub z: usize,
+struct Row {
+    y: usize,
+    z: usize,
 }
 
-// The row after this one.
-pub fn next_row(m: usize, o: Row) -> Row
-    requires { (m ≤ 3) × (o.y < m) × (o.z < 3) }
-    ensures { RowOf m (m * o.z + o.y + 1) result }
-{
-    if o.y + 1 < m {
-        return Row { y: o.y + 1, z: o.z };
+impl Row {
+    // Row g of a block.
+    fn of(m: Orders, g: usize) -> Self
+        ensures { RowOf m.count g result }
+    {
+        if m.count == 2 {
+            return Row { y: g % 2, z: g / 2 };
+        }
+        Row { y: g % 3, z: g / 3 }
     }
-    Row { y: 0, z: o.z + 1 }
 }
 
 // The sign of a row of corner c, but for that of the order along x.
@@ -67,11 +72,45 @@ fn row_sign(c: usize, o: Row) -> i64
 }
 
 // Where a row of corner c stands: its coefficients' places but for their number along x.
-pub fn row_place(m: usize, c: usize, o: Row) -> usize
-    requires { (2 ≤ m) × (m ≤ 3) × (c < 8) × (o.y < m) × (o.z < m) }
-    ensures { (result ≤ 252) × ((t : ℕ) → t < m → coefficient_index m c (m * (m * o.z + o.y) + t) ≡ result + coefficient_number m (m * (c % 2) + t)) }
+fn row_place(m: Orders, c: usize, o: Row) -> usize
+    requires { (c < 8) × (o.y < m.count) × (o.z < m.count) }
+    ensures { (result ≤ 210) × ((t : ℕ) → t < m.count → coefficient_index m.count c (m.count * (m.count * o.z + o.y) + t) ≡ result + coefficient_number m.count (m.count * (c % 2) + t)) }
 {
-    2 * m * (place(m, c / 2 % 2, o.y) + 2 * m * place(m, c / 2 / 2, o.z))
+    2 * m.count * (place(m, c / 2 % 2, o.y) + 2 * m.count * place(m, c / 2 / 2, o.z))
+}
+
+// The places of a row's coefficients, from number i of the block on.
+fn place_row(m: Orders, c: usize, g: usize, ps: &mut [u8; 27])
+    requires { (c < 8) × (m.count * g + m.count ≤ 27) × (g < m.count * m.count) × Placed m.count c (m.count * g) ps.old }
+    ensures { Placed m.count c (m.count * g + m.count) ps.new }
+{
+    let p = row_place(m, c, Row::of(m, g));
+    for t in 0..m.count {
+        ps[m.count * g + t] = (p + place(m, c % 2, t)) as u8;
+    }
+}
+
+// The places of the coefficients of r rows of corner c.
+fn place_rows(m: Orders, r: usize, c: usize) -> [u8; 27]
+    requires { (c < 8) × (m.count * r ≤ 27) × (r ≤ m.count * m.count) }
+    ensures { Placed m.count c (m.count * r) result }
+{
+    let mut ps = [0u8; 27];
+    for g in 0..r {
+        place_row(m, c, g, &mut ps);
+    }
+    ps
+}
+
+// The places of the coefficients of corner c, with the degree as a constant.
+pub fn places(b: Block, c: usize) -> [u8; 27]
+    requires { c < 2 ^ b.axes }
+    ensures { Placed b.orders.count c (b.orders.count ^ b.axes) result }
+{
+    if b.orders.count == 2 {
+        return place_rows(Orders::cubic(), b.rows, c);
+    }
+    place_rows(Orders::quintic(), b.rows, c)
 }
 
 // s * x of a sign s.
@@ -86,118 +125,86 @@ fn by_sign(s: i64, x: i64) -> i64
 }
 
 // The numbers of a row from i on, those of even order by s and that of order 1 by t.
-fn sign_row(m: usize, s: i64, t: i64, i: usize, xs: &[i64; 27], zs: &mut [i64; 27])
-    requires le_m { (2 ≤ m) × (m ≤ 3) × (nat_abs s ≡ 1) × (nat_abs t ≡ 1) }
-    requires m_bound { (i + m ≤ 27) × AllWithin (2 ^ 50) m (λ o. at xs.now (i + o)) }
-    ensures { zs.new ≡ scatter m (λ o. i + o) (λ o. pick (eqb o 1) t s *ℤ at xs.now (i + o)) zs.old }
+fn sign_row(m: Orders, s: i64, t: i64, i: usize, xs: &[i64; 27], zs: &mut [i64; 27])
+    requires le_m { (nat_abs s ≡ 1) × (nat_abs t ≡ 1) }
+    requires m_bound { (i + m.count ≤ 27) × AllWithin (2 ^ 50) m.count (λ o. at xs.now (i + o)) }
+    ensures { zs.new ≡ scatter m.count (λ o. i + o) (λ o. pick (eqb o 1) t s *ℤ at xs.now (i + o)) zs.old }
 {
     zs[i] = by_sign(s, xs[i]);
     zs[i + 1] = by_sign(t, xs[i + 1]);
-    if m == 2 {
+    if m.count == 2 {
         return;
     }
     zs[i + 2] = by_sign(s, xs[i + 2]);
 }
 
 // The block of corner c, each number by its sign, row by row.
-pub fn signed(m: usize, n: usize, r: usize, c: usize, xs: &[i64; 27], zs: &mut [i64; 27])
-    requires { Sizes m n r × (c < 2 ^ n) × AllWithin (2 ^ 50) (m ^ n) (at xs.now) × (length zs.old ≡ 27) }
-    ensures { StartsWith (m ^ n) (λ k. block_sign m c k *ℤ at xs.now k) zs.new }
+pub fn signed(b: Block, c: usize, xs: &[i64; 27], zs: &mut [i64; 27])
+    requires { (c < 2 ^ b.axes) × AllWithin (2 ^ 50) (b.orders.count ^ b.axes) (at xs.now) }
+    ensures { StartsWith (b.orders.count ^ b.axes) (λ k. block_sign b.orders.count c k *ℤ at xs.now k) zs.new }
 {
     let x = sign(c % 2, 1);
-    let mut o = Row { y: 0, z: 0 };
-    let mut g: usize = 0;
-    while g < r {
-        let s = row_sign(c, o);
-        sign_row(m, s, s * x, m * g, xs, zs);
-        o = next_row(m, o);
-        g += 1;
+    for g in 0..b.rows {
+        let s = row_sign(c, Row::of(b.orders, g));
+        sign_row(b.orders, s, s * x, b.orders.count * g, xs, zs);
     }
 }
 
 // Three numbers from i on; a third order that is not there is 0.
-fn group_at(m: usize, xs: &[i64; 27], i: usize) -> [i64; 3]
-    requires { (2 ≤ m) × (m ≤ 3) × (i + m ≤ 27) × AllWithin (2 ^ 50) m (λ t. at xs.now (i + t)) }
-    ensures { ((t : ℕ) → t < m → at result t ≡ at xs.now (i + t)) × AllWithin (2 ^ 50) 3 (at result) }
+fn group_at(m: Orders, xs: &[i64; 27], i: usize) -> [i64; 3]
+    requires { (i + m.count ≤ 27) × AllWithin (2 ^ 50) m.count (λ t. at xs.now (i + t)) }
+    ensures { ((t : ℕ) → t < m.count → at result t ≡ at xs.now (i + t)) × AllWithin (2 ^ 50) 3 (at result) }
 {
-    if m == 2 {
+    if m.count == 2 {
         return [xs[i], xs[i + 1], 0];
     }
     [xs[i], xs[i + 1], xs[i + 2]]
 }
 
 // The numbers of group g, each to its row of r results.
-fn put_group(m: usize, r: usize, g: usize, z: [i64; 3], zs: &mut [i64; 27])
-    requires { (m ≤ 3) × (g < r) × (m * r ≤ 27) }
-    ensures { zs.new ≡ scatter m (λ k. r * k + g) (at z) zs.old }
+fn put_group(m: Orders, r: usize, g: usize, z: [i64; 3], zs: &mut [i64; 27])
+    requires { (g < r) × (m.count * r ≤ 27) }
+    ensures { zs.new ≡ scatter m.count (λ k. r * k + g) (at z) zs.old }
 {
-    let mut k: usize = 0;
-    while k < m {
+    for k in 0..m.count {
         zs[r * k + g] = z[k];
-        k += 1;
     }
 }
 
 // One pass: the fastest axis is converted, group by group, and becomes the slowest.
-fn convert_axis(back: bool, m: usize, r: usize, xs: &[i64; 27], zs: &mut [i64; 27])
-    requires le_m { (2 ≤ m) × (m ≤ 3) × (m * r ≤ 27) }
-    requires all_within { AllWithin (2 ^ 50) (m * r) (at xs.now) × (length zs.old ≡ 27) }
-    ensures { StartsWith (m * r) (pass m r (end_rule back m) (at xs.now)) zs.new }
+fn convert_axis(back: bool, m: Orders, r: usize, xs: &[i64; 27], zs: &mut [i64; 27])
+    requires { (m.count * r ≤ 27) × AllWithin (2 ^ 50) (m.count * r) (at xs.now) }
+    ensures { StartsWith (m.count * r) (pass m.count r (end_rule back m.count) (at xs.now)) zs.new }
 {
-    let mut g: usize = 0;
-    while g < r {
-        let z = hermite::convert_end(back, m, group_at(m, xs, m * g));
+    for g in 0..r {
+        let z = hermite::convert_end(back, m, group_at(m, xs, m.count * g));
         put_group(m, r, g, z, zs);
-        g += 1;
     }
 }
 
 // The same with the degree as a constant.
-fn solve_axis(back: bool, m: usize, r: usize, xs: &[i64; 27], zs: &mut [i64; 27])
-    requires le_m { (2 ≤ m) × (m ≤ 3) × (m * r ≤ 27) }
-    requires all_within { AllWithin (2 ^ 50) (m * r) (at xs.now) × (length zs.old ≡ 27) }
-    ensures { StartsWith (m * r) (pass m r (end_rule back m) (at xs.now)) zs.new }
+fn solve_axis(back: bool, m: Orders, r: usize, xs: &[i64; 27], zs: &mut [i64; 27])
+    requires { (m.count * r ≤ 27) × AllWithin (2 ^ 50) (m.count * r) (at xs.now) }
+    ensures { StartsWith (m.count * r) (pass m.count r (end_rule back m.count) (at xs.now)) zs.new }
 {
-    if m == 2 {
-        convert_axis(back, 2, r, xs, zs);
-        return;
+    if m.count == 2 {
+        convert_axis(back, Orders::cubic(), r, xs, zs);
+    } else {
+        convert_axis(back, Orders::quintic(), r, xs, zs);
     }
-    convert_axis(back, 3, r, xs, zs);
 }
 
-// The unsigned solve back of a block along each axis, from `xs` to `zs`.
-pub fn solve_back(m: usize, n: usize, r: usize, xs: &mut [i64; 27], zs: &mut [i64; 27])
-    requires sizes { Sizes m n r × AllWithin (2 ^ 31) (m ^ n) (at xs.old) }
-    requires xs_len { (length xs.old ≡ 27) × (length zs.old ≡ 27) }
-    ensures starts_with { StartsWith (m ^ n) (solved_block true m n (at xs.old)) zs.new }
-    ensures xs_len_2 { (length xs.new ≡ 27) × AllWithin (2 ^ 50) (m ^ n) (at zs.new) }
+// The unsigned solve of a block along each axis, forward or back, from `xs` to `zs`.
+pub fn solve(back: bool, b: Block, xs: &mut [i64; 27], zs: &mut [i64; 27])
+    requires { AllWithin (2 ^ 31) (b.orders.count ^ b.axes) (at xs.old) }
+    ensures starts_with { StartsWith (b.orders.count ^ b.axes) (solved_block back b.orders.count b.axes (at xs.old)) zs.new }
+    ensures within { AllWithin (2 ^ 50) (b.orders.count ^ b.axes) (at zs.new) }
 {
-    if n == 2 {
-        let mut ws = [0i64; 27];
-        solve_axis(true, m, r, xs, &mut ws);
-        solve_axis(true, m, r, &ws, zs);
-        return;
+    solve_axis(back, b.orders, b.rows, xs, zs);
+    for _ in 1..b.axes {
+        *xs = *zs;
+        solve_axis(back, b.orders, b.rows, xs, zs);
     }
-    solve_axis(true, m, r, xs, zs);
-    if n == 1 {
-        return;
-    }
-    solve_axis(true, m, r, zs, xs);
-    solve_axis(true, m, r, xs, zs);
-}
-
-// b^n, of at most three axes.
-pub fn power(b: usize, n: usize) -> usize
-    requires { (b ≤ 6) × (n ≤ 3) }
-    ensures { result ≡ b ^ n }
-{
-    let mut r: usize = 1;
-    let mut i: usize = 0;
-    while i < n {
-        r = r * b;
-        i += 1;
-    }
-    r
 }
 
 // (d+1)^n.
@@ -205,134 +212,38 @@ pub fn coefficient_count(axes: u32, degree: u32) -> usize
     requires { axes ≤ 3 }
     ensures { (result ≡ coefficient_count (orders_of degree) axes) × (result ≤ 216) }
 {
-    power(2 * lattice::orders(degree), axes as usize)
+    let both = 2 * lattice::orders(degree).count;
+    both.pow(axes)
 }
 
-// The first n numbers to the front of `out`.
-pub fn copy_out(n: usize, xs: &[i32; 216], out: &mut [i32])
-    requires { (n ≤ 216) × (n ≤ length out.old) }
-    ensures { out.new ≡ overwrite (tabulate n (at xs.now)) out.old }
+// The numbers of a record to 64 bits.
+fn widen(numbers: &[i32], xs: &mut [i64; 27])
+    requires { length numbers.now ≤ 27 }
+    ensures { StartsWith (length numbers.now) (at numbers.now) xs.new × AllWithin (2 ^ 31) (length numbers.now) (at xs.new) }
 {
-    let mut k: usize = 0;
-    while k < n {
-        out[k] = xs[k];
-        k += 1;
+    for (k, &r) in numbers.iter().enumerate() {
+        xs[k] = r as i64;
     }
 }
 
-// The numbers of a record's row from i on, those of even order by s and that of order 1 by t; a third order that is not there is 0.
-fn row_at(m: usize, s: i64, t: i64, i: usize, records: &[i32]) -> [i64; 3]
-    requires { (2 ≤ m) × (m ≤ 3) × (nat_abs s ≡ 1) × (nat_abs t ≡ 1) × (i + m ≤ length records.now) }
-    ensures { ((o : ℕ) → o < m → at result o ≡ pick (eqb o 1) t s *ℤ at records.now (i + o)) × AllWithin (2 ^ 31) 3 (at result) }
+// The record of corner c, signed and solved along each axis, to `zs`.
+fn block_solve(b: Block, c: usize, numbers: &[i32], xs: &mut [i64; 27], zs: &mut [i64; 27])
+    requires { (c < 2 ^ b.axes) × (length numbers.now ≡ b.orders.count ^ b.axes) }
+    ensures { StartsWith (b.orders.count ^ b.axes) (solved_block false b.orders.count b.axes (λ k. block_sign b.orders.count c k *ℤ at numbers.now k)) zs.new }
 {
-    let f = by_sign(s, records[i] as i64);
-    let d = by_sign(t, records[i + 1] as i64);
-    if m == 2 {
-        return [f, d, 0];
-    }
-    [f, d, by_sign(s, records[i + 2] as i64)]
+    widen(numbers, zs);
+    signed(b, c, zs, xs);
+    solve(false, b, xs, zs);
 }
 
-// The pass along x over the record of corner c from `start` on: each row is signed, and converted.
-fn first_axis(
-    m: usize,
-    n: usize,
-    r: usize,
-    c: usize,
-    start: usize,
-    records: &[i32],
-    zs: &mut [i64; 27],
-)
-    requires { Sizes m n r × (c < 2 ^ n) × (start + m ^ n ≤ length records.now) × (length zs.old ≡ 27) }
-    ensures starts_with { StartsWith (m * r) (pass m r (end_rule false m) (signed_record m c start records.now)) zs.new }
-    ensures all_within { AllWithin (2 ^ 31) (m * r) (signed_record m c start records.now) }
+// The coefficients of corner c, each to its place.
+fn store(b: Block, c: usize, zs: &[i64; 27], out: &mut [i32; 216])
+    requires { (c < 2 ^ b.axes) × AllWithin (2 ^ 30) (b.orders.count ^ b.axes) (at zs.now) }
+    ensures { out.new ≡ scatter (b.orders.count ^ b.axes) (coefficient_index b.orders.count c) (at zs.now) out.old }
 {
-    let along_x = sign(c % 2, 1);
-    let mut o = Row { y: 0, z: 0 };
-    let mut g: usize = 0;
-    while g < r {
-        let s = row_sign(c, o);
-        let z = hermite::convert_end(false, m, row_at(m, s, s * along_x, start + m * g, records));
-        put_group(m, r, g, z, zs);
-        o = next_row(m, o);
-        g += 1;
-    }
-}
-
-// The same with the degree as a constant.
-fn solve_first(
-    m: usize,
-    n: usize,
-    r: usize,
-    c: usize,
-    start: usize,
-    records: &[i32],
-    zs: &mut [i64; 27],
-)
-    requires { Sizes m n r × (c < 2 ^ n) × (start + m ^ n ≤ length records.now) × (length zs.old ≡ 27) }
-    ensures starts_with { StartsWith (m * r) (pass m r (end_rule false m) (signed_record m c start records.now)) zs.new }
-    ensures all_within { AllWithin (2 ^ 31) (m * r) (signed_record m c start records.now) }
-{
-    if m == 2 {
-        first_axis(2, n, r, c, start, records, zs);
-        return;
-    }
-    first_axis(3, n, r, c, start, records, zs);
-}
-
-// The record of corner c from `start` on, signed and solved along each axis, to `zs`.
-fn block_solve(
-    m: usize,
-    n: usize,
-    r: usize,
-    c: usize,
-    start: usize,
-    records: &[i32],
-    xs: &mut [i64; 27],
-    zs: &mut [i64; 27],
-)
-    requires sizes { Sizes m n r × (c < 2 ^ n) × (start + m ^ n ≤ length records.now) }
-    requires xs_len { (length xs.old ≡ 27) × (length zs.old ≡ 27) }
-    ensures { StartsWith (m ^ n) (solved_block false m n (signed_record m c start records.now)) zs.new × (length xs.new ≡ 27) }
-{
-    if n == 2 {
-        solve_first(m, n, r, c, start, records, xs);
-        solve_axis(false, m, r, xs, zs);
-        return;
-    }
-    solve_first(m, n, r, c, start, records, zs);
-    if n == 1 {
-        return;
-    }
-    solve_axis(false, m, r, zs, xs);
-    solve_axis(false, m, r, xs, zs);
-}
-
-// The coefficients of a row from i on, each to its place.
-fn store_row(m: usize, c: usize, o: Row, i: usize, zs: &[i64; 27], out: &mut [i32; 216])
-    requires le_m { (2 ≤ m) × (m ≤ 3) × (c < 8) × (o.y < m) × (o.z < m) × (i ≡ m * (m * o.z + o.y)) }
-    requires m_bound { (i + m ≤ 27) × AllWithin (2 ^ 30) m (λ t. at zs.now (i + t)) × ((t : ℕ) → t < m → coefficient_index m c (i + t) < 216) }
-    ensures { out.new ≡ scatter m (λ t. coefficient_index m c (i + t)) (λ t. at zs.now (i + t)) out.old }
-{
-    let p = row_place(m, c, o);
-    let mut t: usize = 0;
-    while t < m {
-        out[p + place(m, c % 2, t)] = zs[i + t] as i32;
-        t += 1;
-    }
-}
-
-// The coefficients of corner c, row by row.
-fn store(m: usize, n: usize, r: usize, c: usize, zs: &[i64; 27], out: &mut [i32; 216])
-    requires { Sizes m n r × (c < 2 ^ n) × AllWithin (2 ^ 30) (m ^ n) (at zs.now) }
-    ensures { out.new ≡ scatter (m ^ n) (coefficient_index m c) (at zs.now) out.old }
-{
-    let mut o = Row { y: 0, z: 0 };
-    let mut g: usize = 0;
-    while g < r {
-        store_row(m, c, o, m * g, zs, out);
-        o = next_row(m, o);
-        g += 1;
+    let ps = places(b, c);
+    for (k, &p) in ps[..b.size()].iter().enumerate() {
+        out[p as usize] = zs[k] as i32;
     }
 }
 
@@ -350,77 +261,70 @@ fn corner_at(n: usize, i: usize) -> usize
     i / 4 + (2 * (i / 2 % 2) + 4 * (i % 2))
 }
 
-// The first k corners of a cell in turn, each signed, solved and put to its places.
-fn fill(m: usize, n: usize, r: usize, k: usize, l: Layout, records: &[i32], out: &mut [i32; 216])
-    requires sizes { Sizes m n r × Gathered m n l records.now × (k ≤ 2 ^ n) }
-    requires by_index { ((K : ℕ) → at out.old K ≡ pos 0) × (length out.old ≡ 216) }
-    ensures { Filled m n (cell_coefficient m n l records.now) k out.new }
+// The coefficients of the first k corners of a cell of n axes in turn, each signed, solved and put to its places; all other numbers 0.
+pub fn filled(n: usize, k: usize, l: Layout, records: &[i32]) -> [i32; 216]
+    requires { (1 ≤ n) × (n ≤ 3) × (k ≤ 2 ^ n) × Gathered l.orders.count n l records.now }
+    ensures { Filled l.orders.count n (cell_coefficient l.orders.count n l records.now) k result }
 {
+    let b = Block::of(l.orders, n);
+    let mut out = [0i32; 216];
     let mut xs = [0i64; 27];
     let mut zs = [0i64; 27];
-    let mut turn: usize = 0;
-    while turn < k {
-        let c = corner_at(n, turn);
+    for turn in 0..k {
+        let c = corner_at(b.axes, turn);
         let start = cell::corner_start(l, c);
-        block_solve(m, n, r, c, start, records, &mut xs, &mut zs);
-        store(m, n, r, c, &zs, out);
-        turn += 1;
+        let numbers = &records[start..start + b.size()];
+        block_solve(b, c, numbers, &mut xs, &mut zs);
+        store(b, c, &zs, &mut out);
     }
+    out
 }
 
-// The coefficients of the first k corners of a cell of n axes, all other numbers 0.
-pub fn filled(n: usize, k: usize, l: Layout, records: &[i32]) -> [i32; 216]
-    requires { (2 ≤ l.orders) × (l.orders ≤ 3) × (1 ≤ n) × (n ≤ 3) × (k ≤ 2 ^ n) × Gathered l.orders n l records.now }
-    ensures { Filled l.orders n (cell_coefficient l.orders n l records.now) k result }
-{
-    let mut xs = [0i32; 216];
-    let m = l.orders;
-    fill(m, n, power(m, n - 1), k, l, records, &mut xs);
-    xs
-}
-
-// 4 and 9.
-fn check_sizes(s: Shape, given: usize, room: usize) -> Check
+// 4, 9 and 14.
+pub fn check_sizes(s: Shape, given: usize, cell: [u32; 3], room: usize) -> Result<(), Refusal>
     requires { Shaped s }
-    ensures { outcome_of result ≡ first (refuse_unless (eqb given (size s)) 4 0) (refuse_unless (leb (coefficient_count (orders s) s.axes) room) 9 0) }
+    ensures { outcome_of result ≡ first (refuse_unless (eqb given (size s)) 4 0) (first (refuse_unless (leb (coefficient_count (orders s) s.axes) room) 9 0) (cell_outcome s (place_at cell))) }
 {
-    let entries = lattice::table_entries(s);
+    lattice::refuse_unless(given == lattice::table_entries(s), Reason::Length, 0)?;
     let count = coefficient_count(s.axes, s.degree);
-    let whole = lattice::refuse_unless(given == entries, 4, 0);
-    lattice::earlier(whole, lattice::refuse_unless(count <= room, 9, 0))
+    lattice::refuse_unless(count <= room, Reason::BufferTooShort, 0)?;
+    cell::check_cell(s.axes, s, cell)
 }
 
 // 1, 2, 3, 26, 4, 9, 14.
-pub fn check_request(t: FullShape, given: usize, cell: [u32; 3], room: usize) -> Check
+pub fn check_request(t: FullShape, given: usize, cell: [u32; 3], room: usize) -> Result<(), Refusal>
     ensures { outcome_of result ≡ request_outcome t given (place_at cell) room }
 {
-    let shape = lattice::check_full(t);
-    if let Check::Refused(_) = shape {
-        return shape;
-    }
-    let sizes = check_sizes(t.shape, given, room);
-    lattice::earlier(
-        sizes,
-        cell::check_cell(t.shape.axes, t.shape, cell[0], cell[1], cell[2]),
-    )
+    lattice::check_full(t)?;
+    check_sizes(t.shape, given, cell, room)
+}
+
+// Where the corner records of a cell stand; 5 where one is beyond its limit.
+pub fn corners_layout(s: Shape, records: &[i32], cell: [u32; 3]) -> Result<Layout, Refusal>
+    requires { Shaped s × (length records.now ≡ size s) × Accepted s (place_at cell) }
+    ensures outcome { check_of result ≡ corners_outcome s records.now (place_at cell) }
+    ensures layout { IfOk result (λ l. Laid s (place_at cell) l × Gathered l.orders.count s.axes l records.now) }
+{
+    let l = cell::layout_of(s, cell);
+    cell::check_corners(s, records, cell, l)?;
+    Ok(l)
 }
 
 // The coefficients of a cell to the front of `out`.
-pub fn coefficients(t: FullShape, records: &[i32], cell: [u32; 3], out: &mut [i32]) -> Check
+pub fn coefficients(
+    t: FullShape,
+    records: &[i32],
+    cell: [u32; 3],
+    out: &mut [i32],
+) -> Result<(), Refusal>
     ensures result_value { outcome_of result ≡ coefficients_outcome t records.now (place_at cell) (length out.old) }
     ensures out_after { out.new ≡ coefficients_writes t records.now (place_at cell) out.old }
 {
-    let asked = check_request(t, records.len(), cell, out.len());
-    if let Check::Refused(_) = asked {
-        return asked;
-    }
-    let l = cell::layout_of(t.shape, cell);
-    let tested = cell::check_corners(t.shape, records, cell, l);
-    if let Check::Refused(_) = tested {
-        return tested;
-    }
+    check_request(t, records.len(), cell, out.len())?;
+    let l = corners_layout(t.shape, records, cell)?;
     let n = t.shape.axes as usize;
-    let xs = filled(n, power(2, n), l, records);
-    copy_out(coefficient_count(t.shape.axes, t.shape.degree), &xs, out);
-    tested
+    let xs = filled(n, 1 << n, l, records);
+    let count = coefficient_count(t.shape.axes, t.shape.degree);
+    out[..count].copy_from_slice(&xs[..count]);
+    Ok(())
 }

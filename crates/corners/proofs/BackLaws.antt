@@ -9,7 +9,6 @@ use native.Mathlib.Omega.{arith}
 use borrow.Author.Count.{below_more}
 use lib.IntN.{ℤ, pos, ◌*ℤ◌, nat_abs}
 use lib.ListN.{length, set, length-set}
-use lib.Signed.{non_neg}
 use Rattle.arith.specs.Int.{floor_div}
 use Rattle.arith.specs.Sum.{total}
 use Rattle.arith.proofs.Sums.{total_ext}
@@ -21,7 +20,7 @@ use Rattle.lattice.specs.Records.{total_order, sample_limit, entry_limit}
 use Rattle.lattice.proofs.BufferLaws.{fill}
 use Rattle.lattice.proofs.DigitsLaws.{digit-below, low_digit, next-group}
 use Rattle.lattice.proofs.OutcomeLaws.{first_of-same, first_of-rows}
-use Rattle.cell.specs.Cell.{limit_of, limit_in, Limits}
+use Rattle.cell.specs.Cell.{limit_of, limit_in}
 use Rattle.cell.specs.Coefficients.{coefficient_count}
 use Rattle.cell.specs.Corners.{corner_numbers}
 use Rattle.cell.proofs.CornerLaws.{digits-total}
@@ -53,9 +52,6 @@ module _ {m n r : ℕ} (ok : Sizes m n r) where
   module _ (limits : List ℤ) (table : (e : ℕ) → e < m ^ 3 → at limits e ≡ pos (limit_of m e)) where
     in_table : (k : ℕ) → k < m ^ n → k < m ^ 3
     in_table k l = lt_of_lt_of_le l (pow-le-pow_right {n = m} (orders-some ok) ok.axes-high)
-
-    pub limits-hold : Limits (m ^ n) limits
-    limits-hold k l = ap non_neg (table k (in_table k l))
 
     module _ (cs : List ℤ) (c : ℕ) (hc : c < 2 ^ n) where
       some : 0 < m

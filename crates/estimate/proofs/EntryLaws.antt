@@ -113,11 +113,12 @@ module _ (s : Shape) (xs : List ℤ) where
   g = grid_of s
 
   module _ (some : (a : ℕ) → 0 < orders_on s a) where
-    passed-z : (x y z c : ℕ) → c < g.mz → row_z g xs y z (g.mz * x + c) ≡ along-z c x y z
+    passed-z : (x y z c : ℕ) → c < g.z.orders → row_z g xs y z (g.z.orders * x + c) ≡ along-z c x y z
     unfolding row_z grouped row_start grid_of along-z sample
     passed-z x y z c l = rw (high_digit (orders_on s 2) x c l, low_digit (orders_on s 2) x c l)
 
-    passed-y : (x y z h : ℕ) → h < g.my * g.mz → row_yz g xs y z (g.my * g.mz * x + h) ≡ along-y (h % g.my) (h / g.my) x y z
+    passed-y : (x y z h : ℕ) → h < g.y.orders * g.z.orders → row_yz g xs y z (g.y.orders * g.z.orders * x + h) ≡ along-y (h % g.y.orders)
+        (h / g.y.orders) x y z
     unfolding row_yz grouped grid_of along-y
     passed-y x y z h l =
         let k : h / orders_on s 1 < orders_on s 2 = high-below (some 1) l in
@@ -125,7 +126,8 @@ module _ (s : Shape) (xs : List ℤ) where
         (ap (λ (f : ℕ → ℤ). orders_at (count s 1) f y (h % orders_on s 1)) (fun_ext (λ v. passed-z x v z (h / orders_on s 1) k)))
 
     passed : (x y z e : ℕ) → e < record_size g
-        → row_on g (row_yz g xs y z) (record_size g * x + e) ≡ along-x (e % g.mx) (e / g.mx % g.my) (e / g.mx / g.my) x y z
+        → row_on g (row_yz g xs y z) (record_size g * x + e) ≡ along-x (e % g.x.orders) (e / g.x.orders % g.y.orders)
+        (e / g.x.orders / g.y.orders) x y z
     unfolding row_of grouped grid_of along-x
     passed x y z e l =
         let k : e / orders_on s 0 < orders_on s 1 * orders_on s 2 = high-below (some 0) l in
@@ -202,8 +204,8 @@ module _ (s : Shape) (ok : Shaped s) where
 
     -- the entry at its index is what the passes give
     pub entry-is : (xs : List ℤ) → let g : Grid = grid_of s in
-        table_records s xs (entry_place s i) ≡ row_on g (row_yz g xs (v / g.cx % g.cy) (v / g.cx / g.cy % g.cz))
-        (record_size g * (v % g.cx) + e)
+        table_records s xs (entry_place s i) ≡ row_on g (row_yz g xs (v / g.x.count % g.y.count) (v / g.x.count / g.y.count % g.z.count))
+        (record_size g * (v % g.x.count) + e)
     unfolding digit grid_of
     entry-is xs =
         let k : e / orders_on s 0 / orders_on s 1 < orders_on s 2 = high-below (orders-some 1) (high-below (orders-some 0) below) in

@@ -8,8 +8,9 @@ use native.Mathlib.Decide.{ℕ_discrete}
 use native.Mathlib.Numerals.{add-one}
 use native.Mathlib.Omega.{arith}
 use lib.Dec.{leb, ltb}
-use lib.IntN.{ℤ, nat_abs}
-use lib.ListN.{length}
+use lib.IntN.{ℤ, pos, nat_abs}
+use lib.ListN.{length, take, drop, length-drop}
+use lib.Seq.{length-take-le, get_or-take, get_or-drop}
 use mir.Syntax.{w32}
 use mir.Val.{to_z, of_z}
 use mir.Facts.{to_z-of_z}
@@ -18,21 +19,18 @@ use Rattle.arith.proofs.Abs.{sfits-abs}
 use Rattle.arith.proofs.Choices.{pick_true, pick-false}
 use Rattle.estimate.specs.declared.Grid.{Grid}
 use Rattle.estimate.specs.Estimate.{by_order}
-use Rattle.estimate.specs.Passes.{pass_limit, since, grouped, before, behind, at_border, pass_of, orders_of_row, row_start, row_z, row_yz, node_size, record_size, row_size, plane_size, Read, Grids, Samples}
-use Rattle.lattice.proofs.DigitsLaws.{group-room, pair-in}
+use Rattle.estimate.specs.Passes.{pass_limit, placed, since, grouped, before, behind, at_border, pass_of, orders_of_row, row_start, row_z, row_yz, node_size, record_size, row_size, plane_size, Read, Line, Lines, Grids, Samples}
+use Rattle.lattice.proofs.DigitsLaws.{group-room, pair-in, high-below}
 use Rattle.estimate.proofs.EstimateLaws.{orders-near, orders-size}
+use Rattle.estimate.proofs.PlacedLaws.{placed_same}
+use Rattle.lattice.specs.Buffer.{at}
 
 -- a number read from its bits
-bits : (x : ℤ) → nat_abs x ≤ pass_limit → to_z w32 (of_z w32 x) ≡ x
+pub bits : (x : ℤ) → nat_abs x ≤ 3 * pass_limit → to_z w32 (of_z w32 x) ≡ x
 bits x h = to_z-of_z {w = w32} (sfits-abs x (omega arith))
 
--- a number that is read, and its size
-module _ {xs : List ℤ} {low count : ℕ} (r : Read xs low count) {t : ℕ} (l : t < count) where
-  pub read-value : to_z w32 (of_z w32 (since xs low t)) ≡ since xs low t
-  read-value = bits (since xs low t) (r.small t l)
-
-  pub read_small : nat_abs (to_z w32 (of_z w32 (since xs low t))) ≤ pass_limit
-  read_small = rw read-value (r.small t l)
+pub small-bits : (n : ℕ) (x : ℤ) → n ≤ 3 * pass_limit → nat_abs x ≤ n → nat_abs (to_z w32 (of_z w32 x)) ≤ n
+small-bits n x l h = rw (bits x (le_trans h l)) h
 
 -- ---- the nodes before and behind
 
@@ -91,6 +89,39 @@ pass-is m count i wide rows t = go (ℕ_discrete m 1)
     go (yes e) = one-pass (at_border count i) m e (rows (before i)) (rows i) (rows (behind count i)) t ∙ sym (one-order m e count rows i t)
     go (no k) = sym (orders-near count (λ v. rows v (t / m)) i (t % m) (wide k))
 
+-- ---- parts of a list
+
+-- the n numbers from index a on
+pub record Part (xs : List ℤ) (a n : ℕ) (part : List ℤ) : Type 0 where
+  pub long : length part ≡ n
+  pub same : (t : ℕ) → t < n → at part t ≡ since xs a t
+
+pub part-of : (xs : List ℤ) (a n k : ℕ) {part : List ℤ} → a + n ≤ length xs → k ≡ n → part ≡ take k (drop a xs) → Part xs a n part
+part-of xs a n k l e is =
+    rw (is, e)
+    (record {
+      long = length-take-le n (drop a xs) (omega (arith, length-drop a xs));
+      same = λ t i. get_or-take n (drop a xs) t (pos 0) i ∙ get_or-drop a xs t (pos 0);
+    })
+
+-- the three that a pass reads
+module _ {xs : List ℤ} {u v w n : ℕ} {low mid high : List ℤ} (below : Part xs u n low) (here : Part xs v n mid)
+    (above : Part xs w n high) where
+  pub parts-lines : Read xs u n × Read xs v n × Read xs w n → Lines low mid high
+  parts-lines r = rw here.long (line below r.0, line here r.1, line above r.2)
+    where
+      line : {a : ℕ} {part : List ℤ} → Part xs a n part → Read xs a n → Line n part
+      line p r = record { long = p.long; small = λ t i. rw (p.same t i) (r.small t i) }
+
+  pub parts-pass : (border : Bool) (m : ℕ) (old : List ℤ) {next : List ℤ} → 0 < m
+      → next ≡ placed 0 (m * length mid) (pass_of border m (at low) (at mid) (at high)) old
+      → next ≡ placed 0 (m * n) (pass_of border m (since xs u) (since xs v) (since xs w)) old
+  unfolding grouped
+  parts-pass border m old some e =
+      (rw here.long at e)
+      ∙ placed_same 0 (m * n) (pass_of border m (at low) (at mid) (at high)) (pass_of border m (since xs u) (since xs v) (since xs w)) old
+      (λ t i. let q : t / m < n = high-below some i in rw (below.same (t / m) q, here.same (t / m) q, above.same (t / m) q) refl)
+
 -- ---- rows
 
 module _ (g : Grid) (ok : Grids g) where
@@ -106,27 +137,31 @@ module _ (g : Grid) (ok : Grids g) where
   pub plane-high : plane_size g ≤ 110592
   plane-high = mul-le-mul row-high ok.y-high
 
-  pub row-z-high : g.mz * g.cx ≤ 192
+  pub row-z-high : g.z.orders * g.x.count ≤ 192
   row-z-high = mul-le-mul ok.mz.1 ok.x-high
 
-  pub row-yz-high : g.my * (g.mz * g.cx) ≤ 576
+  pub row-yz-high : g.y.orders * (g.z.orders * g.x.count) ≤ 576
   row-yz-high = mul-le-mul ok.my.1 row-z-high
 
-row_in : (g : Grid) (xs : List ℤ) (y z : ℕ) → Samples g xs → y < g.cy → z < g.cz → row_start g y z + g.cx ≤ length xs
+pub row_in : (g : Grid) (xs : List ℤ) (y z : ℕ) → Samples g xs → y < g.y.count → z < g.z.count → row_start g y z + g.x.count ≤ length xs
 unfolding row_start
 row_in g xs y z ok h k = rw ok.whole
-    (group-room g.cx (y + g.cy * z) (g.cy * g.cz) (omega (arith, pair-in g.cy z y h g.cz k)))
+    (group-room g.x.count (y + g.y.count * z) (g.y.count * g.z.count) (omega (arith, pair-in g.y.count z y h g.z.count k)))
 
-pub row_read : (g : Grid) (xs : List ℤ) (y z : ℕ) → Samples g xs → y < g.cy → z < g.cz → Read xs (row_start g y z) g.cx
+pub row_read : (g : Grid) (xs : List ℤ) (y z : ℕ) → Samples g xs → y < g.y.count → z < g.z.count → Read xs (row_start g y z) g.x.count
 row_read g xs y z ok h k =
     record { inside = row_in g xs y z ok h k; small = λ t l. le_trans (ok.small (row_start g y z + t)) (omega arith) }
+
+pub row_part : (g : Grid) (xs : List ℤ) (y z : ℕ) {row : List ℤ} → Samples g xs → y < g.y.count → z < g.z.count
+    → row ≡ take g.x.count (drop (row_start g y z) xs) → Part xs (row_start g y z) g.x.count row
+row_part g xs y z ok h k is = part-of xs (row_start g y z) g.x.count g.x.count (row_in g xs y z ok h k) refl is
 
 -- what a row, worked off along z, and along z and y, is within
 pub row-z-size : (g : Grid) (xs : List ℤ) (y z t : ℕ) → Samples g xs → nat_abs (row_z g xs y z t) ≤ 131072
 unfolding row_z grouped
-row-z-size g xs y z t ok = orders-size g.cz (λ v. since xs (row_start g y v) (t / g.mz)) z (t % g.mz) (λ i. ok.small _)
+row-z-size g xs y z t ok = orders-size g.z.count (λ v. since xs (row_start g y v) (t / g.z.orders)) z (t % g.z.orders) (λ i. ok.small _)
 
 pub row-yz-size : (g : Grid) (xs : List ℤ) (y z t : ℕ) → Samples g xs → nat_abs (row_yz g xs y z t) ≤ pass_limit
 unfolding row_yz grouped
 row-yz-size g xs y z t ok =
-    orders-size g.cy (λ v. row_z g xs v z (t / g.my)) y (t % g.my) (λ i. row-z-size g xs i z (t / g.my) ok)
+    orders-size g.y.count (λ v. row_z g xs v z (t / g.y.orders)) y (t % g.y.orders) (λ i. row-z-size g xs i z (t / g.y.orders) ok)

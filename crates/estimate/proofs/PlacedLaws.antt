@@ -1,14 +1,15 @@
 -- Runs of stores: one run after another is one run, and what stands where; the loop that stores one group of numbers in each turn.
 use mathlib.Core.Path.{◌≡◌, refl, sym, ap, ◌∙◌}
 use mathlib.Core.Logic.{⊎_elim}
-use mathlib.Core.List.{List}
+use mathlib.Core.List.{List, [], ◌∷◌, ◌++◌}
 use Prim.Native.Nat.{ℕ, zero, suc, ◌+◌, ◌-◌, ◌*◌, ◌≤◌, ◌<◌}
 use native.Mathlib.Nat.{add-zero, zero-add, mul-zero, add-suc, add_assoc, eq-or-lt_of_le}
 use native.Mathlib.Numerals.{add-one}
 use native.Mathlib.Omega.{arith}
 use lib.IntN.{ℤ, pos}
-use lib.ListN.{length, length-set}
-use lib.Seq.{get_or-set_same, get_or-set_other}
+use lib.ListN.{length, length-set, length-drop, set, drop, take}
+use lib.Seq.{get_or-set_same, get_or-set_other, length-take-le, set-append_left}
+use borrow.Rule.Slice.PartMut.{mid_of, post_of, put_mid, put_same}
 use Rattle.lattice.specs.Buffer.{at}
 use Rattle.lattice.proofs.BufferLaws.{Filled, filled_none, filled_more}
 use Rattle.lattice.proofs.DigitsLaws.{group-room, high_digit, low_digit}
@@ -71,42 +72,83 @@ pub grouped-at : (m : ℕ) (f : ℕ → ℕ → ℤ) (t o : ℕ) → o < m → g
 unfolding grouped
 grouped-at m f t o l = rw (high_digit m t o l, low_digit m t o l)
 
--- the state of a loop that stores m numbers in each of `count` turns: t turns are done, the next one stores from index p on
-pub record Stored (k m : ℕ) (f : ℕ → ℕ → ℤ) (b : List ℤ) (count t p : ℕ) (out : List ℤ) : Type 0 where
-  pub done : t ≤ count
-  pub place : p ≡ k + m * t
-  pub is : out ≡ placed k (m * t) (grouped m f) b
+-- ---- a part of a slice, written from its front on
 
-pub stored-none : {k m : ℕ} {f : ℕ → ℕ → ℤ} {b : List ℤ} {count : ℕ} → Stored k m f b count 0 k b
+-- a store behind a list in front
+set-append_right : (xs ys : List ℤ) (j : ℕ) (v : ℤ) → set (xs ++ ys) (length xs + j) v ≡ xs ++ set ys j v
+set-append_right [] ys j v = ap (λ (k : ℕ). set ys k v) (zero-add j)
+set-append_right (x ∷ xs) ys j v =
+    let e : suc (length xs) + j ≡ suc (length xs + j) = omega arith in
+    ap (λ (k : ℕ). set (x ∷ (xs ++ ys)) k v) e ∙ ap (λ (zs : List ℤ). x ∷ zs) (set-append_right xs ys j v)
+
+module _ (a k : ℕ) (b : List ℤ) where
+  pub part-length : a + k ≤ length b → length (mid_of a k b) ≡ k
+  part-length l = length-take-le k (drop a b) (omega (arith, length-drop a b))
+
+  -- a store in the part is one in the whole
+  set-part : (ys : List ℤ) (j : ℕ) (v : ℤ) → a ≤ length b → j < length ys
+      → put_mid a k b (set ys j v) ≡ set (put_mid a k b ys) (a + j) v
+  set-part ys j v i l =
+      ap (λ (zs : List ℤ). take a b ++ zs) (sym (set-append_left ys (post_of a k b) j v l))
+      ∙ sym (set-append_right (take a b) (ys ++ post_of a k b) j v)
+      ∙ ap (λ (i : ℕ). set (put_mid a k b ys) (i + j) v) (length-take-le a b i)
+
+  placed-mid : (n : ℕ) (h : ℕ → ℤ) → n ≤ k → a + k ≤ length b → put_mid a k b (placed 0 n h (mid_of a k b)) ≡ placed a n h b
+  unfolding placed
+  placed-mid zero h i l = put_same a k b
+  placed-mid (suc n) h i l =
+      let in-part : n < length (placed 0 n h (mid_of a k b)) = rw (placed-length 0 n h (mid_of a k b), part-length l) (omega arith) in
+      rw (zero-add n)
+      (set-part (placed 0 n h (mid_of a k b)) n (h n) (omega arith) in-part
+      ∙ ap (λ (zs : List ℤ). set zs (a + n) (h n)) (placed-mid n h (omega arith) l))
+
+-- up to index n
+pub placed-head : (n : ℕ) (h : ℕ → ℤ) (b ys : List ℤ) → n ≤ length b → ys ≡ placed 0 n h (take n b) → ys ++ drop n b ≡ placed 0 n h b
+placed-head n h b ys l is = ap (λ (zs : List ℤ). zs ++ drop n b) is ∙ placed-mid 0 n b n h (omega arith) (omega arith)
+
+-- from index a to index e
+pub placed-part : (a e n : ℕ) (h : ℕ → ℤ) (b ys : List ℤ) → e ≡ a + n → e ≤ length b → ys ≡ placed 0 n h (mid_of a (e - a) b)
+    → put_mid a (e - a) b ys ≡ placed a n h b
+placed-part a e n h b ys at_e l is =
+    let k : e - a ≡ n = omega arith in
+    ap (λ (zs : List ℤ). put_mid a (e - a) b zs) is ∙ rw k (placed-mid a n b n h (omega arith) (omega arith))
+
+-- ---- a loop over parts
+
+-- a loop that stores n numbers in each turn, after t turns
+pub record Written (n : ℕ) (f : ℕ → ℕ → ℤ) (b : List ℤ) (t : ℕ) (out : List ℤ) : Type 0 where
+  pub is : out ≡ placed 0 (n * t) (grouped n f) b
+
+pub written-none : {n : ℕ} {f : ℕ → ℕ → ℤ} {b : List ℤ} → Written n f b 0 b
 unfolding placed
-stored-none {k} {m} = record { done = omega arith; place = omega arith; is = rw (mul-zero m) }
+written-none {n} = record { is = rw (mul-zero n) refl }
 
-module _ {k m : ℕ} {f : ℕ → ℕ → ℤ} {b : List ℤ} {count t p : ℕ} {out : List ℤ} (s : Stored k m f b count t p out) where
-  pub stored-length : length out ≡ length b
-  stored-length = ap length s.is ∙ placed-length k (m * t) (grouped m f) b
+module _ {n : ℕ} {f : ℕ → ℕ → ℤ} {b : List ℤ} {t : ℕ} {out : List ℤ} (w : Written n f b t out) where
+  pub written-length : length out ≡ length b
+  written-length = ap length w.is ∙ placed-length 0 (n * t) (grouped n f) b
 
-  pub stored-all : count ≤ t → out ≡ placed k (m * count) (grouped m f) b
-  stored-all l = let e : t ≡ count = omega (arith, s.done) in rw e at s.is
+  pub written-all : {count : ℕ} → t ≡ count → out ≡ placed 0 (n * count) (grouped n f) b
+  written-all e = rw e at w.is
 
   -- one turn more
-  module _ (l : t < count) where
-    pub stored-fits : k + m * count ≤ length b → p + m ≤ length b
-    stored-fits room = omega (arith, s.place, group-room m t count l)
+  pub written_more : {g : ℕ → ℤ} {next : List ℤ} → next ≡ placed (n * t) n g out → ((o : ℕ) → o < n → g o ≡ f t o)
+      → Written n f b (t + 1) next
+  written_more {g} {next} e same =
+      let turn : n * t + n ≡ n * (t + 1) = omega arith in
+      record {
+        is = rw turn at (placed-next 0 (n * t) n (n * t) (grouped n f) g b out next (omega arith) w.is e
+            (λ o l. same o l ∙ sym (grouped-at n f t o l)));
+      }
 
-    pub stored-room : k + m * count ≤ length b → p + m ≤ length out
-    stored-room room = rw stored-length (stored-fits room)
+  -- and its part of the slice
+  module _ {count : ℕ} (l : t < count) (room : n * count ≡ length b) where
+    pub turn-room : n * t + n ≤ length out
+    turn-room = omega (arith, written-length, group-room n t count l)
 
-    pub stored_more : {g : ℕ → ℤ} {next : List ℤ} → next ≡ placed p m g out → ((o : ℕ) → o < m → g o ≡ f t o)
-        → Stored k m f b count (t + 1) (p + m) next
-    stored_more {g} {next} e same =
-        let turn : m * t + m ≡ m * (t + 1) = omega arith in
-        record {
-          done = omega arith;
-          place = omega (arith, s.place);
-          is = rw turn at (placed-next k (m * t) m p (grouped m f) g b out next s.place s.is e
-              (λ o l. same o l ∙ sym (grouped-at m f t o l)));
-        }
+    pub turn-length : n ≡ length (mid_of (n * t) (n * t + n - n * t) out)
+    turn-length = let k : n * t + n - n * t ≡ n = omega arith in rw k (sym (part-length (n * t) n out turn-room))
 
--- what is left of a loop
-pub less-left : {t count : ℕ} → t < count → count - (t + 1) < count - t
-less-left l = omega arith
+    -- written from its front on
+    pub turn_more : {g : ℕ → ℤ} {ys : List ℤ} → ys ≡ placed 0 n g (mid_of (n * t) (n * t + n - n * t) out)
+        → ((o : ℕ) → o < n → g o ≡ f t o) → Written n f b (t + 1) (put_mid (n * t) (n * t + n - n * t) out ys)
+    turn_more {g} {ys} e same = written_more (placed-part (n * t) (n * t + n) n g out ys refl turn-room e) same

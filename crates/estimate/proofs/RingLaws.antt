@@ -34,18 +34,18 @@ pub record Three (g : Grid) (xs : List ℤ) (u y v z : ℕ) (b : List ℤ) (low 
 
 module _ {g : Grid} {xs : List ℤ} (ok : Samples g xs) where
   abbrev w : ℕ
-  w = g.mz * g.cx
+  w = g.z.orders * g.x.count
 
   abbrev slot : ℕ → ℕ
   slot v = w * (v % 3)
 
   -- a row of samples that have no orders along z
-  plain : g.mz ≡ 1 → (v z : ℕ) → v < g.cy → z < g.cz → RowStands g xs v z xs (row_start g v z)
+  plain : g.z.orders ≡ 1 → (v z : ℕ) → v < g.y.count → z < g.z.count → RowStands g xs v z xs (row_start g v z)
   unfolding row_z row_start
   plain e v z i l =
       record {
-        inside = rw (e, one-mul g.cx) (row_read g xs v z ok i l).inside;
-        same = λ t h. sym (one-order g.mz e g.cz (λ k. since xs (row_start g v k)) z t);
+        inside = rw (e, one-mul g.x.count) (row_read g xs v z ok i l).inside;
+        same = λ t h. sym (one-order g.z.orders e g.z.count (λ k. since xs (row_start g v k)) z t);
       }
 
   -- ---- a row is added to the ring
@@ -86,30 +86,30 @@ module _ {g : Grid} {xs : List ℤ} (ok : Samples g xs) where
   reads s = (read s.below, read s.here, read s.above)
 
   -- they stand in samples that have no orders along z
-  pub plain-three : (u y v z : ℕ) → u < g.cy → y < g.cy → v < g.cy → z < g.cz → g.mz ≡ 1
+  pub plain-three : (u y v z : ℕ) → u < g.y.count → y < g.y.count → v < g.y.count → z < g.z.count → g.z.orders ≡ 1
       → Three g xs u y v z xs (row_start g u z) (row_start g y z) (row_start g v z)
   plain-three u y v z in-u in-y in-v in-z e =
       record { below = plain e u z in-u in-z; here = plain e y z in-y in-z; above = plain e v z in-v in-z }
 
-  module _ (u y v : ℕ) {z : ℕ} (low-is : u ≡ before y) (high_is : v ≡ behind g.cy y) where
+  module _ (u y v : ℕ) {z : ℕ} (low-is : u ≡ before y) (high_is : v ≡ behind g.y.count y) where
     -- a pass along y over the three
-    pub made : {low mid high : ℕ} {b next : List ℤ} → Three g xs u y v z b low mid high → (r : List ℤ) → g.my * w ≤ length r
-        → next ≡ placed 0 (g.my * w) (pass_of (at_border g.cy y) g.my (since b low) (since b mid) (since b high)) r
-        → (t : ℕ) → t < g.my * w → at next t ≡ row_yz g xs y z t
+    pub made : {low mid high : ℕ} {b next : List ℤ} → Three g xs u y v z b low mid high → (r : List ℤ) → g.y.orders * w ≤ length r
+        → next ≡ placed 0 (g.y.orders * w) (pass_of (at_border g.y.count y) g.y.orders (since b low) (since b mid) (since b high)) r
+        → (t : ℕ) → t < g.y.orders * w → at next t ≡ row_yz g xs y z t
     unfolding row_yz grouped
     made {low} {mid} {high} {b} s r room e t i =
-        let q : t / g.my < w = high-below ok.grid.my.0 i in
+        let q : t / g.y.orders < w = high-below ok.grid.my.0 i in
         ap (λ (b : List ℤ). at b t) e
-        ∙ placed-front (g.my * w) (pass_of (at_border g.cy y) g.my (since b low) (since b mid) (since b high)) r t i room
-        ∙ rw (s.below.same (t / g.my) q, s.here.same (t / g.my) q, s.above.same (t / g.my) q, low-is, high_is)
-        (pass-is g.my g.cy y ok.grid.y-used (λ v. row_z g xs v z) t)
+        ∙ placed-front (g.y.orders * w) (pass_of (at_border g.y.count y) g.y.orders (since b low) (since b mid) (since b high)) r t i room
+        ∙ rw (s.below.same (t / g.y.orders) q, s.here.same (t / g.y.orders) q, s.above.same (t / g.y.orders) q, low-is, high_is)
+        (pass-is g.y.orders g.y.count y ok.grid.y-used (λ v. row_z g xs v z) t)
 
     -- in the ring they stand once the upper one is added
-    module _ (in-y : y < g.cy) {b next : List ℤ} (long : length b ≡ 576) (ring : Ring g xs y z b)
+    module _ (in-y : y < g.y.count) {b next : List ℤ} (long : length b ≡ 576) (ring : Ring g xs y z b)
         (e : next ≡ placed (slot v) w (row_z g xs v z) b) where
-      stand : (i : ℕ) → NextTo g.cy y i → RowStands g xs i z next (slot i)
+      stand : (i : ℕ) → NextTo g.y.count y i → RowStands g xs i z next (slot i)
       stand i near =
-          let h = rw (← high_is) at (near-behind g.cy y in-y) in
+          let h = rw (← high_is) at (near-behind g.y.count y in-y) in
           ⊎_elim (λ (d : i ≡ v). rw d (added v z b next long e))
           (λ (d : i < v). kept v z b next long e i d (omega (arith, h.high, near.low))
           (ring i near.low (omega (arith, h.high)) near.there))
@@ -118,9 +118,9 @@ module _ {g : Grid} {xs : List ℤ} (ok : Samples g xs) where
       pub ring-three : Three g xs u y v z next (slot u) (slot y) (slot v)
       ring-three =
           record {
-            below = stand u (rw low-is (near_before g.cy y in-y));
+            below = stand u (rw low-is (near_before g.y.count y in-y));
             here = stand y (record { low = omega arith; high = omega arith; there = in-y });
-            above = stand v (rw high_is (near-behind g.cy y in-y));
+            above = stand v (rw high_is (near-behind g.y.count y in-y));
           }
 
       pub ring-next : Ring g xs (y + 1) z next

@@ -2,7 +2,7 @@
 use mathlib.Core.Path.{◌≡◌, refl, sym, ap, ◌∙◌}
 use mathlib.Core.List.{List}
 use Prim.Native.Nat.{ℕ, ◌+◌, ◌*◌, ◌/◌, ◌%◌, ◌≤◌, ◌<◌}
-use native.Mathlib.Nat.{zero-add, mul-le-mul, mul-le-mul_left, mod-lt, div-add-mod, mod-eq_of_lt, div-eq_of_lt, div-div-eq-div-mul}
+use native.Mathlib.Nat.{mul-le-mul, mul-le-mul_left, mod-lt, div-add-mod, mod-eq_of_lt, div-eq_of_lt, div-div-eq-div-mul}
 use native.Mathlib.Decide.{dec_lt}
 use native.Mathlib.Omega.{arith}
 use lib.Dec.{lit<}
@@ -16,25 +16,26 @@ use Rattle.lattice.proofs.ShapeLaws.{nodes-is}
 use Rattle.lattice.proofs.DigitsLaws.{group-room, high-below, high_digit, low_digit}
 use Rattle.estimate.specs.declared.Grid.{Grid}
 use Rattle.estimate.specs.Estimate.{table_records}
-use Rattle.estimate.specs.Passes.{since, grouped, orders_on, grid_of, row_start, row_z, row_yz, node_size, record_size, row_size, row_of, row_on, plane_size, plane_of, planes_of, Read, Rows, Grids, Samples}
+use Rattle.estimate.specs.Passes.{since, grouped, orders_on, grid_of, row_start, row_z, row_yz, node_size, record_size, row_size, row_of, row_on, plane_size, plane_of, planes_of, Line, Rows, Grids, Samples}
 use Rattle.estimate.proofs.EstimateLaws.{orders-same}
 use Rattle.estimate.proofs.PassesLaws.{node-high, row-yz-size, one-order}
 use Rattle.estimate.proofs.EntryLaws.{orders-unused, order-count, record-size, entry-is}
 
 -- ---- one row
 
-pub row_same : (g : Grid) → Grids g → (row other : ℕ → ℤ) → ((t : ℕ) → t < g.my * (g.mz * g.cx) → row t ≡ other t) → (t : ℕ)
+pub row_same : (g : Grid) → Grids g → (row other : ℕ → ℤ) → ((t : ℕ) → t < g.y.orders * (g.z.orders * g.x.count) → row t ≡ other t) →
+    (t : ℕ)
     → t < row_size g → row_on g row t ≡ row_on g other t
 unfolding row_of grouped
 row_same g ok row other same t l =
-    let q : ℕ = t / g.mx in
-    let in-q : q < node_size g * g.cx = high-below ok.mx.0 (omega arith) in
+    let q : ℕ = t / g.x.orders in
+    let in-q : q < node_size g * g.x.count = high-below ok.mx.0 (omega arith) in
     let some : 0 < node_size g = mul-le-mul ok.my.0 ok.mz.0 in
-    orders-same g.cx (λ v. row (node_size g * v + q % node_size g)) (λ v. other (node_size g * v + q % node_size g)) (q / node_size g)
-    (t % g.mx) ok.x-low (high-below some in-q)
-    (λ v l. same _ (omega (arith, group-room (node_size g) v g.cx l, mod-lt q some)))
+    orders-same g.x.count (λ v. row (node_size g * v + q % node_size g)) (λ v. other (node_size g * v + q % node_size g)) (q / node_size g)
+    (t % g.x.orders) ok.x-low (high-below some in-q)
+    (λ v l. same _ (omega (arith, group-room (node_size g) v g.x.count l, mod-lt q some)))
 
-pub rows_in : (g : Grid) → Grids g → Rows g.mx (node_size g) g.cx
+pub rows_in : (g : Grid) → Grids g → Rows g.x.orders (node_size g) g.x.count
 rows_in g ok =
     record {
       orders = ok.mx;
@@ -46,17 +47,17 @@ rows_in g ok =
 
 -- row (y, z), worked off along z and y, is read
 pub row_seen : {g : Grid} {xs : List ℤ} (ok : Samples g xs) (y z : ℕ) {row : List ℤ}
-    → ((t : ℕ) → t < g.my * (g.mz * g.cx) → at row t ≡ row_yz g xs y z t) → g.my * (g.mz * g.cx) ≤ length row
-    → Read row 0 (node_size g * g.cx)
+    → ((t : ℕ) → t < g.y.orders * (g.z.orders * g.x.count) → at row t ≡ row_yz g xs y z t)
+    → g.y.orders * (g.z.orders * g.x.count) ≡ length row → Line (node_size g * g.x.count) row
 row_seen {g} {xs} ok y z {row} is l =
-    record { inside = omega arith; small = λ t i. rw (zero-add t) (rw (is t (omega arith)) (row-yz-size g xs y z t ok)) }
+    record { long = omega arith; small = λ t i. rw (is t (omega arith)) (row-yz-size g xs y z t ok) }
 
 -- one axis: the only row is the samples
-module _ (g : Grid) (xs : List ℤ) (my : g.my ≡ 1) (mz : g.mz ≡ 1) where
+module _ (g : Grid) (xs : List ℤ) (my : g.y.orders ≡ 1) (mz : g.z.orders ≡ 1) where
   line_row : (t : ℕ) → row_yz g xs 0 0 t ≡ at xs t
   unfolding row_yz row_z row_start
   line_row t =
-      one-order g.my my g.cy (λ v. row_z g xs v 0) 0 t ∙ one-order g.mz mz g.cz (λ v. since xs (row_start g 0 v)) 0 t
+      one-order g.y.orders my g.y.count (λ v. row_z g xs v 0) 0 t ∙ one-order g.z.orders mz g.z.count (λ v. since xs (row_start g 0 v)) 0 t
       ∙ ap (at xs) (omega arith)
 
   pub line-rows : Grids g → (t : ℕ) → t < row_size g → row_on g (at xs) t ≡ planes_of g xs t
@@ -103,7 +104,7 @@ module _ (s : Shape) (ok : Shaped s) (xs : List ℤ) where
   grid : Grids g
   grid = grids s ok
 
-  pub planes-size : plane_size g * g.cz ≡ size s
+  pub planes-size : plane_size g * g.z.count ≡ size s
   unfolding size grid_of
   planes-size = rw (nodes-is s, ← record-size s ok) (turn (record_size g) (count s 0) (count s 1) (count s 2))
     where
@@ -134,10 +135,12 @@ module _ (s : Shape) (ok : Shaped s) (xs : List ℤ) where
   pub planes-are : (i : ℕ) → i < size s → planes_of g xs i ≡ table_records s xs (entry_place s i)
   unfolding planes_of plane_of grouped
   planes-are i l =
-      let y = parts (row_size g) g.cy i row-some grid.y-low in
-      let x = parts (record_size g) g.cx i record-some (omega (arith, grid.x-low)) in
-      let z : i / plane_size g ≡ i / record_size g / g.cx / g.cy % g.cz = sym (mod-eq_of_lt (high-below plane-some (rw planes-size l)))
-      ∙ ap (λ (k : ℕ). k % g.cz)
-      (sym (ap (λ (k : ℕ). k / g.cy) (div-div-eq-div-mul i (record_size g) g.cx) ∙ div-div-eq-div-mul i (row_size g) g.cy)) in
-      rw (y.0, y.1, z, ← div-div-eq-div-mul i (record_size g) g.cx, ← div-add-mod (i % row_size g) (record_size g), x.0, x.1)
+      let y = parts (row_size g) g.y.count i row-some grid.y-low in
+      let x = parts (record_size g) g.x.count i record-some (omega (arith, grid.x-low)) in
+      let z : i / plane_size g ≡ i / record_size g / g.x.count / g.y.count % g.z.count = sym (mod-eq_of_lt (high-below plane-some
+      (rw planes-size l)))
+      ∙ ap (λ (k : ℕ). k % g.z.count)
+      (sym (ap (λ (k : ℕ). k / g.y.count) (div-div-eq-div-mul i (record_size g) g.x.count) ∙ div-div-eq-div-mul i
+      (row_size g) g.y.count)) in
+      rw (y.0, y.1, z, ← div-div-eq-div-mul i (record_size g) g.x.count, ← div-add-mod (i % row_size g) (record_size g), x.0, x.1)
       (sym (entry-is s ok i xs))

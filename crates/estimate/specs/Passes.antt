@@ -7,6 +7,7 @@ use Rattle.lattice.specs.declared.Shape.{Shape}
 use Rattle.lattice.specs.Buffer.{at}
 use Rattle.lattice.specs.Shape.{count, orders}
 use Rattle.lattice.specs.Records.{sample_limit}
+use Rattle.estimate.specs.declared.Axis.{Axis}
 use Rattle.estimate.specs.declared.Grid.{Grid}
 use Rattle.estimate.specs.Estimate.{left, right, by_order}
 
@@ -59,41 +60,44 @@ orders_of_row m count rows i = grouped m (λ t. orders_at count (λ v. rows v t)
 unfoldable pub orders_on : Shape → ℕ → ℕ
 orders_on s a = pick (ltb a s.axes) (orders s) 1
 
+abbrev pub axis_of : Shape → ℕ → Axis
+axis_of s a = record { count = count s a; orders = orders_on s a }
+
 unfoldable pub grid_of : Shape → Grid
-grid_of s = record { cx = count s 0; cy = count s 1; cz = count s 2; mx = orders_on s 0; my = orders_on s 1; mz = orders_on s 2 }
+grid_of s = record { x = axis_of s 0; y = axis_of s 1; z = axis_of s 2 }
 
 -- where row (y, z) of the samples starts
 unfoldable pub row_start : Grid → ℕ → ℕ → ℕ
-row_start g y z = g.cx * (y + g.cy * z)
+row_start g y z = g.x.count * (y + g.y.count * z)
 
 -- row (y, z), worked off along z
 unfoldable pub row_z : Grid → List ℤ → ℕ → ℕ → ℕ → ℤ
-row_z g xs y z = orders_of_row g.mz g.cz (λ v. since xs (row_start g y v)) z
+row_z g xs y z = orders_of_row g.z.orders g.z.count (λ v. since xs (row_start g y v)) z
 
 -- and along y
 unfoldable pub row_yz : Grid → List ℤ → ℕ → ℕ → ℕ → ℤ
-row_yz g xs y z = orders_of_row g.my g.cy (λ v. row_z g xs v z) y
+row_yz g xs y z = orders_of_row g.y.orders g.y.count (λ v. row_z g xs v z) y
 
 -- the numbers of one node of a row
 abbrev pub node_size : Grid → ℕ
-node_size g = g.my * g.mz
+node_size g = g.y.orders * g.z.orders
 
 -- the records of a row, `size` numbers at each of `count` nodes: worked off along x
 unfoldable pub row_of : ℕ → ℕ → ℕ → (ℕ → ℤ) → ℕ → ℤ
 row_of m size count row = grouped m (λ q. orders_at count (λ v. row (size * v + q % size)) (q / size))
 
 abbrev pub row_on : Grid → (ℕ → ℤ) → ℕ → ℤ
-row_on g = row_of g.mx (node_size g) g.cx
+row_on g = row_of g.x.orders (node_size g) g.x.count
 
 -- the entries of one record, of the records of one row, and of one plane
 abbrev pub record_size : Grid → ℕ
-record_size g = g.mx * node_size g
+record_size g = g.x.orders * node_size g
 
 abbrev pub row_size : Grid → ℕ
-row_size g = record_size g * g.cx
+row_size g = record_size g * g.x.count
 
 abbrev pub plane_size : Grid → ℕ
-plane_size g = row_size g * g.cy
+plane_size g = row_size g * g.y.count
 
 -- the records of plane z, row after row
 unfoldable pub plane_of : Grid → List ℤ → ℕ → ℕ → ℤ
@@ -118,6 +122,15 @@ pub record Read (xs : List ℤ) (low count : ℕ) : Type 0 where
   pub inside : low + count ≤ length xs
   pub small : (t : ℕ) → t < count → nat_abs (since xs low t) ≤ pass_limit
 
+-- n numbers within the limit
+pub record Line (n : ℕ) (xs : List ℤ) : Type 0 where
+  pub long : length xs ≡ n
+  pub small : (t : ℕ) → t < n → nat_abs (at xs t) ≤ pass_limit
+
+-- the rows that a pass reads
+abbrev pub Lines : List ℤ → List ℤ → List ℤ → Type 0
+Lines low mid high = Line (length mid) low × Line (length mid) mid × Line (length mid) high
+
 -- the ranges of a row
 pub record Rows (m size count : ℕ) : Type 0 where
   pub orders : OrderCount m
@@ -128,28 +141,28 @@ pub record Rows (m size count : ℕ) : Type 0 where
 
 -- the ranges of a grid; an axis with more orders than the value has two nodes
 pub record Grids (g : Grid) : Type 0 where
-  pub x-low : 2 ≤ g.cx
-  pub y-low : 1 ≤ g.cy
-  pub x-high : g.cx ≤ 64
-  pub y-high : g.cy ≤ 64
-  pub z-high : g.cz ≤ 64
-  pub y-used : (g.my ≡ 1 → ⊥) → 2 ≤ g.cy
-  pub z-used : (g.mz ≡ 1 → ⊥) → 2 ≤ g.cz
-  pub mx : OrderCount g.mx
-  pub my : OrderCount g.my
-  pub mz : OrderCount g.mz
+  pub x-low : 2 ≤ g.x.count
+  pub y-low : 1 ≤ g.y.count
+  pub x-high : g.x.count ≤ 64
+  pub y-high : g.y.count ≤ 64
+  pub z-high : g.z.count ≤ 64
+  pub y-used : (g.y.orders ≡ 1 → ⊥) → 2 ≤ g.y.count
+  pub z-used : (g.z.orders ≡ 1 → ⊥) → 2 ≤ g.z.count
+  pub mx : OrderCount g.x.orders
+  pub my : OrderCount g.y.orders
+  pub mz : OrderCount g.z.orders
 
 -- the samples of a grid
 pub record Samples (g : Grid) (xs : List ℤ) : Type 0 where
   pub grid : Grids g
-  pub whole : length xs ≡ g.cx * (g.cy * g.cz)
+  pub whole : length xs ≡ g.x.count * (g.y.count * g.z.count)
   pub small : (i : ℕ) → nat_abs (at xs i) ≤ sample_limit
 
 -- row v of plane z, worked off along z, stands in a list from index k on
 pub record RowStands (g : Grid) (xs : List ℤ) (v z : ℕ) (b : List ℤ) (k : ℕ) : Type 0 where
-  pub inside : k + g.mz * g.cx ≤ length b
-  pub same : (t : ℕ) → t < g.mz * g.cx → since b k t ≡ row_z g xs v z t
+  pub inside : k + g.z.orders * g.x.count ≤ length b
+  pub same : (t : ℕ) → t < g.z.orders * g.x.count → since b k t ≡ row_z g xs v z t
 
 -- row y and the row below it stand in the ring, each at its number's slot
 abbrev pub Ring : Grid → List ℤ → ℕ → ℕ → List ℤ → Type 0
-Ring g xs y z b = (v : ℕ) → y ≤ v + 1 → v ≤ y → v < g.cy → RowStands g xs v z b (g.mz * g.cx * (v % 3))
+Ring g xs y z b = (v : ℕ) → y ≤ v + 1 → v ≤ y → v < g.y.count → RowStands g xs v z b (g.z.orders * g.x.count * (v % 3))

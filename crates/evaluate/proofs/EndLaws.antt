@@ -21,12 +21,13 @@ use Rattle.arith.proofs.Sums.{sum-ext, total_ext}
 use Rattle.lattice.specs.Buffer.{at}
 use Rattle.hermite.specs.declared.Basis.{Basis}
 use Rattle.hermite.specs.declared.Ends.{Ends}
+use Rattle.hermite.specs.declared.Rounded.{Rounded}
 use Rattle.hermite.specs.Hermite.{stage_sum, basis}
-use Rattle.hermite.specs.Stage.{weighted, load}
+use Rattle.hermite.specs.Stage.{weighted, load, shift_of}
 use Rattle.hermite.proofs.HermiteLaws.{stage-linear}
 use Rattle.hermite.proofs.StageLaws.{end-sum}
 use Rattle.evaluate.specs.declared.Axis.{Axis}
-use Rattle.evaluate.specs.Stages.{numbers_at, IsEnd, AreEnds, AtBoth, place_of, all_at, sum_at, worked, cleanly, Prepared, Safe}
+use Rattle.evaluate.specs.Stages.{numbers_at, IsEnd, AreEnds, AtBoth, place_of, all_at, sum_at, worked, cleanly, later, after, clean_after, Reported, Prepared, Safe}
 
 -- ---- a stage of the 2m numbers y, wherever they stand
 
@@ -219,3 +220,13 @@ module _ (m order_stride node_stride : ℕ) where
 pub safe-index : (round : Rounding) (m n : ℕ) (xs : List Axis) (g : ℕ → ℤ) (p : ℕ) → 0 < m → Safe round m n xs g p → p < n
 safe-index round m n [] g p h s = s
 safe-index round m n (x ∷ xs) g p h s = let k = safe-index round m n xs g (p + 0 * x.order) h (s.0 0 h).0 in omega arith
+
+-- what a stage to eighths reports is what follows of the axes with its own
+pub reported-tells : (round : Rounding) (m k : ℕ) (x : Axis) (xs : List Axis) (g : ℕ → ℤ) (p : ℕ) (r : Rounded) → Reported round m k x xs
+    g p r
+    → k ≡ shift_of 0 m (later xs) true → (r.number ≡ after round m (x ∷ xs) g p) × (eqb r.rest 0 ≡ clean_after round m (x ∷ xs) g p)
+unfolding after clean_after
+reported-tells round m k x xs g p r h e = (
+  h.number_is ∙ ap (λ (i : ℕ). worked round i x (after round m xs g) p) e,
+  h.rest-is ∙ ap (λ (i : ℕ). cleanly m i x (after round m xs g) (clean_after round m xs g) p) e,
+)

@@ -10,12 +10,11 @@ use Rattle.arith.specs.Int.{Rounding}
 use Rattle.arith.specs.Choice.{pick}
 use Rattle.arith.proofs.Choices.{clash, by-m, by_2, by-3}
 use Rattle.lattice.specs.Axes.{axes, without}
-use Rattle.hermite.specs.declared.Rounded.{Rounded}
 use Rattle.hermite.specs.Hermite.{steps}
 use Rattle.hermite.proofs.StageLaws.{folds-none, shifted}
 use Rattle.evaluate.specs.declared.Axis.{Axis}
 use Rattle.evaluate.specs.declared.Strides.{Strides}
-use Rattle.evaluate.specs.Stages.{also, beside, Prepared, AllPrepared, Safe, Made, AllSteps, Workable, WorkedOff, Reported, Reports}
+use Rattle.evaluate.specs.Stages.{also, beside, Prepared, AllPrepared, Safe, Made, AllSteps, Workable, WorkedOff}
 
 -- ---- the axes in their working order
 
@@ -90,20 +89,10 @@ module _ (round constant : Rounding) (y x : Axis) (n : ℕ) (g : ℕ → ℤ) (p
       subst (λ (r : Rounding). (AllPrepared k (y ∷ x ∷ []) × (shift ≤ 44)) × Safe r k n (y ∷ x ∷ []) g p) er
       (subst (λ (i : ℕ). (AllPrepared i (y ∷ x ∷ []) × (shift ≤ 44)) × Safe round i n (y ∷ x ∷ []) g p) e (h, s))
 
-  pub reported-as : (shift : ℕ) (r : Rounded) → Reported constant k shift y (x ∷ []) g p r → Reported round m shift y (x ∷ []) g p r
-  reported-as shift r h =
-      subst (λ (i : ℕ). Reported round i shift y (x ∷ []) g p r) (sym e)
-      (subst (λ (f : Rounding). Reported f k shift y (x ∷ []) g p r) (sym er) h)
-
 -- a stage of one axis with m and the order as constants
 module _ (round : Rounding) (a : Strides) (rest : List Strides) (g : ℕ → ℤ) (p m k order c : ℕ) (em : m ≡ k) (eo : order ≡ c) where
   pub workable-as : (n : ℕ) → Workable round m order a rest n g p → Workable round k c a rest n g p
   workable-as n w = subst (λ (i : ℕ). Workable round i c a rest n g p) em (subst (λ (o : ℕ). Workable round m o a rest n g p) eo w)
-
-  pub worked-off-as : (r : Rounded) → WorkedOff k c a rest (Reports round k g p r) → WorkedOff m order a rest (Reports round m g p r)
-  worked-off-as r w =
-      subst (λ (o : ℕ). WorkedOff m o a rest (Reports round m g p r)) (sym eo)
-      (subst (λ (i : ℕ). WorkedOff i c a rest (Reports round i g p r)) (sym em) w)
 
 -- what follows of the stages
 pub worked-off-then : {m order : ℕ} {b : Strides} {rest : List Strides} {Is So : Axis → List Axis → Type 0}

@@ -34,6 +34,10 @@ pub record AreEnds (m : ℕ) (g : ℕ → ℤ) (p order_stride node_stride : ℕ
 abbrev pub AtBoth : ℕ → (ℕ → Type 0) → ℕ → ℕ → ℕ → Type 0
 AtBoth m P p order_stride node_stride = (o : ℕ) → o < m → P (p + o * order_stride) × P (p + node_stride + o * order_stride)
 
+-- what R says of index i is the number g i, and a rest of 0 where c i
+abbrev pub Tells : (ℕ → Rounded → Type 0) → (ℕ → ℤ) → (ℕ → Bool) → ℕ → Type 0
+Tells R g c i = (r : Rounded) → R i r → (r.number ≡ g i) × (eqb r.rest 0 ≡ c i)
+
 -- where number t of two ends stands from the first on: those of the low end, then those of the high one
 unfoldable pub place_of : ℕ → ℕ → ℕ → ℕ → ℕ
 place_of m order_stride node_stride t = pick (ltb t m) (t * order_stride) (node_stride + (t - m) * order_stride)

@@ -1,7 +1,7 @@
 // The stages of a dose, a slope or a curvature in a cell, straight from the records.
 #![tactic(auto)]
 
-ghost use Rattle.std.specs.Prelude.{◌≡◌, true, false, eqb, [], ◌∷◌, ℕ, ◌+◌, ◌*◌, ◌^◌, ◌<◌, ◌≤◌, length, get_or};
+ghost use Rattle.std.specs.Prelude.{◌≡◌, true, false, eqb, [], ◌∷◌, ℕ, ◌+◌, ◌*◌, ◌^◌, ◌<◌, ◌≤◌, length, get_or, Bool, ℤ};
 ghost use Rattle.lattice.specs.Buffer.{at};
 ghost use Rattle.lattice.specs.Records.{records_field};
 ghost use Rattle.arith.specs.Choice.{all};
@@ -10,12 +10,12 @@ ghost use Rattle.hermite.specs.Hermite.{steps};
 ghost use Rattle.hermite.specs.Stage.{Smooth, shift_of};
 ghost use Rattle.cell.specs.Cell.{place_at};
 ghost use Rattle.evaluate.specs.Evaluate.{answer_by, exact_by, ask_at, last_axis};
-ghost use Rattle.evaluate.specs.Wants.{want_of};
-ghost use Rattle.evaluate.specs.Stages.{IsEnd, AreEnds, AtBoth, all_at, worked, cleanly, after, clean_after, Reported, place_of, also, strides_of, of_axis, beside, Made, Prepared, AllPrepared, Safe, Workable, WorkedOff, Reports, Ready};
+ghost use Rattle.evaluate.specs.Wants.{wanted};
+ghost use Rattle.evaluate.specs.Stages.{IsEnd, AreEnds, AtBoth, Tells, all_at, worked, cleanly, after, clean_after, Reported, place_of, also, strides_of, of_axis, beside, Made, Prepared, AllPrepared, Safe, Workable, WorkedOff, Reports, Ready};
 
 use cell::Layout;
 use hermite::{Basis, Ends, Rounded};
-use lattice::Shape;
+use lattice::{Orders, Shape};
 
 // The order of the derivative and its axis; a query for a dose has order 0 and no axis of its own.
 #[derive(Clone, Copy)]
@@ -63,26 +63,51 @@ pub struct Value {
     pub exact: bool,
 }
 
+// What `f` gives of an edition and m, both constants of each call.
+pub fn by_kind<T, F: FnOnce(bool, Orders) -> T>(even: bool, m: Orders, f: F) -> T
+    requires { (n : Orders) → n.count ≡ m.count → F.pre f even n }
+    ensures { (n : Orders) × (n.count ≡ m.count) × F.post f even n result }
+{
+    if even {
+        if m.count == 2 {
+            return f(true, Orders::cubic());
+        }
+        return f(true, Orders::quintic());
+    }
+    if m.count == 2 {
+        return f(false, Orders::cubic());
+    }
+    f(false, Orders::quintic())
+}
+
+// What `f` gives of the order of a derivative, a constant of each call.
+pub fn by_order<T, F: FnOnce(u32) -> T>(order: u32, f: F) -> T
+    requires low { order < 3 }
+    requires callable { F.pre f order }
+    ensures { F.post f order result }
+{
+    if order == 0 {
+        return f(0);
+    }
+    if order == 1 {
+        return f(1);
+    }
+    f(2)
+}
+
 // The stage of an axis whose numbers come and go in units, or in eighths where `from` or `to` is set.
-pub fn axis_of(
-    m: usize,
-    derivative: u32,
-    from: bool,
-    to: bool,
-    step: u32,
-    node: usize,
-    order: usize,
-) -> Axis
-    requires { Smooth derivative m × (2 ≤ m) × (m ≤ 3) × (step ≤ steps) }
-    ensures { Made m derivative from to (strides_of step node order) result }
+// The two flags stay: they are eighths or units at both ends of a stage, as `shift_of` has them.
+pub fn axis_of(m: Orders, derivative: u32, from: bool, to: bool, a: Strides) -> Axis
+    requires { Smooth derivative m.count × (a.step ≤ steps) }
+    ensures { Made m.count derivative from to a result }
 {
     let shift = hermite::shift(derivative, m, from, to);
-    let basis = hermite::basis_at(derivative, m, step);
+    let basis = hermite::basis_at(derivative, m, a.step);
     Axis {
-        shift: shift,
-        basis: basis,
-        node: node,
-        order: order,
+        shift,
+        basis,
+        node: a.node,
+        order: a.order,
     }
 }
 
@@ -94,47 +119,43 @@ fn entry(records: &[i32], i: usize) -> i64
 }
 
 // The numbers of an end, from the records; here and below `order` and `node` are the strides to the next order and node.
-fn end_in(m: usize, records: &[i32], p: usize, order: usize) -> [i64; 3]
-    requires { (2 ≤ m) × (m ≤ 3) × ((o : ℕ) → o < m → p + o * order < length records.now) }
-    ensures { IsEnd m (at records.now) p order result }
+fn end_in(m: Orders, records: &[i32], p: usize, order: usize) -> [i64; 3]
+    requires { (o : ℕ) → o < m.count → p + o * order < length records.now }
+    ensures { IsEnd m.count (at records.now) p order result }
 {
     let a = entry(records, p);
     let b = entry(records, p + order);
-    if m == 2 {
+    if m.count == 2 {
         return [a, b, 0];
     }
     [a, b, entry(records, p + 2 * order)]
 }
 
 // The number after the first stage, from p on; here and below k is the stage's shift, and `even` is set in edition two.
-fn first(even: bool, m: usize, k: u32, x: Axis, records: &[i32], p: usize) -> Rounded
-    requires prepared { Prepared m x × (k ≤ 44) }
-    requires safe { Safe (rounding_of even) m (length records.now) (x ∷ []) (at records.now) p }
-    ensures { Reported (rounding_of even) m k x [] (at records.now) p result }
+fn first(even: bool, m: Orders, k: u32, x: Axis, records: &[i32], p: usize) -> Rounded
+    requires prepared { Prepared m.count x × (k ≤ 44) }
+    requires safe { Safe (rounding_of even) m.count (length records.now) (x ∷ []) (at records.now) p }
+    ensures { Reported (rounding_of even) m.count k x [] (at records.now) p result }
 {
     // A part that starts at p spares the inner sums its addition.
     let here = &records[p..];
     let low = end_in(m, here, 0, x.order);
     let high = end_in(m, here, x.node, x.order);
-    let basis = x.basis;
-    let ends = Ends {
-        low: low,
-        high: high,
-        rest: 0,
-    };
-    hermite::stage(even, m, basis, k, ends)
+    let ends = Ends { low, high, rest: 0 };
+    hermite::stage(even, m.count, x.basis, k, ends)
 }
 
 // The numbers of an end after the first stage.
-fn first_end(even: bool, m: usize, k: u32, x: Axis, records: &[i32], p: usize, order: usize) -> End
-    requires prepared { Prepared m x × (k ≤ 44) }
-    requires by_index { (o : ℕ) → o < m → Safe (rounding_of even) m (length records.now) (x ∷ []) (at records.now) (p + o * order) }
-    ensures end { IsEnd m (worked (rounding_of even) k x (at records.now)) p order result.numbers }
-    ensures rest_value { eqb result.rest 0 ≡ all m (λ o. cleanly m k x (at records.now) (λ i. true) (p + o * order)) }
+fn first_end(even: bool, m: Orders, k: u32, x: Axis, records: &[i32], p: usize, order: usize) -> End
+    requires prepared { Prepared m.count x × (k ≤ 44) }
+    requires by_index { (o : ℕ) → o < m.count → Safe (rounding_of even) m.count (length records.now) (x ∷ []) (at records.now) (p + o * order) }
+    ensures end { IsEnd m.count (worked (rounding_of even) k x (at records.now)) p order result.numbers }
+    ensures rest_value { eqb result.rest 0 ≡ all m.count (λ o. cleanly m.count k x (at records.now) (λ i. true) (p + o * order)) }
 {
+    // Written out: by `two_ends`, tried, a dose of degree 5 takes a quarter longer.
     let a = first(even, m, k, x, records, p);
     let b = first(even, m, k, x, records, p + order);
-    if m == 2 {
+    if m.count == 2 {
         return End {
             numbers: [a.number, b.number, 0],
             rest: b.rest | a.rest,
@@ -150,7 +171,7 @@ fn first_end(even: bool, m: usize, k: u32, x: Axis, records: &[i32], p: usize, o
 // The numbers of two ends after the first stage.
 fn first_ends(
     even: bool,
-    m: usize,
+    m: Orders,
     k: u32,
     x: Axis,
     records: &[i32],
@@ -158,10 +179,10 @@ fn first_ends(
     order: usize,
     node: usize,
 ) -> Ends
-    requires prepared { Prepared m x × (k ≤ 44) }
-    requires at_both { AtBoth m (Safe (rounding_of even) m (length records.now) (x ∷ []) (at records.now)) p order node }
-    ensures are_ends { AreEnds m (worked (rounding_of even) k x (at records.now)) p order node result }
-    ensures rest_value { eqb result.rest 0 ≡ all_at m (cleanly m k x (at records.now) (λ i. true)) p order node }
+    requires prepared { Prepared m.count x × (k ≤ 44) }
+    requires at_both { AtBoth m.count (Safe (rounding_of even) m.count (length records.now) (x ∷ []) (at records.now)) p order node }
+    ensures are_ends { AreEnds m.count (worked (rounding_of even) k x (at records.now)) p order node result }
+    ensures rest_value { eqb result.rest 0 ≡ all_at m.count (cleanly m.count k x (at records.now) (λ i. true)) p order node }
 {
     let low = first_end(even, m, k, x, records, p, order);
     let high = first_end(even, m, k, x, records, p + node, order);
@@ -175,171 +196,157 @@ fn first_ends(
 }
 
 // The number after the second stage.
-pub fn second(even: bool, m: usize, k: u32, y: Axis, x: Axis, records: &[i32], p: usize) -> Rounded
-    requires all_prepared { AllPrepared m (y ∷ x ∷ []) × (k ≤ 44) }
-    requires safe { Safe (rounding_of even) m (length records.now) (y ∷ x ∷ []) (at records.now) p }
-    ensures { Reported (rounding_of even) m k y (x ∷ []) (at records.now) p result }
+pub fn second(even: bool, m: Orders, k: u32, y: Axis, x: Axis, records: &[i32], p: usize) -> Rounded
+    requires all_prepared { AllPrepared m.count (y ∷ x ∷ []) × (k ≤ 44) }
+    requires safe { Safe (rounding_of even) m.count (length records.now) (y ∷ x ∷ []) (at records.now) p }
+    ensures { Reported (rounding_of even) m.count k y (x ∷ []) (at records.now) p result }
 {
     let before = hermite::shift(0, m, false, true);
     let ends = first_ends(even, m, before, x, records, p, y.order, y.node);
-    let basis = y.basis;
-    hermite::stage(even, m, basis, k, ends)
+    hermite::stage(even, m.count, y.basis, k, ends)
 }
 
 // The stages of two axes, m and the edition constants of the call.
-fn both_stages(even: bool, m: usize, z: Axis, x: Axis, records: &[i32], p: usize) -> Rounded
-    requires all_prepared { AllPrepared m (z ∷ x ∷ []) × (z.shift ≤ 44) }
-    requires safe { Safe (rounding_of even) m (length records.now) (z ∷ x ∷ []) (at records.now) p }
-    ensures { Reported (rounding_of even) m z.shift z (x ∷ []) (at records.now) p result }
+fn both_stages(even: bool, m: Orders, z: Axis, x: Axis, records: &[i32], p: usize) -> Rounded
+    requires all_prepared { AllPrepared m.count (z ∷ x ∷ []) × (z.shift ≤ 44) }
+    requires safe { Safe (rounding_of even) m.count (length records.now) (z ∷ x ∷ []) (at records.now) p }
+    ensures { Reported (rounding_of even) m.count z.shift z (x ∷ []) (at records.now) p result }
 {
-    let k = z.shift;
-    if !even {
-        if m == 2 {
-            return second(false, 2, k, z, x, records, p);
-        }
-        return second(false, 3, k, z, x, records, p);
-    }
-    if m == 2 {
-        return second(true, 2, k, z, x, records, p);
-    }
-    second(true, 3, k, z, x, records, p)
+    by_kind(
+        even,
+        m,
+        |even, m| second(even, m, z.shift, z, x, records, p),
+    )
 }
 
-// The stages of three axes but the last, m and the edition constants of the call.
-fn first_stages(even: bool, m: usize, y: Axis, x: Axis, records: &[i32], p: usize) -> Rounded
-    requires all_prepared { AllPrepared m (y ∷ x ∷ []) }
-    requires safe { Safe (rounding_of even) m (length records.now) (y ∷ x ∷ []) (at records.now) p }
-    ensures { Reported (rounding_of even) m (shift_of 0 m true true) y (x ∷ []) (at records.now) p result }
+// The number after the second stage of three.
+fn middle(even: bool, m: Orders, y: Axis, x: Axis, records: &[i32], p: usize) -> Rounded
+    requires all_prepared { AllPrepared m.count (y ∷ x ∷ []) }
+    requires safe { Safe (rounding_of even) m.count (length records.now) (y ∷ x ∷ []) (at records.now) p }
+    ensures { Reported (rounding_of even) m.count (shift_of 0 m.count true true) y (x ∷ []) (at records.now) p result }
 {
-    if !even {
-        if m == 2 {
-            return second(false, 2, hermite::shift(0, 2, true, true), y, x, records, p);
-        }
-        return second(false, 3, hermite::shift(0, 3, true, true), y, x, records, p);
-    }
-    if m == 2 {
-        return second(true, 2, hermite::shift(0, 2, true, true), y, x, records, p);
-    }
-    second(true, 3, hermite::shift(0, 3, true, true), y, x, records, p)
+    second(even, m, hermite::shift(0, m, true, true), y, x, records, p)
+}
+
+// The same, m and the edition constants of the call.
+fn first_stages(even: bool, m: Orders, y: Axis, x: Axis, records: &[i32], p: usize) -> Rounded
+    requires all_prepared { AllPrepared m.count (y ∷ x ∷ []) }
+    requires safe { Safe (rounding_of even) m.count (length records.now) (y ∷ x ∷ []) (at records.now) p }
+    ensures { Reported (rounding_of even) m.count (shift_of 0 m.count true true) y (x ∷ []) (at records.now) p result }
+{
+    by_kind(even, m, |even, m| middle(even, m, y, x, records, p))
 }
 
 // Where number t of two ends stands: those of the low end first.
-pub fn place_at(m: usize, order: usize, node: usize, t: usize) -> usize
-    requires { (t < 2 * m) × (place_of m order node t < 2 ^ 64) }
-    ensures { result ≡ place_of m order node t }
+pub fn place_at(m: Orders, order: usize, node: usize, t: usize) -> usize
+    requires { (t < 2 * m.count) × (place_of m.count order node t < 2 ^ 64) }
+    ensures { result ≡ place_of m.count order node t }
 {
-    if t < m {
+    if t < m.count {
         return t * order;
     }
-    node + (t - m) * order
+    node + (t - m.count) * order
 }
 
-// The numbers of two ends after the second stage.
-fn second_ends(
-    even: bool,
-    m: usize,
-    y: Axis,
-    x: Axis,
-    records: &[i32],
+// The numbers of two ends, each what `number` gives at its index, and what was dropped of them.
+pub fn two_ends<F: Fn(usize) -> Rounded>(
+    m: Orders,
     p: usize,
     order: usize,
     node: usize,
+    number: F,
 ) -> Ends
-    requires all_prepared { AllPrepared m (y ∷ x ∷ []) }
-    requires at_both { AtBoth m (Safe (rounding_of even) m (length records.now) (y ∷ x ∷ []) (at records.now)) p order node }
-    ensures are_ends { AreEnds m (after (rounding_of even) m (y ∷ x ∷ []) (at records.now)) p order node result }
-    ensures rest_value { eqb result.rest 0 ≡ all_at m (clean_after (rounding_of even) m (y ∷ x ∷ []) (at records.now)) p order node }
+    requires fits { AtBoth m.count (λ i. i < 2 ^ 64) p order node }
+    requires callable { AtBoth m.count (F.pre number) p order node }
+    ensures { (g : ℕ → ℤ) (c : ℕ → Bool) → AtBoth m.count (Tells (F.post number) g c) p order node → AreEnds m.count g p order node result × (eqb result.rest 0 ≡ all_at m.count c p order node) }
 {
     let mut n = [0i64; 6];
     let mut rest: u64 = 0;
-    let mut t: usize = 0;
-    while t < 2 * m {
-        let place = place_at(m, order, node, t);
-        let r = first_stages(even, m, y, x, records, p + place);
-        let number = r.number;
-        n[t] = number;
+    for t in 0..2 * m.count {
+        let r = number(p + place_at(m, order, node, t));
+        n[t] = r.number;
         rest = r.rest | rest;
-        t += 1;
     }
-    if m == 2 {
+    if m.count == 2 {
         return Ends {
             low: [n[0], n[1], 0],
             high: [n[2], n[3], 0],
-            rest: rest,
+            rest,
         };
     }
     Ends {
         low: [n[0], n[1], n[2]],
         high: [n[3], n[4], n[5]],
-        rest: rest,
+        rest,
     }
 }
 
 // The number after the third stage.
-fn third(even: bool, m: usize, z: Axis, y: Axis, x: Axis, records: &[i32], p: usize) -> Rounded
-    requires all_prepared { AllPrepared m (z ∷ y ∷ x ∷ []) × (z.shift ≤ 44) }
-    requires safe { Safe (rounding_of even) m (length records.now) (z ∷ y ∷ x ∷ []) (at records.now) p }
-    ensures { Reported (rounding_of even) m z.shift z (y ∷ x ∷ []) (at records.now) p result }
+fn third(even: bool, m: Orders, z: Axis, y: Axis, x: Axis, records: &[i32], p: usize) -> Rounded
+    requires all_prepared { AllPrepared m.count (z ∷ y ∷ x ∷ []) × (z.shift ≤ 44) }
+    requires safe { Safe (rounding_of even) m.count (length records.now) (z ∷ y ∷ x ∷ []) (at records.now) p }
+    ensures { Reported (rounding_of even) m.count z.shift z (y ∷ x ∷ []) (at records.now) p result }
 {
-    let ends = second_ends(even, m, y, x, records, p, z.order, z.node);
-    let basis = z.basis;
-    hermite::stage(even, m, basis, z.shift, ends)
+    let ends = two_ends(
+        m,
+        p,
+        z.order,
+        z.node,
+        |i| first_stages(even, m, y, x, records, i),
+    );
+    hermite::stage(even, m.count, z.basis, z.shift, ends)
 }
 
 // The stage of one axis, to units.
-pub fn one_axis(even: bool, m: usize, order: u32, a: Strides, records: &[i32], p: usize) -> Rounded
-    requires { Workable (rounding_of even) m order a [] (length records.now) (at records.now) p }
-    ensures { WorkedOff m order a [] (Reports (rounding_of even) m (at records.now) p result) }
+pub fn one_axis(even: bool, m: Orders, order: u32, a: Strides, records: &[i32], p: usize) -> Rounded
+    requires { Workable (rounding_of even) m.count order a [] (length records.now) (at records.now) p }
+    ensures { WorkedOff m.count order a [] (Reports (rounding_of even) m.count (at records.now) p result) }
 {
-    let x = axis_of(m, order, false, false, a.step, a.node, a.order);
+    let x = axis_of(m, order, false, false, a);
     first(even, m, x.shift, x, records, p)
 }
 
 // The same, with m and the order constants of the call.
 fn one_axis_by_kind(
     even: bool,
-    m: usize,
+    m: Orders,
     order: u32,
     a: Strides,
     records: &[i32],
     p: usize,
 ) -> Rounded
-    requires { Workable (rounding_of even) m order a [] (length records.now) (at records.now) p }
-    ensures { WorkedOff m order a [] (Reports (rounding_of even) m (at records.now) p result) }
+    requires { Workable (rounding_of even) m.count order a [] (length records.now) (at records.now) p }
+    ensures { WorkedOff m.count order a [] (Reports (rounding_of even) m.count (at records.now) p result) }
 {
-    if m == 2 {
+    // Written out: by closures, tried, a dose of one axis takes a fifth longer.
+    if m.count == 2 {
         if order == 0 {
-            return one_axis(even, 2, 0, a, records, p);
+            return one_axis(even, Orders::cubic(), 0, a, records, p);
         }
-        return one_axis(even, 2, 1, a, records, p);
+        return one_axis(even, Orders::cubic(), 1, a, records, p);
     }
     if order == 0 {
-        return one_axis(even, 3, 0, a, records, p);
+        return one_axis(even, Orders::quintic(), 0, a, records, p);
     }
     if order == 2 {
-        return one_axis(even, 3, 2, a, records, p);
+        return one_axis(even, Orders::quintic(), 2, a, records, p);
     }
-    one_axis(even, 3, 1, a, records, p)
+    one_axis(even, Orders::quintic(), 1, a, records, p)
 }
 
 // The last stage of more than one, the order a constant of the call.
-fn last_stage(m: usize, order: u32, c: Strides) -> Axis
-    requires { Smooth order m × (2 ≤ m) × (m ≤ 3) × (c.step ≤ steps) }
-    ensures { Made m order true false c result }
+fn last_stage(m: Orders, order: u32, c: Strides) -> Axis
+    requires { Smooth order m.count × (c.step ≤ steps) }
+    ensures { Made m.count order true false c result }
 {
-    if order == 0 {
-        return axis_of(m, 0, true, false, c.step, c.node, c.order);
-    }
-    if order == 1 {
-        return axis_of(m, 1, true, false, c.step, c.node, c.order);
-    }
-    axis_of(3, 2, true, false, c.step, c.node, c.order)
+    by_order(order, |order| axis_of(m, order, true, false, c))
 }
 
 // The stages of two or three axes: a, b where there are three, and c.
+// The flag stays: two axes are three without the middle one, as `also` says.
 fn more_axes(
     even: bool,
-    m: usize,
+    m: Orders,
     three: bool,
     order: u32,
     a: Strides,
@@ -348,24 +355,28 @@ fn more_axes(
     records: &[i32],
     p: usize,
 ) -> Rounded
-    requires { Workable (rounding_of even) m order c (also three b (a ∷ [])) (length records.now) (at records.now) p }
-    ensures { WorkedOff m order c (also three b (a ∷ [])) (Reports (rounding_of even) m (at records.now) p result) }
+    requires { Workable (rounding_of even) m.count order c (also three b (a ∷ [])) (length records.now) (at records.now) p }
+    ensures { WorkedOff m.count order c (also three b (a ∷ [])) (Reports (rounding_of even) m.count (at records.now) p result) }
 {
-    let x = axis_of(m, 0, false, true, a.step, a.node, a.order);
+    let x = axis_of(m, 0, false, true, a);
     let z = last_stage(m, order, c);
     if !three {
         return both_stages(even, m, z, x, records, p);
     }
-    let y = axis_of(m, 0, true, true, b.step, b.node, b.order);
+    let y = axis_of(m, 0, true, true, b);
     third(even, m, z, y, x, records, p)
 }
 
 // The axis that is worked off last.
-fn last_axis(n: u32, order: u32, axis: u32) -> u32
+fn last_axis(n: u32, derivative: Derivative) -> u32
     requires { 1 ≤ n }
-    ensures { result ≡ last_axis n (want_of order axis) }
+    ensures { result ≡ last_axis n (wanted derivative) }
 {
-    if order == 0 { n - 1 } else { axis }
+    if derivative.order == 0 {
+        n - 1
+    } else {
+        derivative.axis
+    }
 }
 
 // Three axes in the sequence of work: x, y, z, but for the last.
@@ -395,9 +406,9 @@ fn in_sequence(last: u32, x: Strides, y: Strides, z: Strides) -> Sequence
 }
 
 // The step and the strides of an axis.
-fn strides_of(m: usize, step: [u32; 3], l: Layout, axis: u32) -> Strides
-    requires { (m ≤ 3) × (axis < 3) }
-    ensures { result ≡ strides_of (get_or step axis 0) (get_or l.strides axis 0) (m ^ axis) }
+fn strides_of(m: Orders, step: [u32; 3], l: Layout, axis: u32) -> Strides
+    requires { axis < 3 }
+    ensures { result ≡ strides_of (get_or step axis 0) (get_or l.strides axis 0) (m.count ^ axis) }
 {
     if axis == 0 {
         return Strides {
@@ -410,13 +421,13 @@ fn strides_of(m: usize, step: [u32; 3], l: Layout, axis: u32) -> Strides
         return Strides {
             step: step[1],
             node: l.strides[1],
-            order: m,
+            order: m.count,
         };
     }
     Strides {
         step: step[2],
         node: l.strides[2],
-        order: m * m,
+        order: m.count * m.count,
     }
 }
 
@@ -427,18 +438,17 @@ pub fn on_line(
     records: &[i32],
     cell: [u32; 3],
     step: [u32; 3],
-    order: u32,
-    axis: u32,
+    derivative: Derivative,
     l: Layout,
 ) -> Value
-    requires ready { Ready s records.now (place_at cell) (place_at step) (want_of order axis) l }
+    requires ready { Ready s records.now (place_at cell) (place_at step) (wanted derivative) l }
     requires axes_value { s.axes ≡ 1 }
-    ensures number_value { result.number ≡ answer_by (rounding_of even) (ask_at s (want_of order axis) (place_at cell) (place_at step)) (records_field s records.now) }
-    ensures exact_value { result.exact ≡ exact_by (rounding_of even) (ask_at s (want_of order axis) (place_at cell) (place_at step)) (records_field s records.now) }
+    ensures number_value { result.number ≡ answer_by (rounding_of even) (ask_at s (wanted derivative) (place_at cell) (place_at step)) (records_field s records.now) }
+    ensures exact_value { result.exact ≡ exact_by (rounding_of even) (ask_at s (wanted derivative) (place_at cell) (place_at step)) (records_field s records.now) }
 {
     let m = l.orders;
     let x = strides_of(m, step, l, 0);
-    let r = one_axis_by_kind(even, m, order, x, records, l.base);
+    let r = one_axis_by_kind(even, m, derivative.order, x, records, l.base);
     Value {
         number: r.number as i32,
         exact: r.rest == 0,
@@ -452,18 +462,17 @@ pub fn on_lattice(
     records: &[i32],
     cell: [u32; 3],
     step: [u32; 3],
-    order: u32,
-    axis: u32,
+    derivative: Derivative,
     l: Layout,
 ) -> Value
-    requires ready { Ready s records.now (place_at cell) (place_at step) (want_of order axis) l }
+    requires ready { Ready s records.now (place_at cell) (place_at step) (wanted derivative) l }
     requires le_axes { 2 ≤ s.axes }
-    ensures number_value { result.number ≡ answer_by (rounding_of even) (ask_at s (want_of order axis) (place_at cell) (place_at step)) (records_field s records.now) }
-    ensures exact_value { result.exact ≡ exact_by (rounding_of even) (ask_at s (want_of order axis) (place_at cell) (place_at step)) (records_field s records.now) }
+    ensures number_value { result.number ≡ answer_by (rounding_of even) (ask_at s (wanted derivative) (place_at cell) (place_at step)) (records_field s records.now) }
+    ensures exact_value { result.exact ≡ exact_by (rounding_of even) (ask_at s (wanted derivative) (place_at cell) (place_at step)) (records_field s records.now) }
 {
     let m = l.orders;
     let n = s.axes;
-    let last = last_axis(n, order, axis);
+    let last = last_axis(n, derivative);
     let x = strides_of(m, step, l, 0);
     let y = strides_of(m, step, l, 1);
     let z = strides_of(m, step, l, 2);
@@ -473,7 +482,17 @@ pub fn on_lattice(
     let c = sequence.last;
     let base = l.base;
     // A part that starts at the cell takes one register.
-    let r = more_axes(even, m, n == 3, order, a, b, c, &records[base..], 0);
+    let r = more_axes(
+        even,
+        m,
+        n == 3,
+        derivative.order,
+        a,
+        b,
+        c,
+        &records[base..],
+        0,
+    );
     Value {
         number: r.number as i32,
         exact: r.rest == 0,

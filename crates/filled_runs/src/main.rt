@@ -1,9 +1,9 @@
 // The filled array after k corners for every k, of both degrees and one to three axes: a line of degree, axes, k and all 216 numbers.
 #![tactic(auto)]
 
-ghost use Rattle.std.specs.Prelude.{◌≡◌, ◌<◌, ◌≤◌, length};
+ghost use Rattle.std.specs.Prelude.{◌<◌, ◌≤◌};
 
-use lattice::{Check, FullShape, Shape};
+use lattice::{FullShape, Shape};
 use std::io;
 
 fn less_fifty(r: usize) -> i32
@@ -13,66 +13,36 @@ fn less_fifty(r: usize) -> i32
 }
 
 // Entry i of the corner records is (37 i^2 + 11 i + 5) % 101 - 50.
-fn entries() -> [i32; 216]
-    ensures { length result ≡ 216 }
-{
+fn entries() -> [i32; 216] {
     let mut xs = [0i32; 216];
-    let mut i: usize = 0;
-    while i < 216 {
+    for i in 0..216 {
         xs[i] = less_fifty((37 * i * i + 11 * i + 5) % 101);
-        i += 1;
     }
     xs
 }
 
-fn print_natural<P: Print>(to: &P, n: u64) -> io::Result<()> {
-    if n > 9 {
-        print_natural(to, n / 10)?;
-    }
-    let digit = [48 + (n % 10) as u8];
-    to.write_all(&digit)
-}
-
-fn print_number<P: Print>(to: &P, x: i32) -> io::Result<()> {
-    if x < 0 {
-        to.write_all(b"-")?;
-    }
-    print_natural(to, arith::magnitude(x as i64))
-}
-
 fn print_line<P: Print>(to: &P, s: Shape, k: usize, xs: &[i32; 216]) -> io::Result<()> {
-    print_natural(to, s.degree as u64)?;
-    to.write_all(b" ")?;
-    print_natural(to, s.axes as u64)?;
-    to.write_all(b" ")?;
-    print_natural(to, k as u64)?;
-    to.write_all(b":")?;
-    let mut i: usize = 0;
-    while i < 216 {
-        to.write_all(b" ")?;
-        print_number(to, xs[i])?;
-        i += 1;
+    print!(to; "{} {} {k}:", s.degree, s.axes)?;
+    for x in xs {
+        print!(to; " {x}")?;
     }
-    to.write_all(b"\n")
+    println!(to; "")
 }
 
-// The line of k corners of the table of one cell.
-fn run<P: Print>(to: &P, t: FullShape, k: usize, records: &[i32]) -> io::Result<()> {
+// The numbers of k corners of the table of one cell; none where they are refused.
+fn numbers(t: FullShape, k: usize, records: &[i32]) -> Option<[i32; 216]> {
     let cell = [0u32; 3];
-    let asked = coefficients::check_request(t, records.len(), cell, 216);
-    if let Check::Refused(_) = asked {
-        return Ok(());
-    }
-    let l = cell::layout_of(t.shape, cell);
-    let tested = cell::check_corners(t.shape, records, cell, l);
-    if let Check::Refused(_) = tested {
-        return Ok(());
-    }
+    let Ok(()) = coefficients::check_request(t, records.len(), cell, 216) else {
+        return None;
+    };
+    let Ok(l) = coefficients::corners_layout(t.shape, records, cell) else {
+        return None;
+    };
     let n = t.shape.axes as usize;
-    if k > coefficients::power(2, n) {
-        return Ok(());
+    if k > 1 << n {
+        return None;
     }
-    print_line(to, t.shape, k, &coefficients::filled(n, k, l, records))
+    Some(coefficients::filled(n, k, l, records))
 }
 
 // The lines of a table of one cell, whose corner records have `size` entries.
@@ -80,10 +50,10 @@ fn runs<P: Print>(to: &P, t: FullShape, corners: usize, size: usize) -> io::Resu
     requires { (corners ≤ 8) × (size ≤ 216) }
 {
     let records = entries();
-    let mut k: usize = 0;
-    while k <= corners {
-        run(to, t, k, &records[..size])?;
-        k += 1;
+    for k in 0..=corners {
+        if let Some(xs) = numbers(t, k, &records[..size]) {
+            print_line(to, t.shape, k, &xs)?;
+        }
     }
     Ok(())
 }

@@ -1,5 +1,5 @@
 -- A query by float as the query by position at the held steps, with 10 put for 22 and 23.
-use mathlib.Core.Path.{◌≡◌, refl, sym, ap, ap₂, subst, ◌∙◌, fun_ext}
+use mathlib.Core.Path.{◌≡◌, refl, sym, ap, subst, ◌∙◌, fun_ext}
 use mathlib.Core.Bool.{Bool, true, false, not, ◌&&◌, ◌||◌}
 use mathlib.Core.List.{List, [], ◌∷◌}
 use Prim.Native.Nat.{ℕ, ◌*◌, ◌-◌, ◌^◌, ◌≤◌, ◌<◌}
@@ -25,7 +25,8 @@ use Rattle.lattice.specs.Shape.{count, steps_on, full_outcome}
 use Rattle.lattice.proofs.ShapeLaws.{shaped}
 use Rattle.lattice.proofs.StepLaws.{by-step-number, step_range, full-shape, full-stepped}
 use Rattle.lattice.proofs.OutcomeLaws.{first_done, first-passed, first-after, refused-first, refuse-done, passes, first_of-each}
-use Rattle.floats.specs.declared.FloatStep.{FloatStep}
+use Rattle.std.specs.Prelude.{Option, Some, None}
+use Rattle.std.specs.Option.{is_some}
 use Rattle.floats.specs.Step.{step, power_of, clamped}
 use Rattle.floats.proofs.StepLaws.{within, clamped-within, clamped-zero, clamped-same}
 use Rattle.evaluate.specs.Evaluate.{Want}
@@ -196,36 +197,46 @@ power-is t full a l = go (dec_lt a t.shape.axes)
         ap (λ (N : ℕ). 2 ^ power_of N) ((full-stepped t full).unused a l u)
         ∙ sym (pick-false (ltb a t.shape.axes) (steps_on t a) 256 (le-ltb a t.shape.axes u))
 
--- a float as the code holds it: whether it is finite, and its step in 32 bits of an axis of N steps
-pub record Holds (N : ℕ) (f : FloatStep) (x : Float) : Type 0 where
-  pub finite-is : f.finite ≡ finite x
-  pub step_is : f.step ≡ clamped (step (2 ^ power_of N) x)
+-- a float as the code holds it: its step in 32 bits of an axis of N steps, none where it is not finite
+abbrev pub Holds : ℕ → Option ℤ → Float → Type 0
+Holds N f x = f ≡ pick (finite x) (Some (clamped (step (2 ^ power_of N) x))) None
+
+some-where : (b : Bool) (z : ℤ) → is_some (pick b (Some z) None) ≡ b
+unfolding pick
+some-where true z = refl
+some-where false z = refl
+
+held-where : (b : Bool) (z : ℤ) → held_step (pick b (Some z) None) ≡ pick b z (negsuc 0)
+unfolding pick held_step
+held-where true z = refl
+held-where false z = refl
 
 clamped-mag : (z : ℤ) → mag (clamped z) < 2 ^ 31
 unfolding clamped
 clamped-mag (pos n) = omega arith
 clamped-mag (negsuc n) = omega arith
 
-held-step : (N : ℕ) (f : FloatStep) (x : Float) → Holds N f x → (p : ℤ) → p ≡ held_step f
+held-step : (N : ℕ) (f : Option ℤ) (x : Float) → Holds N f x → (p : ℤ) → p ≡ held_step f
     → to_z w32 (of_z w32 p) ≡ pick (finite x) (clamped (step (2 ^ power_of N) x)) (negsuc 0)
-unfolding held_step
 held-step N f x h p e =
-    let is = e ∙ ap₂ (λ (b : Bool) (z : ℤ). pick b z (negsuc 0)) h.finite-is h.step_is in
+    let z = clamped (step (2 ^ power_of N) x) in
+    let is = e ∙ ap held_step h ∙ held-where (finite x) z in
     element p (subst (λ (z : ℤ). mag z < 2 ^ 31) (sym is)
-    (on-pick (λ (z : ℤ). mag z < 2 ^ 31) (finite x) (clamped (step (2 ^ power_of N) x)) (negsuc 0)
+    (on-pick (λ (z : ℤ). mag z < 2 ^ 31) (finite x) z (negsuc 0)
     (λ b. clamped-mag (step (2 ^ power_of N) x)) (λ b. lit< tt))) ∙ is
 
 -- three steps as the code holds them
 abbrev pub held : ℤ → ℤ → ℤ → List ℤ
 held p q r = to_z w32 (of_z w32 p) ∷ to_z w32 (of_z w32 q) ∷ to_z w32 (of_z w32 r) ∷ []
 
-pub three-held : (t : FullShape) (x : ℕ → Float) (f g h : FloatStep) → Holds (steps_on t 0) f (x 0) → Holds (steps_on t 1) g (x 1)
+pub three-held : (t : FullShape) (x : ℕ → Float) (f g h : Option ℤ) → Holds (steps_on t 0) f (x 0) → Holds (steps_on t 1) g (x 1)
     → Holds (steps_on t 2) h (x 2) → (p q r : ℤ) → p ≡ held_step f → q ≡ held_step g → r ≡ held_step h
     → HeldSteps t x (finite_on f g h) (position_at (held p q r))
 unfolding position_at finite_on pick
 three-held t x f g h i j k p q r u v w =
     record {
-      finite-is = by-3 (λ (a : ℕ). finite_on f g h a ≡ finite (x a)) i.finite-is j.finite-is k.finite-is;
+      finite-is = by-3 (λ (a : ℕ). finite_on f g h a ≡ finite (x a)) (ap is_some i ∙ some-where _ _)
+          (ap is_some j ∙ some-where _ _) (ap is_some k ∙ some-where _ _);
       step_is = λ full. by-3 (λ (a : ℕ). position_at (held p q r) a ≡ pick (finite (x a)) (clamped (step (float_steps t a) (x a)))
           (negsuc 0))
           (held-step (steps_on t 0) f (x 0) i p u ∙ by-own full 0 (omega arith))

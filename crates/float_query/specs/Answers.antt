@@ -1,7 +1,7 @@
--- What a float answer says, for each case of `FloatReading`: a dose or a slope, with the whole number that its float equals, or the number
--- and place of the refusal.
+-- What a float answer says: a dose or a slope, with the whole number that its float equals, or the number and place of the refusal.
 use Rattle.std.proofs.Math.Option.{Option, some}
 use Rattle.std.specs.Prelude.{ℤ}
+use Rattle.lattice.specs.Answers.{number_of}
 use Rattle.lattice.specs.Outcome.{Outcome, done, refused}
 use Rattle.floats.specs.Whole.{whole_of}
 use Rattle.evaluate.specs.Evaluate.{Want, dose, derivative_along}
@@ -16,7 +16,7 @@ pub data FloatValue : Type 0 where
 abbrev pub outcome_of_float : FloatReading → Outcome FloatValue
 outcome_of_float (Dose x) = done (as_dose (whole_of x))
 outcome_of_float (Slope x) = done (as_slope (whole_of x))
-outcome_of_float (Refused r) = refused r.number r.place
+outcome_of_float (Refused r) = refused (number_of r.reason) r.place
 
 -- a whole-number answer, to be held in a float; of the derivatives only slopes are asked for by float
 abbrev pub float_value : Want → ℤ → FloatValue

@@ -1,11 +1,11 @@
 -- Queries by float: each of three floats, in cells, becomes the step nearest to its exact value times its axis's step number, halves up.
-use Rattle.std.specs.Prelude.{Bool, not, ◌&&◌, ◌||◌, List, ℕ, zero, suc, ltb, eqb, Float, ℤ, pos, negsuc}
+use Rattle.std.specs.Prelude.{Bool, not, ◌&&◌, ◌||◌, List, ℕ, zero, suc, ltb, eqb, Float, ℤ, pos, negsuc, Option, Some, None}
 use Rattle.std.specs.Float.Ieee.Scale.{finite}
 use Rattle.arith.specs.Choice.{pick}
 use Rattle.lattice.specs.declared.FullShape.{FullShape}
 use Rattle.lattice.specs.Outcome.{Outcome, Check, refuse_unless, first, first_of}
 use Rattle.lattice.specs.Shape.{steps_on}
-use Rattle.floats.specs.declared.FloatStep.{FloatStep}
+use Rattle.std.specs.Option.{is_some}
 use Rattle.floats.specs.Step.{step}
 use Rattle.evaluate.specs.Evaluate.{Want}
 use Rattle.query.specs.Queries.{Position, asked_outcome, position_outcome, position_cell, position_step, reading}
@@ -38,14 +38,15 @@ by_float t rs want x =
 -- ---- the query by position that answers it
 
 -- the step held in 32 bits of a float, below 0 where it is not finite
-unfoldable pub held_step : FloatStep → ℤ
-held_step f = pick f.finite f.step (negsuc 0)
+unfoldable pub held_step : Option ℤ → ℤ
+held_step (Some z) = z
+held_step None = negsuc 0
 
 -- whether the float on an axis is finite
-unfoldable pub finite_on : FloatStep → FloatStep → FloatStep → ℕ → Bool
-finite_on x y z zero = x.finite
-finite_on x y z (suc zero) = y.finite
-finite_on x y z (suc (suc a)) = z.finite
+unfoldable pub finite_on : Option ℤ → Option ℤ → Option ℤ → ℕ → Bool
+finite_on x y z zero = is_some x
+finite_on x y z (suc zero) = is_some y
+finite_on x y z (suc (suc a)) = is_some z
 
 -- 10 for 22 and 23 on an axis whose float is not finite
 unfoldable pub ten_number : (ℕ → Bool) → ℕ → ℕ → ℕ

@@ -1,18 +1,16 @@
 // Doses and slopes by three float positions, as floats.
 #![tactic(auto)]
 
-ghost use Rattle.std.specs.Prelude.{◌≡◌, ◌||◌, ℕ, ◌<◌, ◌^◌, eqb, ℤ, nat_abs};
+ghost use Rattle.std.specs.Prelude.{◌≡◌, ◌||◌, ℕ, ◌<◌, ◌^◌, eqb, nat_abs};
+ghost use Rattle.lattice.specs.Answers.{number_of};
 ghost use Rattle.lattice.specs.Outcome.{done};
 ghost use Rattle.evaluate.specs.Wants.{wanted, want_of};
-ghost use Rattle.query.specs.Answers.{outcome_of_reading};
-ghost use Rattle.query.specs.Parts.{renumbered};
 ghost use Rattle.float_query.specs.Floats.{floats_at, by_float, held_step, finite_on, ten_number};
-ghost use Rattle.float_query.specs.Answers.{outcome_of_float, in_float};
+ghost use Rattle.float_query.specs.Answers.{outcome_of_float, float_value, in_float};
 
 use evaluate::Derivative;
-use floats::FloatStep;
-use lattice::{FullShape, Refusal};
-use query::{Query, Reading};
+use lattice::{FullShape, Reason, Refusal};
+use query::Query;
 
 // Three positions in cells.
 #[repr(C)]
@@ -23,7 +21,8 @@ pub struct FloatPosition {
     pub z: f32,
 }
 
-#[derive(Clone, Copy)]
+// A dose, a slope or a refusal: the form that docs/DECISIONS.md names under "Forms named by document 01".
+#[derive(Clone, Copy, Debug, PartialEq)]
 pub enum FloatReading {
     Dose(f32),
     Slope(f32),
@@ -31,16 +30,11 @@ pub enum FloatReading {
 }
 
 // A whole-number answer as a float.
-fn in_float(a: Reading, order: u32) -> FloatReading
-    requires { (v : ℤ) → outcome_of_reading a ≡ done v → nat_abs v < 2 ^ 24 }
-    ensures { (axis : ℕ) → outcome_of_float result ≡ in_float (want_of order axis) (outcome_of_reading a) }
+fn in_float(number: i32, order: u32) -> FloatReading
+    requires { nat_abs number < 2 ^ 24 }
+    ensures { (axis : ℕ) → outcome_of_float result ≡ done (float_value (want_of order axis) number) }
 {
-    let v = match a {
-        Reading::Refused(r) => return FloatReading::Refused(r),
-        Reading::Exact(v) => v,
-        Reading::Near(v) => v,
-    };
-    let x = floats::whole(v);
+    let x = floats::whole(number);
     if order == 0 {
         FloatReading::Dose(x)
     } else {
@@ -49,51 +43,49 @@ fn in_float(a: Reading, order: u32) -> FloatReading
 }
 
 // The step of a float, below 0 where the float is not finite.
-fn held_step(f: FloatStep) -> i32
+fn held_step(f: Option<i32>) -> i32
     ensures { result ≡ held_step f }
 {
-    if f.finite { f.step } else { -1 }
+    f.unwrap_or(-1)
 }
 
 // Whether the float on an axis is finite.
-fn finite_on(x: FloatStep, y: FloatStep, z: FloatStep, axis: usize) -> bool
+fn finite_on(x: Option<i32>, y: Option<i32>, z: Option<i32>, axis: usize) -> bool
     ensures { result ≡ finite_on x y z axis }
 {
     if axis == 0 {
-        return x.finite;
+        return x.is_some();
     }
     if axis == 1 {
-        return y.finite;
+        return y.is_some();
     }
-    z.finite
+    z.is_some()
 }
 
 // Whether a refusal is one of a step below 0, which is held for a float that is not finite.
-fn of_below(number: u32) -> bool
-    ensures { result ≡ (eqb number 22 || eqb number 23) }
+fn of_below(reason: Reason) -> bool
+    ensures { result ≡ (eqb (number_of reason) 22 || eqb (number_of reason) 23) }
 {
-    number == 22 || number == 23
+    reason == Reason::PositionBelowZero || reason == Reason::PositionUnusedAxis
 }
 
-// The answer at the steps of three floats: 10 for 22 and 23 where the float is not finite.
-fn with_ten(a: Reading, x: FloatStep, y: FloatStep, z: FloatStep) -> Reading
-    ensures { outcome_of_reading result ≡ renumbered (ten_number (finite_on x y z)) (outcome_of_reading a) }
+// A refusal at the steps of three floats: 10 for 22 and 23 where the float is not finite.
+fn with_ten(r: Refusal, x: Option<i32>, y: Option<i32>, z: Option<i32>) -> Refusal
+    ensures { (number_of result.reason ≡ ten_number (finite_on x y z) (number_of r.reason) r.place) × (result.place ≡ r.place) }
 {
-    match a {
-        Reading::Exact(_) | Reading::Near(_) => a,
-        Reading::Refused(r) => {
-            if of_below(r.number) && !finite_on(x, y, z, r.place) {
-                return Reading::Refused(Refusal {
-                    number: 10,
-                    place: r.place,
-                });
-            }
-            a
-        }
+    let place = r.place;
+    if of_below(r.reason) && !finite_on(x, y, z, place) {
+        return Refusal {
+            reason: Reason::NotFinite,
+            place,
+        };
     }
+    r
 }
 
 // The dose or slope at three floats.
+// Called and not put in, tried: on one axis it takes 12 per cent longer.
+#[inline(always)]
 pub fn at_float(
     t: FullShape,
     records: &[i32],
@@ -107,15 +99,10 @@ pub fn at_float(
     let z = floats::step_of(t.steps[2], p.z);
     let q = Query {
         position: [held_step(x), held_step(y), held_step(z)],
-        derivative: derivative,
+        derivative,
     };
-    // Fields and slices made anew: no wide load waits for their stores.
-    let shape = FullShape {
-        shape: t.shape,
-        steps: t.steps,
-        second_edition: t.second_edition,
-    };
-    let long = records.len();
-    let a = query::at_position(shape, &records[..long], q);
-    in_float(with_ten(a, x, y, z), derivative.order)
+    match query::at_position(t, records, q) {
+        Ok(v) => in_float(v.number, derivative.order),
+        Err(r) => FloatReading::Refused(with_ten(r, x, y, z)),
+    }
 }

@@ -5,9 +5,9 @@ use mathlib.Core.Option.{none, some, none-ne-some, some-injective}
 use Prim.Native.Nat.{ℕ, zero, suc, ◌*◌, ◌/◌, ◌%◌, ◌^◌, ◌<◌}
 use native.Mathlib.Nat.{le_of_lt, mul-one, zero-mul, mul-pos, mul_comm, zero-lt-suc, mul-div_cancel, mul-mod_left, div-add-mod}
 use native.Mathlib.Omega.{arith}
-use lib.Dec.{T, eqb, eqb-suc-zero, le→leb, lt→ltb}
+use lib.Dec.{T, eqb, eqb-suc-zero}
 use lib.IntN.{ℤ, pos, negsuc, nat_abs, ◌*ℤ◌}
-use lib.Ieee.{Float, nan, inf, fin, binary32, up, down, fits, round, of_int, in_float}
+use lib.Ieee.{Float, nan, inf, fin, binary32, up, down, fits, round, of_int}
 use lib.Ieee.Back.{round_whole, whole_unique}
 use lib.Ieee.Exact.{HasValue}
 use lib.Ieee.Fits.{up_pos, down_pos}
@@ -91,8 +91,3 @@ unfolding of_int
 whole_float (pos n) h = of-value (round binary32 false n 1) false n (round_whole binary32 false n (le_of_lt h)) (λ t. absurd (false≢true t))
 whole_float (negsuc n) h =
     of-value (round binary32 true (suc n) 1) true (suc n) (round_whole binary32 true (suc n) (le_of_lt h)) (λ t. zero-lt-suc n)
-
-pub in-float : (v : ℤ) → nat_abs v < 2 ^ 24 → T (in_float binary32 v)
-unfolding in_float
-in-float (pos n) h = le→leb n (2 ^ 24) (le_of_lt h)
-in-float (negsuc n) h = lt→ltb n (2 ^ 24) (omega arith)

@@ -8,6 +8,8 @@ ghost use Rattle.lattice.specs.Buffer.{at};
 ghost use Rattle.hermite.specs.Hermite.{steps, multiplier, mirrored, solved, end_rule, weight, basis};
 ghost use Rattle.hermite.specs.Stage.{Smooth, RowsOn, Folds, weighted, load, shift_of};
 
+use lattice::Orders;
+
 // The number of steps of a cell on each axis that the stages work on.
 pub const STEPS: u32 = 256;
 
@@ -22,35 +24,32 @@ const MULTIPLIERS: [[i64; 3]; 6] = [
 ];
 
 // What coefficient k, counted from an end, takes of the numbers of that end.
-fn row(m: usize, k: usize) -> [i64; 3]
-    requires { (2 ≤ m) × (m ≤ 3) × (k < 3) }
-    ensures { (o : ℕ) → at result o ≡ multiplier m k o }
+fn row(m: Orders, k: usize) -> [i64; 3]
+    requires { k < 3 }
+    ensures { (o : ℕ) → at result o ≡ multiplier m.count k o }
 {
-    if m == 2 {
+    if m.count == 2 {
         return MULTIPLIERS[k];
     }
     MULTIPLIERS[3 + k]
 }
 
 // What the coefficients of an end take of its number of order o.
-fn column(m: usize, o: usize) -> [i64; 3]
-    requires { (2 ≤ m) × (m ≤ 3) × (o < 3) }
-    ensures { (k : ℕ) → k < 3 → at result k ≡ multiplier m k o }
+fn column(m: Orders, o: usize) -> [i64; 3]
+    requires { o < 3 }
+    ensures { (k : ℕ) → k < 3 → at result k ≡ multiplier m.count k o }
 {
-    let a = row(m, 0);
-    let b = row(m, 1);
-    let c = row(m, 2);
-    [a[o], b[o], c[o]]
+    [row(m, 0)[o], row(m, 1)[o], row(m, 2)[o]]
 }
 
 // The products a^(2m - 2 - k) b^k.
-fn products(m: usize, a: i64, b: i64) -> [i64; 3]
-    requires { (2 ≤ m) × (m ≤ 3) × (nat_abs a ≤ 256) × (nat_abs b ≤ 256) }
-    ensures { (k : ℕ) → k < 3 → at result k ≡ a ^ℤ (2 * m - 2 - k) *ℤ b ^ℤ k }
+fn products(m: Orders, a: i64, b: i64) -> [i64; 3]
+    requires { (nat_abs a ≤ 256) × (nat_abs b ≤ 256) }
+    ensures { (k : ℕ) → k < 3 → at result k ≡ a ^ℤ (2 * m.count - 2 - k) *ℤ b ^ℤ k }
 {
     let c = a * a;
     let d = a * b;
-    if m == 2 {
+    if m.count == 2 {
         return [c, d, b * b];
     }
     [c * c, c * d, d * d]
@@ -67,21 +66,18 @@ fn curvature_weights(a: i64, b: i64) -> [i64; 3]
 }
 
 // The first three weights of a derivative, of a dose for order 0, a and b being the distances 256 - u and u.
-fn weights(order: u32, m: usize, a: i64, b: i64) -> [i64; 3]
-    requires { Smooth order m × (2 ≤ m) × (m ≤ 3) × (nat_abs a ≤ 256) × (nat_abs b ≤ 256) }
-    ensures { (k : ℕ) → k < 3 → at result k ≡ weight order a b (2 * m - 1) k }
+fn weights(order: u32, m: Orders, a: i64, b: i64) -> [i64; 3]
+    requires { Smooth order m.count × (nat_abs a ≤ 256) × (nat_abs b ≤ 256) }
+    ensures { (k : ℕ) → k < 3 → at result k ≡ weight order a b (2 * m.count - 1) k }
 {
     if order == 2 {
         return curvature_weights(a, b);
     }
-    let p = products(m, a, b);
-    let x = p[0];
-    let y = p[1];
-    let z = p[2];
+    let [x, y, z] = products(m, a, b);
     if order == 0 {
         return [a * x, a * y, a * z];
     }
-    let d = (2 * m - 1) as i64;
+    let d = (2 * m.count - 1) as i64;
     [0 - d * x, x - (d - 1) * y, 2 * y - (d - 2) * z]
 }
 
@@ -103,30 +99,27 @@ fn by_rows(a: [i64; 3], b: [i64; 3], c: [i64; 3], x: [i64; 3]) -> [i64; 3]
     requires by_index_2 { (o : ℕ) → o < 3 → nat_abs (at x o) ≤ 2 ^ 50 }
     ensures { RowsOn (at a) (at b) (at c) (at x) (at result) }
 {
-    let first = dot(3, a, x);
-    let second = dot(3, b, x);
-    let third = dot(3, c, x);
-    [first, second, third]
+    [dot(3, a, x), dot(3, b, x), dot(3, c, x)]
 }
 
 // What a stage takes of the numbers of the end at distance b, the other end being at distance a; not yet mirrored.
-fn folded(order: u32, m: usize, a: i64, b: i64) -> [i64; 3]
-    requires { Smooth order m × (2 ≤ m) × (m ≤ 3) × (nat_abs a ≤ 256) × (nat_abs b ≤ 256) }
-    ensures { (o : ℕ) → o < 3 → at result o ≡ sum 3 (λ k. multiplier m k o *ℤ weight order a b (2 * m - 1) k) }
+fn folded(order: u32, m: Orders, a: i64, b: i64) -> [i64; 3]
+    requires { Smooth order m.count × (nat_abs a ≤ 256) × (nat_abs b ≤ 256) }
+    ensures { (o : ℕ) → o < 3 → at result o ≡ sum 3 (λ k. multiplier m.count k o *ℤ weight order a b (2 * m.count - 1) k) }
 {
     let w = weights(order, m, a, b);
     by_rows(column(m, 0), column(m, 1), column(m, 2), w)
 }
 
-// The same with the degree as a constant.
-fn end_basis(order: u32, m: usize, a: i64, b: i64) -> [i64; 3]
-    requires { Smooth order m × (2 ≤ m) × (m ≤ 3) × (nat_abs a ≤ 256) × (nat_abs b ≤ 256) }
-    ensures { (o : ℕ) → o < 3 → at result o ≡ sum 3 (λ k. multiplier m k o *ℤ weight order a b (2 * m - 1) k) }
+// The same with m a constant of the call.
+fn end_basis(order: u32, m: Orders, a: i64, b: i64) -> [i64; 3]
+    requires { Smooth order m.count × (nat_abs a ≤ 256) × (nat_abs b ≤ 256) }
+    ensures { (o : ℕ) → o < 3 → at result o ≡ sum 3 (λ k. multiplier m.count k o *ℤ weight order a b (2 * m.count - 1) k) }
 {
-    if m == 2 {
-        return folded(order, 2, a, b);
+    if m.count == 2 {
+        return folded(order, Orders::cubic(), a, b);
     }
-    folded(order, 3, a, b)
+    folded(order, Orders::quintic(), a, b)
 }
 
 // Numbers of the high end: order 1 is subtracted, and a derivative of odd order changes its sign.
@@ -148,43 +141,47 @@ pub struct Basis {
 }
 
 // What a stage takes of the values of both ends together: 2·256^d for a dose, 0 for a derivative.
-fn both_values(order: u32, m: usize) -> i64
-    requires { Smooth order m × (2 ≤ m) × (m ≤ 3) }
-    ensures { ((u : ℕ) → u ≤ steps → basis order m steps u 0 +ℤ basis order m steps u m ≡ result) × (nat_abs result ≤ 2 ^ 41) }
+fn both_values(order: u32, m: Orders) -> i64
+    requires { Smooth order m.count }
+    ensures { ((u : ℕ) → u ≤ steps → basis order m.count steps u 0 +ℤ basis order m.count steps u m.count ≡ result) × (nat_abs result ≤ 2 ^ 41) }
 {
     if order != 0 {
         return 0;
     }
-    if m == 2 { 33554432 } else { 2199023255552 }
+    if m.count == 2 {
+        33554432
+    } else {
+        2199023255552
+    }
 }
 
 // The basis of step u: the table folded into the weights; the high end's value has what the low end's leaves of both.
-pub fn basis_at(order: u32, m: usize, u: u32) -> Basis
-    requires { Smooth order m × (2 ≤ m) × (m ≤ 3) × (u ≤ steps) }
-    ensures { Folds order m u result }
+pub fn basis_at(order: u32, m: Orders, u: u32) -> Basis
+    requires { Smooth order m.count × (u ≤ steps) }
+    ensures { Folds order m.count u result }
 {
     let a = (STEPS - u) as i64;
     let b = u as i64;
     let high = mirror(order, end_basis(order, m, b, a));
     let low = end_basis(order, m, a, b);
     Basis {
-        low: low,
+        low,
         high: [both_values(order, m) - low[0], high[1], high[2]],
     }
 }
 
 // The coefficients of the low end, counted from it, from its numbers.
-fn end_coefficients(m: usize, x: [i64; 3]) -> [i64; 3]
-    requires { (2 ≤ m) × (m ≤ 3) × ((o : ℕ) → o < 3 → nat_abs (at x o) ≤ 2 ^ 50) }
-    ensures { (k : ℕ) → k < 3 → at result k ≡ sum m (λ o. multiplier m k o *ℤ at x o) }
+fn end_coefficients(m: Orders, x: [i64; 3]) -> [i64; 3]
+    requires { (o : ℕ) → o < 3 → nat_abs (at x o) ≤ 2 ^ 50 }
+    ensures { (k : ℕ) → k < 3 → at result k ≡ sum m.count (λ o. multiplier m.count k o *ℤ at x o) }
 {
     by_rows(row(m, 0), row(m, 1), row(m, 2), x)
 }
 
 // And back: its numbers, doubled.
-fn end_numbers(m: usize, y: [i64; 3]) -> [i64; 3]
-    requires { (2 ≤ m) × (m ≤ 3) × ((o : ℕ) → o < 3 → nat_abs (at y o) ≤ 2 ^ 50) }
-    ensures { (o : ℕ) → o < 3 → at result o ≡ solved m (at y) o }
+fn end_numbers(m: Orders, y: [i64; 3]) -> [i64; 3]
+    requires { (o : ℕ) → o < 3 → nat_abs (at y o) ≤ 2 ^ 50 }
+    ensures { (o : ℕ) → o < 3 → at result o ≡ solved m.count (at y) o }
 {
     let b = row(m, 1);
     let c = row(m, 2);
@@ -194,10 +191,11 @@ fn end_numbers(m: usize, y: [i64; 3]) -> [i64; 3]
 }
 
 // By the rows of the low end: its coefficients from its numbers; or back, its numbers, doubled, from these.
-pub fn convert_end(back: bool, m: usize, x: [i64; 3]) -> [i64; 3]
-    requires { (2 ≤ m) × (m ≤ 3) × ((o : ℕ) → o < 3 → nat_abs (at x o) ≤ 2 ^ 50) }
-    ensures { (k : ℕ) → k < 3 → at result k ≡ end_rule back m (at x) k }
+pub fn convert_end(back: bool, m: Orders, x: [i64; 3]) -> [i64; 3]
+    requires { (o : ℕ) → o < 3 → nat_abs (at x o) ≤ 2 ^ 50 }
+    ensures { (k : ℕ) → k < 3 → at result k ≡ end_rule back m.count (at x) k }
 {
+    // The flag stays: both ways are one rule, which a table's passes take by it; two passed functions would say no more.
     if back {
         return end_numbers(m, x);
     }
@@ -226,44 +224,29 @@ pub fn stage(even: bool, m: usize, b: Basis, k: u32, ends: Ends) -> Rounded
     ensures number_value { result.number ≡ rounding_of even (weighted b (at ends.low) (at ends.high)) (2 ^ (k + 1)) }
     ensures rest_value { eqb result.rest 0 ≡ (divides (2 ^ (k + 1)) (weighted b (at ends.low) (at ends.high)) && eqb ends.rest 0) }
 {
-    let from_low = b.low;
-    let from_high = b.high;
-    let low = ends.low;
-    let high = ends.high;
-    let sum = dot(m, from_low, low) + dot(m, from_high, high);
+    let sum = dot(m, b.low, ends.low) + dot(m, b.high, ends.high);
     let rest = arith::dropped(sum, k) | ends.rest;
     let number = arith::rounded(even, sum, k);
-    Rounded {
-        number: number,
-        rest: rest,
-    }
+    Rounded { number, rest }
 }
 
 // The k for which a stage's divisor, 2 times a power of 256, is 2^(k+1).
-fn exponent(order: u32, m: usize) -> u32
-    requires { Smooth order m × (2 ≤ m) × (m ≤ 3) }
-    ensures { result ≡ 8 * (2 * m - 1 - order) }
+fn exponent(order: u32, m: Orders) -> u32
+    requires { Smooth order m.count }
+    ensures { result ≡ 8 * (2 * m.count - 1 - order) }
 {
-    if m == 2 {
+    if m.count == 2 {
         return 24 - 8 * order;
     }
     40 - 8 * order
 }
 
 // The k of a stage whose numbers come and go in units, or in eighths where `from` or `to` is set.
-pub fn shift(order: u32, m: usize, from: bool, to: bool) -> u32
-    requires { Smooth order m × (2 ≤ m) × (m ≤ 3) }
-    ensures { result ≡ shift_of order m from to }
+pub fn shift(order: u32, m: Orders, from: bool, to: bool) -> u32
+    requires { Smooth order m.count }
+    ensures { result ≡ shift_of order m.count from to }
 {
-    let k = exponent(order, m);
-    if from {
-        if to {
-            return k;
-        }
-        return k + 3;
-    }
-    if to {
-        return k - 3;
-    }
-    k
+    let down = if from { 3 } else { 0 };
+    let up = if to { 3 } else { 0 };
+    exponent(order, m) + down - up
 }

@@ -7,12 +7,21 @@ use native.Mathlib.Numerals.{add-one}
 use native.Mathlib.Nat.{le_of_suc-le-suc}
 use native.Mathlib.Omega.{arith}
 use lib.Dec.{eqb}
-use lib.ListN.{length, get_or, take, drop, take-append-drop, drop_of_length-le, length-drop}
+use lib.ListN.{length, get_or, take, drop, take-append-drop, length-drop}
 use lib.Seq.{drop-cons}
-use Rattle.arith.proofs.Choices.{pick_true, pick-false, on-pick, split, clash}
+use borrow.Author.Tests.{ne_eqb}
+use Rattle.std.specs.List.{prefix_len}
+use Rattle.arith.specs.Choice.{pick}
+use Rattle.arith.proofs.Choices.{pick_true, pick-false, on-pick, split}
 use Rattle.import.specs.Bytes.{leading, beyond, leads, skip}
 
 module _ (kind : ℕ → Bool) where
+  -- its length, in the words of the library
+  pub prefix-run : (l : List ℕ) → prefix_len kind l ≡ length (leading kind l)
+  unfolding leading pick
+  prefix-run [] = refl
+  prefix-run (b ∷ bs) = split (kind b) (λ e. rw e (omega (arith, prefix-run bs))) (λ e. rw e refl)
+
   -- the run is the front of the list
   pub leading-front : (l : List ℕ) → (length (leading kind l) ≤ length l) × (take (length (leading kind l)) l ≡ leading kind l)
   unfolding leading
@@ -56,15 +65,6 @@ module _ (kind : ℕ → Bool) where
   -- ---- from byte i on
 
   module _ (l : List ℕ) (i : ℕ) where
-    pub run_end : length l ≤ i → length (leading kind (drop i l)) ≡ 0
-    unfolding leading
-    run_end h = ap (λ (r : List ℕ). length (leading kind r)) (drop_of_length-le l h)
-
-    pub run-stops : i < length l → kind (get_or l i 0) ≡ false → length (leading kind (drop i l)) ≡ 0
-    unfolding leading
-    run-stops h e = rw (drop-cons l i 0 h) (ap length (pick-false (kind (get_or l i 0)) (get_or l i 0 ∷ leading kind (drop (suc i) l)) []
-        e))
-
     pub run_more : i < length l → kind (get_or l i 0) ≡ true → length (leading kind (drop i l)) ≡ suc
         (length (leading kind (drop (i + 1) l)))
     unfolding leading
@@ -84,10 +84,9 @@ module _ (x y : ℕ) where
   leads-first [] h = absurd (omega arith)
   leads-first (b ∷ bs) h = refl
 
-  pub leads-some : (l : List ℕ) → leads x y l ≡ true → 0 < length l
-  unfolding leads
-  leads-some [] e = clash (cc)
-  leads-some (b ∷ bs) e = omega arith
+  pub leads-not : (l : List ℕ) → (0 < length l → (get_or l 0 0 ≡ x → ⊥) × (get_or l 0 0 ≡ y → ⊥)) → leads x y l ≡ false
+  leads-not [] h = leads-none [] refl
+  leads-not (b ∷ bs) h = let k = h (omega arith) in leads-first (b ∷ bs) (omega arith) ∙ rw (ne_eqb b x k.0, ne_eqb b y k.1) refl
 
   pub skip-one : (l : List ℕ) → leads x y l ≡ true → skip x y l ≡ drop 1 l
   unfolding skip

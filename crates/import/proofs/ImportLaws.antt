@@ -12,18 +12,18 @@ use Rattle.arith.proofs.Abs.{abs_neg}
 use Rattle.arith.proofs.Choices.{on-pick}
 use Rattle.lattice.specs.declared.Shape.{Shape}
 use Rattle.lattice.specs.declared.FullShape.{FullShape}
-use Rattle.lattice.specs.Outcome.{Check, done, refused, refuse_unless, first, first_of}
+use Rattle.lattice.specs.Outcome.{Check, done, refuse_unless, first, first_of}
 use Rattle.lattice.specs.Shape.{nodes, full_outcome}
 use Rattle.lattice.specs.Records.{sample_limit}
-use Rattle.lattice.proofs.OutcomeLaws.{first_done, first-passed, refused-first, refuse-done, first_of-each}
+use Rattle.lattice.proofs.OutcomeLaws.{first_done, refuse-done, first_of-each}
 use Rattle.import.specs.declared.Sum.{Sum}
-use Rattle.import.specs.Tokens.{starts_token, token_count, token_at}
+use Rattle.import.specs.Tokens.{token_count}
 use Rattle.import.specs.Grammar.{Number, number_in, fits}
 use Rattle.import.specs.Value.{is_whole, units, sample_of}
 use Rattle.import.specs.Import.{sample_in, token_outcome, sample_outcome, import_outcome}
 use Rattle.import.specs.Parts.{capped, Measured, Taken}
 use Rattle.import.proofs.SumLaws.{capped-or, capped_small}
-use Rattle.import.proofs.TokensLaws.{before, start_is, start-counted}
+use Rattle.import.proofs.ScanLaws.{token}
 
 -- ---- a sample and its size
 
@@ -41,34 +41,32 @@ limit-same v = capped-or v
 -- ---- the tests of a token
 
 module _ (token : List ℕ) (start k : ℕ) where
-  abbrev short : Check
+  abbrev pub short : Check
   short = refuse_unless (leb (length token) 64) 16 start
 
-  abbrev fitting : Check
+  abbrev pub fitting : Check
   fitting = refuse_unless (fits token) 17 start
 
-  abbrev valued : Check
+  abbrev pub valued : Check
   valued = first (refuse_unless (is_whole (number_in token)) 18 start) (refuse_unless (leb (nat_abs (sample_in token)) sample_limit) 5 k)
 
-  pub long-stops : {n p : ℕ} → short ≡ refused n p → token_outcome token start k ≡ refused n p
+  pub token-is : first short (first fitting valued) ≡ token_outcome token start k
   unfolding token_outcome
-  long-stops e = refused-first (first fitting valued) e
-
-  pub misfit-stops : {n p : ℕ} → short ≡ done tt → fitting ≡ refused n p → token_outcome token start k ≡ refused n p
-  unfolding token_outcome
-  misfit-stops e f = first-passed short (first fitting valued) e ∙ refused-first valued f
+  token-is = refl
 
   pub short-passed : short ≡ done tt → length token ≤ 64
   short-passed e = leb-true (length token) 64 (refuse-done (leb (length token) 64) 16 start e)
 
-  pub value-tested : (s : Sum) → Measured (number_in token) s → short ≡ done tt → fitting ≡ done tt
-      → first (refuse_unless s.whole 18 start) (refuse_unless (leb s.value sample_limit) 5 k) ≡ token_outcome token start k
-  unfolding token_outcome
-  value-tested s m e f =
-      ap₂ (λ (x y : Bool). first (refuse_unless x 18 start) (refuse_unless y 5 k)) m.is-whole
+  -- the same of the units that are measured
+  pub measured-is : (s : Sum) → Measured (number_in token) s
+      → first short (first fitting (first (refuse_unless s.whole 18 start) (refuse_unless (leb s.value sample_limit) 5 k)))
+      ≡ token_outcome token start k
+  measured-is s m =
+      ap (λ (o : Check). first short (first fitting o))
+      (ap₂ (λ (x y : Bool). first (refuse_unless x 18 start) (refuse_unless y 5 k)) m.is-whole
       (ap (λ (v : ℕ). leb v sample_limit) m.size ∙ limit-same (units (number_in token))
-      ∙ ap (λ (v : ℕ). leb v sample_limit) (sym (sample-size (number_in token))))
-      ∙ sym (first-passed short (first fitting valued) e ∙ first-passed fitting valued f)
+      ∙ ap (λ (v : ℕ). leb v sample_limit) (sym (sample-size (number_in token)))))
+      ∙ token-is
 
   -- what holds of a token that is not refused
   pub token-facts : token_outcome token start k ≡ done tt
@@ -93,16 +91,14 @@ taken-size token s t m = m.size ∙ capped_small (units (number_in token)) (omeg
 
 -- ---- the tests of a text
 
-module _ (text : List ℕ) (i : ℕ) (l : i < length text) (e : starts_token text i ≡ true) where
-  -- the token that starts at i
-  pub tested_at : sample_outcome text (before text i) ≡ token_outcome (token_at text i) i (before text i)
+module _ (text : List ℕ) (k : ℕ) {x : ℕ × List ℕ} (e : x ≡ token text k) where
+  -- of token k
+  pub tested : {n : ℕ} → n ≡ k → token_outcome x.1 x.0 n ≡ sample_outcome text k
   unfolding sample_outcome
-  tested_at = ap (λ (p : ℕ). token_outcome (token_at text p) p (before text i)) (start_is text i l e)
+  tested f = ap₂ (λ (y : ℕ × List ℕ) (n : ℕ). token_outcome y.1 y.0 n) e f
 
-  pub taken_at : first_of (token_count text) (sample_outcome text) ≡ done tt → Taken (token_at text i)
-  taken_at f =
-      token-taken (token_at text i) i (before text i)
-      (sym tested_at ∙ first_of-each (token_count text) (sample_outcome text) f (before text i) (start-counted text i l e))
+  pub taken-here : k < token_count text → first_of (token_count text) (sample_outcome text) ≡ done tt → Taken x.1
+  taken-here l f = token-taken x.1 x.0 k (tested refl ∙ first_of-each (token_count text) (sample_outcome text) f k l)
 
 -- 4, 9, and the tests of all tokens
 abbrev pub counted : Shape → List ℕ → Check

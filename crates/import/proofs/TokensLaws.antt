@@ -77,10 +77,6 @@ module _ (text : List ℕ) where
   unfolding token_start starts
   start_is i l e = (start-below (length text) i l e).1
 
-  pub before-count : (i : ℕ) → i ≤ length text → before i ≤ token_count text
-  unfolding token_count starts
-  before-count i l = before-upto (length text) i l
-
   pub before-all : (i : ℕ) → i ≡ length text → before i ≡ token_count text
   unfolding token_count starts
   before-all i e = ap before e

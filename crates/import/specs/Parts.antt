@@ -1,16 +1,10 @@
--- What the inner functions give: runs of bytes, and digits summed up from the front, of which some are taken and the rest must be 0.
-use Rattle.std.specs.Prelude.{◌≡◌, ℕ, ◌+◌, ◌-◌, ◌*◌, ◌≤◌, Bool, true, false, ◌&&◌, List, [], ◌∷◌, leb, eqb, length}
+-- What the inner functions give: digits summed up from the front, of which some are taken and the rest must be 0.
+use Rattle.std.specs.Prelude.{◌≡◌, ℕ, ◌+◌, ◌-◌, ◌*◌, ◌≤◌, Bool, ◌&&◌, List, [], ◌∷◌, leb, eqb, length}
 use Rattle.arith.specs.Choice.{pick}
 use Rattle.import.specs.declared.Sum.{Sum}
 use Rattle.import.specs.Bytes.{leads}
-use Rattle.import.specs.Tokens.{other}
-use Rattle.import.specs.Grammar.{Number, number_in, is_digit, digits, exp_signed, exp_digits}
+use Rattle.import.specs.Grammar.{Number, number_in, digits, exp_signed, exp_digits}
 use Rattle.import.specs.Value.{decimal, is_whole, units}
-
--- the bytes of a run of digits, or of a token
-abbrev pub run_kind : Bool → ℕ → Bool
-run_kind true b = is_digit b
-run_kind false b = other b
 
 -- one more than the largest sample
 abbrev pub most : ℕ

@@ -1,5 +1,5 @@
 -- Tokens: the longest runs of bytes that are no separators.
-use Rattle.std.specs.Prelude.{◌≡◌, ℕ, zero, suc, ◌+◌, ◌-◌, ◌≤◌, ◌<◌, Bool, true, false, not, ◌&&◌, ◌||◌, List, [], ◌∷◌, ◌++◌, eqb, length, get_or, drop}
+use Rattle.std.specs.Prelude.{◌≡◌, ℕ, zero, suc, ◌+◌, ◌-◌, ◌≤◌, ◌<◌, Bool, true, false, not, ◌&&◌, ◌||◌, List, [], ◌∷◌, ◌++◌, eqb, length, get_or, drop, map}
 use Rattle.arith.specs.Choice.{pick}
 use Rattle.import.specs.Bytes.{leading}
 
@@ -34,6 +34,10 @@ token_start text k = get_or (starts text) k 0
 -- the longest run of other bytes from byte i on
 unfoldable pub token_at : List ℕ → ℕ → List ℕ
 token_at text i = leading other (drop i text)
+
+-- the tokens from byte `at` on: the first byte of each, and its bytes
+unfoldable pub tokens_from : List ℕ → ℕ → List (ℕ × List ℕ)
+tokens_from text at = map (λ (i : ℕ). (i, token_at text i)) (drop (length (starts_below text at)) (starts text))
 
 -- n bytes from i on that are no separators, with a separator or an end of the text on either side
 pub record Longest (text : List ℕ) (i n : ℕ) : Type 0 where

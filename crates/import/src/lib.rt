@@ -6,14 +6,16 @@ ghost use Rattle.arith.specs.Choice.{pick};
 ghost use Rattle.lattice.specs.Outcome.{done, first_of};
 ghost use Rattle.lattice.specs.Answers.{outcome_of};
 ghost use Rattle.lattice.specs.Buffer.{overwrite};
-ghost use Rattle.import.specs.Bytes.{leading, leads, skip};
-ghost use Rattle.import.specs.Tokens.{separator, starts_token, token_count, token_at};
-ghost use Rattle.import.specs.Grammar.{is_digit, digits, after_digits, number_in, fits_exp, fits_frac, fits_int, fits};
-ghost use Rattle.import.specs.Value.{units};
+ghost use Rattle.import.specs.Bytes.{leads, skip};
+ghost use Rattle.import.specs.Tokens.{token_count};
+ghost use Rattle.import.specs.Grammar.{digits, after_digits, number_in, fits_exp, fits_frac, fits_int, fits};
 ghost use Rattle.import.specs.Import.{sample_in, token_outcome, sample_outcome, samples_of, import_outcome, import_writes};
-ghost use Rattle.import.specs.Parts.{run_kind, capped, add_digit, add_digits, kept, kept_of, Measured, Taken};
+ghost use Rattle.import.specs.Parts.{add_digit, add_digits, sum, kept, kept_of, Measured, Taken};
 
-use lattice::{Check, FullShape};
+use lattice::{FullShape, Reason, Refusal, refuse_unless};
+use scan::{Token, Tokens};
+
+mod scan;
 
 // The longest token that is read.
 const LONGEST: usize = 64;
@@ -21,236 +23,151 @@ const LONGEST: usize = 64;
 // One more than the largest sample: larger numbers count as this one.
 const MOST: u64 = 32769;
 
-// Space, tab, line feed and carriage return.
-fn is_separator(b: u8) -> bool
-    ensures { result ≡ separator b }
-{
-    if b == b' ' || b == b'\t' {
-        return true;
-    }
-    b == b'\n' || b == b'\r'
-}
-
-fn is_digit(b: u8) -> bool
-    ensures { result ≡ is_digit b }
-{
-    48 <= b && b <= 57
-}
-
-// Whether a token starts at byte i.
-fn starts_token(text: &[u8], i: usize) -> bool
-    requires { i < length text.now }
-    ensures { result ≡ starts_token text.now i }
-{
-    if is_separator(text[i]) {
-        return false;
-    }
-    if i == 0 {
-        return true;
-    }
-    is_separator(text[i - 1])
-}
-
 // The number of tokens.
 fn count_tokens(text: &[u8]) -> usize
     ensures { result ≡ token_count text.now }
 {
-    let mut count: usize = 0;
-    let mut i: usize = 0;
-    while i < text.len() {
-        if starts_token(text, i) {
-            count += 1;
-        }
-        i += 1;
-    }
-    count
-}
-
-// Whether a byte belongs to a run of digits, or else to a token.
-fn in_run(b: u8, digits: bool) -> bool
-    ensures { result ≡ run_kind digits b }
-{
-    if digits {
-        return is_digit(b);
-    }
-    !is_separator(b)
-}
-
-// The length of the longest run at the front: of digits, or else of the bytes of a token.
-fn run_length(bytes: &[u8], digits: bool) -> usize
-    ensures { result ≡ length (leading (run_kind digits) bytes.now) }
-{
-    let mut i: usize = 0;
-    while i < bytes.len() {
-        if !in_run(bytes[i], digits) {
-            return i;
-        }
-        i += 1;
-    }
-    i
-}
-
-// That run.
-fn run_of(bytes: &[u8], digits: bool) -> &[u8]
-    ensures { result.now ≡ leading (run_kind digits) bytes.now }
-{
-    let count = run_length(bytes, digits);
-    &bytes[..count]
+    Tokens::of(text).count()
 }
 
 // Whether the first byte is `x` or `y`.
+#[tactic(auto, unfolding(crate::specs::Bytes::leads))]
 fn leads_with(bytes: &[u8], x: u8, y: u8) -> bool
     ensures { result ≡ leads x y bytes.now }
 {
-    if bytes.len() == 0 {
-        return false;
+    match bytes {
+        [b, ..] => *b == x || *b == y,
+        [] => false,
     }
-    let b = bytes[0];
-    b == x || b == y
 }
 
 // What follows the first byte where it is `x` or `y`.
+#[tactic(auto, unfolding(crate::specs::Bytes::skip, crate::specs::Bytes::leads, arith::specs::Choice::pick))]
 fn skipped(bytes: &[u8], x: u8, y: u8) -> &[u8]
     ensures { result.now ≡ skip x y bytes.now }
 {
-    if leads_with(bytes, x, y) {
-        return &bytes[1..];
+    match bytes {
+        [_, rest @ ..] if leads_with(bytes, x, y) => rest,
+        _ => bytes,
     }
-    bytes
 }
 
-// The digits at the front.
-fn digits_of(bytes: &[u8]) -> &[u8]
-    ensures { result.now ≡ digits bytes.now }
+// The number of digits at the front.
+fn digit_count(bytes: &[u8]) -> usize
+    ensures { result ≡ length (digits bytes.now) }
 {
-    run_of(bytes, true)
+    bytes.iter().take_while(|b| b.is_ascii_digit()).count()
 }
 
-// What follows them.
-fn after_digits(bytes: &[u8]) -> &[u8]
-    ensures { result.now ≡ after_digits bytes.now }
+// The digits at the front, and what follows them.
+fn split_digits(bytes: &[u8]) -> (&[u8], &[u8])
+    ensures { (result.0.now ≡ digits bytes.now) × (result.1.now ≡ after_digits bytes.now) }
 {
-    let count = run_length(bytes, true);
-    &bytes[count..]
+    bytes.split_at(digit_count(bytes))
 }
 
 // [ exp ] and nothing more.
 fn fits_exp(part: &[u8]) -> bool
     ensures { result ≡ fits_exp part.now }
 {
-    if !leads_with(part, b'e', b'E') {
-        return part.len() == 0;
+    match part {
+        [] => true,
+        [_, signed @ ..] if leads_with(part, b'e', b'E') => {
+            let (exponent, rest) = split_digits(skipped(signed, b'+', b'-'));
+            !exponent.is_empty() && rest.is_empty()
+        }
+        _ => false,
     }
-    let number = skipped(skipped(part, b'e', b'E'), b'+', b'-');
-    if digits_of(number).len() == 0 {
-        return false;
-    }
-    after_digits(number).len() == 0
 }
 
 // [ frac ] [ exp ].
+#[tactic(auto, unfolding(crate::specs::Grammar::fits_frac))]
 fn fits_frac(part: &[u8]) -> bool
     ensures { result ≡ fits_frac part.now }
 {
-    let fraction = skipped(part, b'.', b'.');
-    if leads_with(part, b'.', b'.') {
-        if digits_of(fraction).len() == 0 {
-            return false;
-        }
+    let (fraction, exp) = split_digits(skipped(part, b'.', b'.'));
+    if leads_with(part, b'.', b'.') && fraction.is_empty() {
+        return false;
     }
-    fits_exp(after_digits(fraction))
+    fits_exp(exp)
 }
 
 // Digits of int: some, the first 0 only where it is alone.
+#[tactic(auto, unfolding(crate::specs::Grammar::fits_int, crate::specs::Bytes::leads))]
 fn fits_int(ds: &[u8]) -> bool
     ensures { result ≡ fits_int ds.now }
 {
-    if ds.len() == 0 {
-        return false;
-    }
-    !leads_with(ds, b'0', b'0') || ds.len() == 1
+    !matches!(ds, [] | [b'0', _, ..])
 }
 
 // Whether a token fits the grammar.
+#[tactic(auto, unfolding(crate::specs::Grammar::fits))]
 fn fits_grammar(token: &[u8]) -> bool
     ensures { result ≡ fits token.now }
 {
-    let number = skipped(token, b'-', b'-');
-    if !fits_int(digits_of(number)) {
-        return false;
-    }
-    fits_frac(after_digits(number))
+    let (int, rest) = split_digits(skipped(token, b'-', b'-'));
+    fits_int(int) && fits_frac(rest)
 }
 
 // Digits summed up: the number of those taken, at most MOST; how many are left to take; whether all after them are 0.
 #[derive(Clone, Copy)]
 struct Sum {
-    value: u64,
+    value: u32,
     left: usize,
     whole: bool,
 }
 
-// The number that a digit stands for; 0 for a byte below the digits.
-fn digit_value(b: u8) -> u64
-    ensures { (result ≡ b - 48) × (result < 256) }
-{
-    if b < 48 { 0 } else { (b - 48) as u64 }
-}
-
-// v, or MOST where it is more.
-fn at_most(v: u64) -> u64
-    ensures { result ≡ capped v }
-{
-    if v <= MOST { v } else { MOST }
-}
-
-// One digit more.
-fn add_digit(s: Sum, b: u8) -> Sum
-    requires { s.value ≤ 32769 }
-    ensures { (result ≡ add_digit s b) × (result.value ≤ 32769) }
-{
-    let d = digit_value(b);
-    if s.left == 0 {
-        return Sum {
-            value: s.value,
-            left: 0,
-            whole: s.whole && d == 0,
-        };
+impl Sum {
+    // Of no digit, where `left` are to be taken.
+    fn of(left: usize) -> Self
+        ensures { result ≡ sum 0 left true }
+    {
+        Sum {
+            value: 0,
+            left,
+            whole: true,
+        }
     }
-    Sum {
-        value: at_most(10 * s.value + d),
-        left: s.left - 1,
-        whole: s.whole,
-    }
-}
 
-// All digits of int, of frac or of an exponent.
-fn add_digits(s: Sum, ds: &[u8]) -> Sum
-    requires { s.value ≤ 32769 }
-    ensures { (result ≡ add_digits s ds.now) × (result.value ≤ 32769) }
-{
-    let mut sum = s;
-    let mut i: usize = 0;
-    while i < ds.len() {
-        sum = add_digit(sum, ds[i]);
-        i += 1;
+    // One digit more.
+    #[tactic(auto, unfolding(crate::specs::Parts::add_digit, crate::specs::Parts::capped, arith::specs::Choice::pick))]
+    fn add_digit(self, b: u8) -> Self
+        ensures { result ≡ add_digit self b }
+    {
+        let d = b.saturating_sub(b'0') as u64;
+        if self.left == 0 {
+            Sum {
+                whole: self.whole && d == 0,
+                ..self
+            }
+        } else {
+            Sum {
+                value: (10 * self.value as u64 + d).min(MOST) as u32,
+                left: self.left - 1,
+                ..self
+            }
+        }
     }
-    sum
+
+    // All digits of int, of frac or of an exponent.
+    fn add_digits(self, ds: &[u8]) -> Self
+        ensures { result ≡ add_digits self ds.now }
+    {
+        ds.iter().fold(self, |sum, b| sum.add_digit(*b))
+    }
 }
 
 // The digits to take where int has `whole`: two more, and as many more or fewer as the exponent says.
-fn moved(whole: usize, lowers: bool, exponent: usize) -> usize
-    requires { (whole ≤ 64) × (exponent ≤ 32769) }
+#[tactic(auto, unfolding(crate::specs::Parts::kept, arith::specs::Choice::pick))]
+fn moved(whole: usize, lowers: bool, exponent: u32) -> usize
+    requires { whole ≤ 64 }
     ensures { result ≡ kept whole lowers exponent }
 {
     let plain = whole + 2;
-    if !lowers {
-        return plain + exponent;
-    }
-    if plain < exponent {
-        0
+    if lowers {
+        plain.saturating_sub(exponent as usize)
     } else {
-        plain - exponent
+        plain + exponent as usize
     }
 }
 
@@ -260,85 +177,57 @@ fn digits_kept(whole: usize, part: &[u8]) -> usize
     ensures { result ≡ kept_of whole part.now }
 {
     let signed = skipped(part, b'e', b'E');
-    let number = digits_of(skipped(signed, b'+', b'-'));
-    let none = Sum {
-        value: 0,
-        left: number.len(),
-        whole: true,
-    };
-    let read = add_digits(none, number);
-    let exponent = read.value as usize;
+    let (number, _) = split_digits(skipped(signed, b'+', b'-'));
+    let exponent = Sum::of(number.len()).add_digits(number).value;
     moved(whole, leads_with(signed, b'-', b'-'), exponent)
 }
 
 // The units of a token's number, at most MOST, and whether they are whole. Five zeros take any digit past MOST that is not 0.
+// No option: the pass that fills takes the number alone, where an arm for none would never run.
 fn measure(token: &[u8]) -> Sum
     requires { length token.now ≤ 64 }
     ensures { Measured (number_in token.now) result }
 {
-    let number = skipped(token, b'-', b'-');
-    let whole = digits_of(number);
-    let part = skipped(after_digits(number), b'.', b'.');
-    let fraction = digits_of(part);
-    let start = Sum {
-        value: 0,
-        left: digits_kept(whole.len(), after_digits(part)),
-        whole: true,
-    };
-    let int = add_digits(start, whole);
-    let all = add_digits(int, fraction);
-    add_digits(all, b"00000")
+    let (whole, part) = split_digits(skipped(token, b'-', b'-'));
+    let (fraction, exp) = split_digits(skipped(part, b'.', b'.'));
+    Sum::of(digits_kept(whole.len(), exp))
+        .add_digits(whole)
+        .add_digits(fraction)
+        .add_digits(b"00000")
 }
 
-// The token that starts at byte i.
-fn token_at(text: &[u8], i: usize) -> &[u8]
-    requires { i < length text.now }
-    ensures { result.now ≡ token_at text.now i }
+// 16, 17, 18 and 5 for a token that gives sample k.
+fn check_token(token: Token, k: usize) -> Result<(), Refusal>
+    ensures { outcome_of result ≡ token_outcome token.entry.bytes.now token.entry.start k }
 {
-    let tail = &text[i..];
-    run_of(tail, false)
-}
-
-// 16, 17, 18 and 5 for the token that starts at byte i and gives sample k.
-fn check_token(text: &[u8], i: usize, k: usize) -> Check
-    requires { i < length text.now }
-    ensures { outcome_of result ≡ token_outcome (token_at text.now i) i k }
-{
-    let token = token_at(text, i);
-    let short = lattice::refuse_unless(token.len() <= LONGEST, 16, i);
-    if let Check::Refused(_) = short {
-        return short;
-    }
-    let fit = lattice::refuse_unless(fits_grammar(token), 17, i);
-    if let Check::Refused(_) = fit {
-        return fit;
-    }
-    let m = measure(token);
-    let whole = lattice::refuse_unless(m.whole, 18, i);
-    lattice::refuse_after(whole, m.value <= lattice::SAMPLE_LIMIT, 5, k)
+    refuse_unless(
+        token.bytes.len() <= LONGEST,
+        Reason::TokenTooLong,
+        token.start,
+    )?;
+    refuse_unless(fits_grammar(token.bytes), Reason::TokenGrammar, token.start)?;
+    let units = measure(token.bytes);
+    refuse_unless(units.whole, Reason::TokenNotWhole, token.start)?;
+    refuse_unless(
+        units.value as u64 <= lattice::SAMPLE_LIMIT,
+        Reason::BeyondLimit,
+        k,
+    )
 }
 
 // All tokens, one after the other.
-fn check_tokens(text: &[u8]) -> Check
+fn check_tokens(text: &[u8]) -> Result<(), Refusal>
     ensures { outcome_of result ≡ first_of (token_count text.now) (sample_outcome text.now) }
 {
-    let mut k: usize = 0;
-    let mut i: usize = 0;
-    while i < text.len() {
-        if starts_token(text, i) {
-            let one = check_token(text, i, k);
-            if let Check::Refused(_) = one {
-                return one;
-            }
-            k += 1;
-        }
-        i += 1;
+    for (k, token) in Tokens::of(text).enumerate() {
+        check_token(token, k)?;
     }
-    Check::Done
+    Ok(())
 }
 
 // A number of units with its sign.
-fn signed(size: u64, negative: bool) -> i32
+#[tactic(auto, unfolding(arith::specs::Choice::pick))]
+fn signed(size: u32, negative: bool) -> i32
     requires { size ≤ 32768 }
     ensures { result ≡ pick negative (neg_ℤ (pos size)) (pos size) }
 {
@@ -346,14 +235,12 @@ fn signed(size: u64, negative: bool) -> i32
     if negative { -x } else { x }
 }
 
-// The sample of the token that starts at byte i.
-fn sample_at(text: &[u8], i: usize) -> i32
-    requires { (i < length text.now) × Taken (token_at text.now i) }
-    ensures { result ≡ sample_in (token_at text.now i) }
+// The sample of a token.
+fn sample_of(token: &[u8]) -> i32
+    requires { Taken token.now }
+    ensures { result ≡ sample_in token.now }
 {
-    let token = token_at(text, i);
-    let m = measure(token);
-    signed(m.value, leads_with(token, b'-', b'-'))
+    signed(measure(token).value, leads_with(token, b'-', b'-'))
 }
 
 // Puts the samples of all tokens at the front of `samples`.
@@ -361,46 +248,29 @@ fn fill(text: &[u8], samples: &mut [i32])
     requires { (token_count text.now ≤ length samples.old) × (first_of (token_count text.now) (sample_outcome text.now) ≡ done tt) }
     ensures { samples.new ≡ overwrite (samples_of text.now) samples.old }
 {
-    let mut k: usize = 0;
-    let mut i: usize = 0;
-    while i < text.len() {
-        if starts_token(text, i) {
-            let x = sample_at(text, i);
-            samples[k] = x;
-            k += 1;
-        }
-        i += 1;
+    // By index: a proof knows nothing of what was written through a zip's iter_mut.
+    for (k, token) in Tokens::of(text).enumerate() {
+        samples[k] = sample_of(token.bytes);
     }
 }
 
 // 1, 2, 3, 26, then 4 and 9, then 16, 17, 18 and 5 token by token.
-fn check_import(t: FullShape, text: &[u8], room: usize) -> Check
+fn check_import(t: FullShape, text: &[u8], room: usize) -> Result<(), Refusal>
     ensures { outcome_of result ≡ import_outcome t text.now room }
 {
-    let shape = lattice::check_full(t);
-    if let Check::Refused(_) = shape {
-        return shape;
-    }
+    lattice::check_full(t)?;
     let nodes = lattice::node_count(t.shape);
-    let counted = lattice::refuse_unless(count_tokens(text) == nodes, 4, 0);
-    if let Check::Refused(_) = counted {
-        return counted;
-    }
-    let roomy = lattice::refuse_unless(nodes <= room, 9, 0);
-    if let Check::Refused(_) = roomy {
-        return roomy;
-    }
+    refuse_unless(count_tokens(text) == nodes, Reason::Length, 0)?;
+    refuse_unless(nodes <= room, Reason::BufferTooShort, 0)?;
     check_tokens(text)
 }
 
 // Reads the numbers of `text`, as many as a table of that shape has nodes, to the front of `samples`.
-pub fn import(shape: FullShape, text: &[u8], samples: &mut [i32]) -> Check
+pub fn import(shape: FullShape, text: &[u8], samples: &mut [i32]) -> Result<(), Refusal>
     ensures answer { outcome_of result ≡ import_outcome shape text.now (length samples.old) }
     ensures written { samples.new ≡ import_writes shape text.now samples.old }
 {
-    let answer = check_import(shape, text, samples.len());
-    if let Check::Done = answer {
-        fill(text, samples);
-    }
-    answer
+    check_import(shape, text, samples.len())?;
+    fill(text, samples);
+    Ok(())
 }

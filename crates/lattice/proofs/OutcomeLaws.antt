@@ -7,6 +7,10 @@ use native.Mathlib.Numerals.{add-one}
 use native.Mathlib.Nat.{add-zero, add-suc, mul-zero, mul-suc, eq-or-lt_of_le, not-suc-le-zero, le_of_suc-le-suc}
 use native.Mathlib.Omega.{arith}
 use Rattle.arith.proofs.Choices.{clash}
+use Rattle.std.specs.Prelude.{Result, Ok, Err, IsErr}
+use Rattle.std.specs.Result.{IsErrAnd}
+use Rattle.lattice.specs.declared.refusal.Refusal.{Refusal}
+use Rattle.lattice.specs.Answers.{number_of, outcome_of}
 use Rattle.lattice.specs.Outcome.{Outcome, Check, done, refused, refuse_unless, first, first_of, on_axes, when_done, passed}
 
 module _ {A : Type 0} where
@@ -162,3 +166,47 @@ unfolding first_of
 first_of-pairs k test =
     first_of-rows 2 k test
     ∙ first_of-same k _ _ (λ c l. ap (λ (i : ℕ). first (test i) (test (2 * c + 1))) (add-zero (2 * c)))
+
+-- ---- results of the code, and what `?` makes of them
+
+-- what is handed on of a refusal
+pub handed_on : {A : Type 0} (r : Result A Refusal) (e : Refusal) → IsErr r × IsErrAnd r (λ x. x ≡ e) → outcome_of r ≡ refused
+    (number_of e.reason) e.place
+handed_on (Ok a) e h = let f = h.0 in cc
+handed_on (Err x) e h = ap (λ (y : Refusal). refused (number_of y.reason) y.place) h.1
+
+-- a call that stops at a refusal
+pub stopped : {A : Type 0} (r : Result A Refusal) (e : Refusal) (a : Check) (o : Outcome A) → IsErr r × IsErrAnd r (λ x. x ≡ e)
+    → refused (number_of e.reason) e.place ≡ a → outcome_of r ≡ first a o
+stopped r e a o h is = handed_on r e h ∙ sym (refused-first o (sym is))
+
+-- a call that goes on after a test
+pub went-on : {A : Type 0} (a : Check) (o p : Outcome A) → done tt ≡ a → p ≡ o → p ≡ first a o
+went-on a o p is h = h ∙ sym (first-passed a o (sym is))
+
+-- where the refusal of the only test stands
+pub at_once : {A : Type 0} (r : Result A Refusal) (e : Refusal) (a : Outcome A) → IsErr r × IsErrAnd r (λ x. x ≡ e)
+    → refused (number_of e.reason) e.place ≡ a → outcome_of r ≡ a
+at_once r e a h is = handed_on r e h ∙ is
+
+-- tests of three axes up to the first refusal
+module _ (number : ℕ) (test : ℕ → Bool) where
+  pub on-first : {n p : ℕ} → refused n p ≡ refuse_unless (test 0) number 0 → on_axes number test ≡ refused n p
+  unfolding first_of
+  on-first e = rw (sym e) refl
+
+  pub on-second : {n p : ℕ} → done tt ≡ refuse_unless (test 0) number 0 → refused n p ≡ refuse_unless (test 1) number 1
+      → on_axes number test ≡ refused n p
+  unfolding first_of
+  on-second d e = rw (sym d, sym e) refl
+
+  pub on-third : done tt ≡ refuse_unless (test 0) number 0 → done tt ≡ refuse_unless (test 1) number 1 → on_axes number test
+      ≡ refuse_unless (test 2) number 2
+  unfolding first_of
+  on-third d e = rw (sym d, sym e) refl
+
+-- tests of three axes that come out alike
+pub axis-by-axis : (number : ℕ) (test other : ℕ → Bool) → test 0 ≡ other 0 → test 1 ≡ other 1 → test 2 ≡ other 2 → on_axes number test
+    ≡ on_axes number other
+unfolding first_of
+axis-by-axis number test other x y z = rw (x, y, z) refl

@@ -3,8 +3,7 @@ use mathlib.Core.Path.{◌≡◌, refl, ap, ◌∙◌}
 use mathlib.Core.Bool.{Bool, true}
 use lib.IntN.{ℤ}
 use Rattle.lattice.specs.Outcome.{Outcome, done, refused, passed}
-use Rattle.query.specs.declared.Reading.{Reading}
-use Rattle.query.specs.Answers.{outcome_of_reading, is_exact, Marks}
+use Rattle.query.specs.Answers.{Reading, outcome_of_reading, is_exact, Marks}
 use Rattle.lukhtari.specs.Host.{marked_from}
 
 mark-counts : (o : Outcome ℤ) (a b : Bool) → (passed o ≡ true → a ≡ b) → marked_from o a ≡ marked_from o b

@@ -1,5 +1,8 @@
 -- Keys and their rights: 1 is the operator, 2 the colourist, 3 service.
-use Rattle.std.specs.Prelude.{ℕ, Bool, ◌&&◌, leb}
+use Rattle.std.specs.Prelude.{◌≡◌, ℕ, ◌<◌, ◌⊎◌, Bool, ◌&&◌, leb, Result, Ok, Err}
+use Rattle.lukhtari.specs.declared.keys.Key.{Key}
+use Rattle.lukhtari.specs.declared.keys.Key.TheVariants.{Operator, Colourist, Service}
+use Rattle.lukhtari.specs.declared.keys.UnknownKey.{UnknownKey}
 use Rattle.lukhtari.specs.declared.keys.Right.{Right}
 use Rattle.lukhtari.specs.declared.keys.Right.TheVariants.{
   Dose,
@@ -51,3 +54,14 @@ first_key BoxTotal = 3
 -- whether a key holds a right; a number that is no key holds none
 unfoldable pub holds : ℕ → Right → Bool
 holds key right = leb (first_key right) key && leb key 3
+
+-- the number of a key
+abbrev pub key_number : Key → ℕ
+key_number Operator = 1
+key_number Colourist = 2
+key_number Service = 3
+
+-- what a number is read as: the key of that number, or nothing
+abbrev pub NamesKey : ℕ → Result Key UnknownKey → Type 0
+NamesKey n (Ok key) = key_number key ≡ n
+NamesKey n (Err e) = (n ≡ 0) ⊎ (3 < n)

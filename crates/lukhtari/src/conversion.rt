@@ -4,8 +4,8 @@ ghost use Rattle.cell.specs.Cell.{place_at};
 ghost use Rattle.lukhtari.specs.Calls.{reply, left, coefficients_of, corners_of, powers_of};
 
 use crate::keys::Right;
-use crate::{Done, Index, done_of, keys};
-use lattice::{Check, FullShape};
+use crate::{Done, Index, keys};
+use lattice::FullShape;
 
 // The coefficients of a cell.
 #[unsafe(no_mangle)]
@@ -19,11 +19,9 @@ pub extern "C" fn lukhtari_coefficients(
     ensures value { result ≡ reply key (coefficients_of shape records.now (place_at cell.at)) out.old }
     ensures out_after { out.new ≡ left key (coefficients_of shape records.now (place_at cell.at)) out.old }
 {
-    if keys::may(key, Right::Coefficients) {
-        let at = cell.at;
-        done_of(coefficients::coefficients(shape, records, at, out))
-    } else {
-        done_of(Check::Refused(keys::NO_RIGHT))
+    match keys::check(key, Right::Coefficients) {
+        Ok(()) => Done::from(coefficients::coefficients(shape, records, cell.at, out)),
+        Err(refusal) => Done::from(Err(refusal)),
     }
 }
 
@@ -39,10 +37,9 @@ pub extern "C" fn lukhtari_corners(
     ensures value { result ≡ reply key (corners_of axes degree coefficients.now) out.old }
     ensures out_after { out.new ≡ left key (corners_of axes degree coefficients.now) out.old }
 {
-    if keys::may(key, Right::Corners) {
-        done_of(corners::corners(axes, degree, coefficients, out))
-    } else {
-        done_of(Check::Refused(keys::NO_RIGHT))
+    match keys::check(key, Right::Corners) {
+        Ok(()) => Done::from(corners::corners(axes, degree, coefficients, out)),
+        Err(refusal) => Done::from(Err(refusal)),
     }
 }
 
@@ -58,10 +55,8 @@ pub extern "C" fn lukhtari_powers(
     ensures value { result ≡ reply key (powers_of shape records.now (place_at cell.at)) out.old }
     ensures out_after { out.new ≡ left key (powers_of shape records.now (place_at cell.at)) out.old }
 {
-    if keys::may(key, Right::Powers) {
-        let at = cell.at;
-        done_of(powers::powers(shape, records, at, out))
-    } else {
-        done_of(Check::Refused(keys::NO_RIGHT))
+    match keys::check(key, Right::Powers) {
+        Ok(()) => Done::from(powers::powers(shape, records, cell.at, out)),
+        Err(refusal) => Done::from(Err(refusal)),
     }
 }

@@ -3,8 +3,8 @@ ghost use Rattle.std.specs.Prelude.{◌≡◌};
 ghost use Rattle.lukhtari.specs.Calls.{reply, left, estimate_from};
 
 use crate::keys::Right;
-use crate::{Done, done_of, keys};
-use lattice::{Check, FullShape};
+use crate::{Done, keys};
+use lattice::FullShape;
 
 // All records from the samples.
 #[unsafe(no_mangle)]
@@ -17,9 +17,8 @@ pub extern "C" fn lukhtari_estimate(
     ensures value { result ≡ reply key (estimate_from shape samples.now) records.old }
     ensures records_after { records.new ≡ left key (estimate_from shape samples.now) records.old }
 {
-    if keys::may(key, Right::Estimate) {
-        done_of(estimate::estimate(shape, samples, records))
-    } else {
-        done_of(Check::Refused(keys::NO_RIGHT))
+    match keys::check(key, Right::Estimate) {
+        Ok(()) => Done::from(estimate::estimate(shape, samples, records)),
+        Err(refusal) => Done::from(Err(refusal)),
     }
 }

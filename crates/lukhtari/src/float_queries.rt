@@ -11,25 +11,27 @@ use evaluate::Derivative;
 use float_query::{FloatPosition, FloatReading};
 use lattice::FullShape;
 
-fn real_of(a: FloatReading) -> Real
-    ensures { real_value result ≡ real_of (outcome_of_float a) }
-{
-    match a {
-        FloatReading::Dose(x) => Real {
-            number: 0,
-            place: 0,
-            value: x,
-        },
-        FloatReading::Slope(x) => Real {
-            number: 0,
-            place: 0,
-            value: x,
-        },
-        FloatReading::Refused(r) => Real {
-            number: r.number,
-            place: r.place,
-            value: 0.0,
-        },
+impl From<FloatReading> for Real {
+    ghost from_gives = { λ answer real. real_value real ≡ real_of (outcome_of_float answer) };
+
+    fn from(answer: FloatReading) -> Self {
+        match answer {
+            FloatReading::Dose(value) => Real {
+                number: 0,
+                place: 0,
+                value,
+            },
+            FloatReading::Slope(value) => Real {
+                number: 0,
+                place: 0,
+                value,
+            },
+            FloatReading::Refused(refusal) => Real {
+                number: refusal.reason.number(),
+                place: refusal.place,
+                value: 0.0,
+            },
+        }
     }
 }
 
@@ -43,11 +45,10 @@ pub extern "C" fn lukhtari_dose_float(
 ) -> Real
     ensures { real_value result ≡ reply key (dose_at_float shape records.now (floats_at position)) tt }
 {
-    if keys::may(key, Right::DoseFloat) {
-        let none = Derivative { order: 0, axis: 0 };
-        real_of(float_query::at_float(shape, records, position, none))
-    } else {
-        real_of(FloatReading::Refused(keys::NO_RIGHT))
+    let derivative = Derivative { order: 0, axis: 0 };
+    match keys::check(key, Right::DoseFloat) {
+        Ok(()) => Real::from(float_query::at_float(shape, records, position, derivative)),
+        Err(refusal) => Real::from(FloatReading::Refused(refusal)),
     }
 }
 
@@ -62,13 +63,9 @@ pub extern "C" fn lukhtari_slope_float(
 ) -> Real
     ensures { real_value result ≡ reply key (slope_at_float shape records.now (floats_at position) axis) tt }
 {
-    if keys::may(key, Right::SlopeFloat) {
-        let along = Derivative {
-            order: 1,
-            axis: axis,
-        };
-        real_of(float_query::at_float(shape, records, position, along))
-    } else {
-        real_of(FloatReading::Refused(keys::NO_RIGHT))
+    let derivative = Derivative { order: 1, axis };
+    match keys::check(key, Right::SlopeFloat) {
+        Ok(()) => Real::from(float_query::at_float(shape, records, position, derivative)),
+        Err(refusal) => Real::from(FloatReading::Refused(refusal)),
     }
 }

@@ -1,28 +1,30 @@
 // The totals of a cell and of a box of cells.
 ghost use Rattle.std.specs.Prelude.{◌≡◌};
 ghost use Rattle.cell.specs.Cell.{place_at};
-ghost use Rattle.totals.specs.Answers.{outcome_of_total};
+ghost use Rattle.lattice.specs.Answers.{outcome_of};
 ghost use Rattle.lukhtari.specs.Calls.{reply, total_of_cell, total_of_box};
 ghost use Rattle.lukhtari.specs.Host.{total_from};
 
 use crate::keys::Right;
 use crate::{Index, Total, keys};
-use lattice::FullShape;
+use lattice::{FullShape, Refusal};
 
-fn total_of(a: totals::Total) -> Total
-    ensures { result ≡ total_from (outcome_of_total a) }
-{
-    match a {
-        totals::Total::Numerator(v) => Total {
-            number: 0,
-            place: 0,
-            numerator: v,
-        },
-        totals::Total::Refused(r) => Total {
-            number: r.number,
-            place: r.place,
-            numerator: 0,
-        },
+impl From<Result<i64, Refusal>> for Total {
+    ghost from_gives = { λ answer total. total ≡ total_from (outcome_of answer) };
+
+    fn from(answer: Result<i64, Refusal>) -> Self {
+        match answer {
+            Ok(numerator) => Total {
+                number: 0,
+                place: 0,
+                numerator,
+            },
+            Err(refusal) => Total {
+                number: refusal.reason.number(),
+                place: refusal.place,
+                numerator: 0,
+            },
+        }
     }
 }
 
@@ -36,11 +38,9 @@ pub extern "C" fn lukhtari_cell_total(
 ) -> Total
     ensures { result ≡ reply key (total_of_cell shape records.now (place_at cell.at)) tt }
 {
-    if keys::may(key, Right::CellTotal) {
-        let at = cell.at;
-        total_of(totals::cell_total(shape, records, at))
-    } else {
-        total_of(totals::Total::Refused(keys::NO_RIGHT))
+    match keys::check(key, Right::CellTotal) {
+        Ok(()) => Total::from(totals::cell_total(shape, records, cell.at)),
+        Err(refusal) => Total::from(Err(refusal)),
     }
 }
 
@@ -55,11 +55,8 @@ pub extern "C" fn lukhtari_box_total(
 ) -> Total
     ensures { result ≡ reply key (total_of_box shape records.now (place_at first.at) (place_at last.at)) tt }
 {
-    if keys::may(key, Right::BoxTotal) {
-        let from = first.at;
-        let to = last.at;
-        total_of(totals::box_total(shape, records, from, to))
-    } else {
-        total_of(totals::Total::Refused(keys::NO_RIGHT))
+    match keys::check(key, Right::BoxTotal) {
+        Ok(()) => Total::from(totals::box_total(shape, records, first.at, last.at)),
+        Err(refusal) => Total::from(Err(refusal)),
     }
 }

@@ -1,11 +1,13 @@
 // Keys and their rights.
 ghost use Rattle.std.specs.Prelude.{◌≡◌};
-ghost use Rattle.lukhtari.specs.Rights.{first_key, holds};
+ghost use Rattle.lattice.specs.Outcome.{refuse_unless};
+ghost use Rattle.lattice.specs.Answers.{outcome_of};
+ghost use Rattle.lukhtari.specs.Rights.{first_key, holds, key_number, NamesKey};
 
-use lattice::Refusal;
+use lattice::{Reason, Refusal};
 
 // The right to make a call, one for each call of the host.
-#[derive(Clone, Copy)]
+#[derive(Clone, Copy, Debug, PartialEq, Eq)]
 pub enum Right {
     Dose,
     DoseInCell,
@@ -28,42 +30,59 @@ pub enum Right {
     BoxTotal,
 }
 
-// What a key that lacks the right is told.
-pub const NO_RIGHT: Refusal = Refusal {
-    number: 30,
-    place: 0,
-};
+// Who holds a key, with its number.
+#[derive(Clone, Copy, Debug, PartialEq, Eq, PartialOrd, Ord)]
+pub enum Key {
+    Operator = 1,
+    Colourist = 2,
+    Service = 3,
+}
 
-const OPERATOR: u32 = 1;
+// A number that is no key.
+#[derive(Clone, Copy, Debug, PartialEq, Eq)]
+pub struct UnknownKey {
+    pub number: u32,
+}
 
-const COLOURIST: u32 = 2;
+impl TryFrom<u32> for Key {
+    type Error = UnknownKey;
 
-const SERVICE: u32 = 3;
+    ghost try_from_gives = { NamesKey };
+
+    fn try_from(number: u32) -> Result<Self, UnknownKey> {
+        match number {
+            1 => Ok(Key::Operator),
+            2 => Ok(Key::Colourist),
+            3 => Ok(Key::Service),
+            _ => Err(UnknownKey { number }),
+        }
+    }
+}
 
 // The first key that holds a right.
-fn first_key(right: Right) -> u32
-    ensures { result ≡ first_key right }
+fn first_key(right: Right) -> Key
+    ensures { key_number result ≡ first_key right }
 {
     match right {
-        Right::Dose => OPERATOR,
-        Right::DoseInCell => OPERATOR,
-        Right::DoseFloat => OPERATOR,
-        Right::Slope => OPERATOR,
-        Right::SlopeInCell => OPERATOR,
-        Right::SlopeFloat => OPERATOR,
-        Right::Ramp => OPERATOR,
-        Right::Read => COLOURIST,
-        Right::Write => COLOURIST,
-        Right::Import => COLOURIST,
-        Right::Estimate => COLOURIST,
-        Right::Pool => COLOURIST,
-        Right::Coefficients => SERVICE,
-        Right::Corners => SERVICE,
-        Right::Powers => SERVICE,
-        Right::Curvature => SERVICE,
-        Right::CurvatureInCell => SERVICE,
-        Right::CellTotal => SERVICE,
-        Right::BoxTotal => SERVICE,
+        Right::Dose => Key::Operator,
+        Right::DoseInCell => Key::Operator,
+        Right::DoseFloat => Key::Operator,
+        Right::Slope => Key::Operator,
+        Right::SlopeInCell => Key::Operator,
+        Right::SlopeFloat => Key::Operator,
+        Right::Ramp => Key::Operator,
+        Right::Read => Key::Colourist,
+        Right::Write => Key::Colourist,
+        Right::Import => Key::Colourist,
+        Right::Estimate => Key::Colourist,
+        Right::Pool => Key::Colourist,
+        Right::Coefficients => Key::Service,
+        Right::Corners => Key::Service,
+        Right::Powers => Key::Service,
+        Right::Curvature => Key::Service,
+        Right::CurvatureInCell => Key::Service,
+        Right::CellTotal => Key::Service,
+        Right::BoxTotal => Key::Service,
     }
 }
 
@@ -71,5 +90,16 @@ fn first_key(right: Right) -> u32
 pub fn may(key: u32, right: Right) -> bool
     ensures { result ≡ holds key right }
 {
-    first_key(right) <= key && key <= SERVICE
+    let first = first_key(right);
+    match Key::try_from(key) {
+        Ok(key) => first <= key,
+        Err(_) => false,
+    }
+}
+
+// Refusal 30 where a key does not hold a right.
+pub fn check(key: u32, right: Right) -> Result<(), Refusal>
+    ensures { outcome_of result ≡ refuse_unless (holds key right) 30 0 }
+{
+    lattice::refuse_unless(may(key, right), Reason::KeyRight, 0)
 }

@@ -1,4 +1,5 @@
 // The calls open to the host: structs of the C interface over the proved calls.
+// Each call and each result stands by itself, alike as they are: their signatures and structs are the C interface.
 #![tactic(auto)]
 
 pub mod conversion;
@@ -16,29 +17,29 @@ ghost use Rattle.std.specs.Prelude.{◌≡◌};
 ghost use Rattle.lattice.specs.Answers.{outcome_of};
 ghost use Rattle.lukhtari.specs.Host.{done_of};
 
-use lattice::Check;
+use lattice::Refusal;
 
 #[repr(C)]
-#[derive(Clone, Copy)]
+#[derive(Clone, Copy, Debug, PartialEq)]
 pub struct Index {
     pub at: [u32; 3],
 }
 
 #[repr(C)]
-#[derive(Clone, Copy)]
+#[derive(Clone, Copy, Debug, PartialEq)]
 pub struct Position {
     pub at: [i32; 3],
 }
 
 #[repr(C)]
-#[derive(Clone, Copy)]
+#[derive(Clone, Copy, Debug, PartialEq)]
 pub struct Done {
     pub number: u32,
     pub place: usize,
 }
 
 #[repr(C)]
-#[derive(Clone, Copy)]
+#[derive(Clone, Copy, Debug, PartialEq)]
 pub struct Whole {
     pub number: u32,
     pub place: usize,
@@ -46,7 +47,7 @@ pub struct Whole {
 }
 
 #[repr(C)]
-#[derive(Clone, Copy)]
+#[derive(Clone, Copy, Debug, PartialEq)]
 pub struct Marked {
     pub number: u32,
     pub place: usize,
@@ -55,7 +56,7 @@ pub struct Marked {
 }
 
 #[repr(C)]
-#[derive(Clone, Copy)]
+#[derive(Clone, Copy, Debug, PartialEq)]
 pub struct Real {
     pub number: u32,
     pub place: usize,
@@ -63,7 +64,7 @@ pub struct Real {
 }
 
 #[repr(C)]
-#[derive(Clone, Copy)]
+#[derive(Clone, Copy, Debug, PartialEq)]
 pub struct Table {
     pub number: u32,
     pub place: usize,
@@ -74,7 +75,7 @@ pub struct Table {
 }
 
 #[repr(C)]
-#[derive(Clone, Copy)]
+#[derive(Clone, Copy, Debug, PartialEq)]
 pub struct Ramped {
     pub number: u32,
     pub place: usize,
@@ -82,7 +83,7 @@ pub struct Ramped {
 }
 
 #[repr(C)]
-#[derive(Clone, Copy)]
+#[derive(Clone, Copy, Debug, PartialEq)]
 pub struct Total {
     pub number: u32,
     pub place: usize,
@@ -90,24 +91,26 @@ pub struct Total {
 }
 
 #[repr(C)]
-#[derive(Clone, Copy)]
+#[derive(Clone, Copy, Debug, PartialEq)]
 pub struct Written {
     pub number: u32,
     pub place: usize,
     pub length: usize,
 }
 
-fn done_of(a: Check) -> Done
-    ensures { result ≡ done_of (outcome_of a) }
-{
-    match a {
-        Check::Done => Done {
-            number: 0,
-            place: 0,
-        },
-        Check::Refused(r) => Done {
-            number: r.number,
-            place: r.place,
-        },
+impl From<Result<(), Refusal>> for Done {
+    ghost from_gives = { λ answer done. done ≡ done_of (outcome_of answer) };
+
+    fn from(answer: Result<(), Refusal>) -> Self {
+        match answer {
+            Ok(()) => Done {
+                number: 0,
+                place: 0,
+            },
+            Err(refusal) => Done {
+                number: refusal.reason.number(),
+                place: refusal.place,
+            },
+        }
     }
 }

@@ -4,8 +4,9 @@ ghost use Rattle.pool.specs.Pool.{measured};
 ghost use Rattle.lukhtari.specs.Calls.{reply, left, pool_two};
 
 use crate::keys::Right;
-use crate::{Done, done_of, keys};
-use lattice::{Check, FullShape};
+use crate::{Done, keys};
+use lattice::FullShape;
+use pool::Measured;
 
 // The pooled samples of two lattices, a of weight v and b of weight w, to the front of `out`.
 #[unsafe(no_mangle)]
@@ -22,9 +23,18 @@ pub extern "C" fn lukhtari_pool(
     ensures value { result ≡ reply key (pool_two (measured a xs.now v) (measured b ys.now w)) out.old }
     ensures out_after { out.new ≡ left key (pool_two (measured a xs.now v) (measured b ys.now w)) out.old }
 {
-    if keys::may(key, Right::Pool) {
-        done_of(pool::pool(a, xs, v, b, ys, w, out))
-    } else {
-        done_of(Check::Refused(keys::NO_RIGHT))
+    let first = Measured {
+        shape: a,
+        samples: xs,
+        weight: v,
+    };
+    let second = Measured {
+        shape: b,
+        samples: ys,
+        weight: w,
+    };
+    match keys::check(key, Right::Pool) {
+        Ok(()) => Done::from(pool::pool(first, second, out)),
+        Err(refusal) => Done::from(Err(refusal)),
     }
 }

@@ -1,27 +1,29 @@
 // Doses along a list of positions.
 ghost use Rattle.std.specs.Prelude.{◌≡◌};
-ghost use Rattle.ramp.specs.Answers.{outcome_of_ramp};
+ghost use Rattle.lattice.specs.Answers.{outcome_of};
 ghost use Rattle.lukhtari.specs.Calls.{reply, left, ramp_of};
 ghost use Rattle.lukhtari.specs.Host.{ramped_from};
 
 use crate::keys::Right;
 use crate::{Ramped, keys};
-use lattice::FullShape;
+use lattice::{FullShape, Refusal};
 
-fn ramped_of(a: ramp::Ramped) -> Ramped
-    ensures { result ≡ ramped_from (outcome_of_ramp a) }
-{
-    match a {
-        ramp::Ramped::Fetches(k) => Ramped {
-            number: 0,
-            place: 0,
-            fetches: k,
-        },
-        ramp::Ramped::Refused(r) => Ramped {
-            number: r.number,
-            place: r.place,
-            fetches: 0,
-        },
+impl From<Result<usize, Refusal>> for Ramped {
+    ghost from_gives = { λ answer ramped. ramped ≡ ramped_from (outcome_of answer) };
+
+    fn from(answer: Result<usize, Refusal>) -> Self {
+        match answer {
+            Ok(fetches) => Ramped {
+                number: 0,
+                place: 0,
+                fetches,
+            },
+            Err(refusal) => Ramped {
+                number: refusal.reason.number(),
+                place: refusal.place,
+                fetches: 0,
+            },
+        }
     }
 }
 
@@ -37,9 +39,8 @@ pub extern "C" fn lukhtari_ramp(
     ensures value { result ≡ reply key (ramp_of shape records.now positions.now) answers.old }
     ensures answers_after { answers.new ≡ left key (ramp_of shape records.now positions.now) answers.old }
 {
-    if keys::may(key, Right::Ramp) {
-        ramped_of(ramp::ramp(shape, records, positions, answers))
-    } else {
-        ramped_of(ramp::Ramped::Refused(keys::NO_RIGHT))
+    match keys::check(key, Right::Ramp) {
+        Ok(()) => Ramped::from(ramp::ramp(shape, records, positions, answers)),
+        Err(refusal) => Ramped::from(Err(refusal)),
     }
 }

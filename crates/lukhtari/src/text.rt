@@ -3,8 +3,8 @@ ghost use Rattle.std.specs.Prelude.{◌≡◌};
 ghost use Rattle.lukhtari.specs.Calls.{reply, left, import_text};
 
 use crate::keys::Right;
-use crate::{Done, done_of, keys};
-use lattice::{Check, FullShape};
+use crate::{Done, keys};
+use lattice::FullShape;
 
 // The samples of a text.
 #[unsafe(no_mangle)]
@@ -17,9 +17,8 @@ pub extern "C" fn lukhtari_import(
     ensures value { result ≡ reply key (import_text shape text.now) samples.old }
     ensures samples_after { samples.new ≡ left key (import_text shape text.now) samples.old }
 {
-    if keys::may(key, Right::Import) {
-        done_of(import::import(shape, text, samples))
-    } else {
-        done_of(Check::Refused(keys::NO_RIGHT))
+    match keys::check(key, Right::Import) {
+        Ok(()) => Done::from(import::import(shape, text, samples)),
+        Err(refusal) => Done::from(Err(refusal)),
     }
 }

@@ -8,49 +8,47 @@ ghost use Rattle.lukhtari.specs.Host.{whole_from, marked_from};
 
 use crate::keys::Right;
 use crate::{Index, Marked, Position, Whole, keys};
-use evaluate::Derivative;
-use lattice::FullShape;
-use query::{CellQuery, Query, Reading};
+use evaluate::{Derivative, Value};
+use lattice::{FullShape, Refusal};
+use query::{CellQuery, Query};
 
-fn whole_of(a: Reading) -> Whole
-    ensures { result ≡ whole_from (outcome_of_reading a) }
-{
-    match a {
-        Reading::Exact(v) | Reading::Near(v) => Whole {
-            number: 0,
-            place: 0,
-            value: v,
-        },
-        Reading::Refused(r) => Whole {
-            number: r.number,
-            place: r.place,
-            value: 0,
-        },
+impl From<Result<Value, Refusal>> for Whole {
+    ghost from_gives = { λ answer whole. whole ≡ whole_from (outcome_of_reading answer) };
+
+    fn from(answer: Result<Value, Refusal>) -> Self {
+        match answer {
+            Ok(value) => Whole {
+                number: 0,
+                place: 0,
+                value: value.number,
+            },
+            Err(refusal) => Whole {
+                number: refusal.reason.number(),
+                place: refusal.place,
+                value: 0,
+            },
+        }
     }
 }
 
-fn marked_of(a: Reading) -> Marked
-    ensures { result ≡ marked_from (outcome_of_reading a) (is_exact a) }
-{
-    match a {
-        Reading::Exact(v) => Marked {
-            number: 0,
-            place: 0,
-            value: v,
-            exact: true,
-        },
-        Reading::Near(v) => Marked {
-            number: 0,
-            place: 0,
-            value: v,
-            exact: false,
-        },
-        Reading::Refused(r) => Marked {
-            number: r.number,
-            place: r.place,
-            value: 0,
-            exact: false,
-        },
+impl From<Result<Value, Refusal>> for Marked {
+    ghost from_gives = { λ answer marked. marked ≡ marked_from (outcome_of_reading answer) (is_exact answer) };
+
+    fn from(answer: Result<Value, Refusal>) -> Self {
+        match answer {
+            Ok(value) => Marked {
+                number: 0,
+                place: 0,
+                value: value.number,
+                exact: value.exact,
+            },
+            Err(refusal) => Marked {
+                number: refusal.reason.number(),
+                place: refusal.place,
+                value: 0,
+                exact: false,
+            },
+        }
     }
 }
 
@@ -64,15 +62,14 @@ pub extern "C" fn lukhtari_dose(
 ) -> Marked
     ensures { result ≡ reply key (dose_at shape records.now (position_at position.at)) tt }
 {
-    if keys::may(key, Right::Dose) {
-        let at = position.at;
-        let q = Query {
-            position: at,
-            derivative: Derivative { order: 0, axis: 0 },
-        };
-        marked_of(query::at_position(shape, records, q))
-    } else {
-        marked_of(Reading::Refused(keys::NO_RIGHT))
+    let position = position.at;
+    let query = Query {
+        position,
+        derivative: Derivative { order: 0, axis: 0 },
+    };
+    match keys::check(key, Right::Dose) {
+        Ok(()) => Marked::from(query::at_position(shape, records, query)),
+        Err(refusal) => Marked::from(Err(refusal)),
     }
 }
 
@@ -87,18 +84,14 @@ pub extern "C" fn lukhtari_slope(
 ) -> Whole
     ensures { result ≡ reply key (slope_at shape records.now (position_at position.at) axis) tt }
 {
-    if keys::may(key, Right::Slope) {
-        let at = position.at;
-        let q = Query {
-            position: at,
-            derivative: Derivative {
-                order: 1,
-                axis: axis,
-            },
-        };
-        whole_of(query::at_position(shape, records, q))
-    } else {
-        whole_of(Reading::Refused(keys::NO_RIGHT))
+    let position = position.at;
+    let query = Query {
+        position,
+        derivative: Derivative { order: 1, axis },
+    };
+    match keys::check(key, Right::Slope) {
+        Ok(()) => Whole::from(query::at_position(shape, records, query)),
+        Err(refusal) => Whole::from(Err(refusal)),
     }
 }
 
@@ -113,18 +106,14 @@ pub extern "C" fn lukhtari_curvature(
 ) -> Whole
     ensures { result ≡ reply key (curvature_at shape records.now (position_at position.at) axis) tt }
 {
-    if keys::may(key, Right::Curvature) {
-        let at = position.at;
-        let q = Query {
-            position: at,
-            derivative: Derivative {
-                order: 2,
-                axis: axis,
-            },
-        };
-        whole_of(query::at_position(shape, records, q))
-    } else {
-        whole_of(Reading::Refused(keys::NO_RIGHT))
+    let position = position.at;
+    let query = Query {
+        position,
+        derivative: Derivative { order: 2, axis },
+    };
+    match keys::check(key, Right::Curvature) {
+        Ok(()) => Whole::from(query::at_position(shape, records, query)),
+        Err(refusal) => Whole::from(Err(refusal)),
     }
 }
 
@@ -139,17 +128,16 @@ pub extern "C" fn lukhtari_dose_in_cell(
 ) -> Marked
     ensures { result ≡ reply key (dose_in_cell shape records.now (place_at cell.at) (place_at u.at)) tt }
 {
-    if keys::may(key, Right::DoseInCell) {
-        let at = cell.at;
-        let step = u.at;
-        let q = CellQuery {
-            cell: at,
-            step: step,
-            derivative: Derivative { order: 0, axis: 0 },
-        };
-        marked_of(query::in_cell(shape, records, q))
-    } else {
-        marked_of(Reading::Refused(keys::NO_RIGHT))
+    let cell = cell.at;
+    let step = u.at;
+    let query = CellQuery {
+        cell,
+        step,
+        derivative: Derivative { order: 0, axis: 0 },
+    };
+    match keys::check(key, Right::DoseInCell) {
+        Ok(()) => Marked::from(query::in_cell(shape, records, query)),
+        Err(refusal) => Marked::from(Err(refusal)),
     }
 }
 
@@ -165,20 +153,16 @@ pub extern "C" fn lukhtari_slope_in_cell(
 ) -> Whole
     ensures { result ≡ reply key (slope_in_cell shape records.now (place_at cell.at) (place_at u.at) axis) tt }
 {
-    if keys::may(key, Right::SlopeInCell) {
-        let at = cell.at;
-        let step = u.at;
-        let q = CellQuery {
-            cell: at,
-            step: step,
-            derivative: Derivative {
-                order: 1,
-                axis: axis,
-            },
-        };
-        whole_of(query::in_cell(shape, records, q))
-    } else {
-        whole_of(Reading::Refused(keys::NO_RIGHT))
+    let cell = cell.at;
+    let step = u.at;
+    let query = CellQuery {
+        cell,
+        step,
+        derivative: Derivative { order: 1, axis },
+    };
+    match keys::check(key, Right::SlopeInCell) {
+        Ok(()) => Whole::from(query::in_cell(shape, records, query)),
+        Err(refusal) => Whole::from(Err(refusal)),
     }
 }
 
@@ -194,19 +178,15 @@ pub extern "C" fn lukhtari_curvature_in_cell(
 ) -> Whole
     ensures { result ≡ reply key (curvature_in_cell shape records.now (place_at cell.at) (place_at u.at) axis) tt }
 {
-    if keys::may(key, Right::CurvatureInCell) {
-        let at = cell.at;
-        let step = u.at;
-        let q = CellQuery {
-            cell: at,
-            step: step,
-            derivative: Derivative {
-                order: 2,
-                axis: axis,
-            },
-        };
-        whole_of(query::in_cell(shape, records, q))
-    } else {
-        whole_of(Reading::Refused(keys::NO_RIGHT))
+    let cell = cell.at;
+    let step = u.at;
+    let query = CellQuery {
+        cell,
+        step,
+        derivative: Derivative { order: 2, axis },
+    };
+    match keys::check(key, Right::CurvatureInCell) {
+        Ok(()) => Whole::from(query::in_cell(shape, records, query)),
+        Err(refusal) => Whole::from(Err(refusal)),
     }
 }

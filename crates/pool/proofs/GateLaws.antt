@@ -1,5 +1,5 @@
 -- The refusals in groups, and what holds of a call that is not refused.
-use mathlib.Core.Path.{◌≡◌, refl, sym, ap, ◌∙◌}
+use mathlib.Core.Path.{◌≡◌, refl, sym, ◌∙◌}
 use mathlib.Core.Bool.{Bool, true, false, ◌&&◌, ◌||◌}
 use Prim.Native.Nat.{ℕ, ◌+◌, ◌<◌}
 use native.Mathlib.Omega.{arith}
@@ -12,11 +12,11 @@ use Rattle.lattice.specs.declared.FullShape.{FullShape}
 use Rattle.lattice.specs.Outcome.{Check, done, refuse_unless, first}
 use Rattle.lattice.specs.Shape.{count, steps_on, nodes, axes_outcome, degree_outcome, counts_outcome, step_numbers_outcome, Shaped}
 use Rattle.lattice.specs.Records.{sample_limit, limit_outcome}
-use Rattle.lattice.proofs.OutcomeLaws.{first_done, first-assoc, refuse-done}
+use Rattle.lattice.proofs.OutcomeLaws.{first_done, refuse-done}
 use Rattle.lattice.proofs.ShapeLaws.{axes-range, counts-shaped, nodes-is}
 use Rattle.lattice.proofs.RecordsLaws.{limit-each}
 use Rattle.pool.specs.Pool.{shapes_outcome, alike, same_shape, weights_allowed, Measurement, nodes_of, length_outcome, pool_outcome}
-use Rattle.pool.specs.Parts.{kinds_outcome, pair_outcome, lengths_outcome, Weights, Poolable}
+use Rattle.pool.specs.Parts.{Weights, Poolable}
 
 -- ---- the shapes
 
@@ -33,10 +33,6 @@ module _ (a b : FullShape) where
 
   abbrev steps : Check
   steps = first (step_numbers_outcome a.shape.axes (steps_on a)) (step_numbers_outcome b.shape.axes (steps_on b))
-
-  pub shapes-are : first (kinds_outcome a.shape b.shape) (first counts steps) ≡ shapes_outcome a b
-  unfolding kinds_outcome shapes_outcome
-  shapes-are = first-assoc axes degrees (first counts steps)
 
   -- shapes that are not refused
   pub shapes-pass : shapes_outcome a b ≡ done tt → Shaped a.shape × Shaped b.shape
@@ -107,65 +103,45 @@ module _ (a b : Measurement) (room : ℕ) where
   abbrev limits : Check
   limits = first (limit_outcome 5 sample_limit a.samples) (limit_outcome 5 sample_limit b.samples)
 
-  -- in three groups
-  abbrev pub pair : Check
-  pair = pair_outcome a.shape a.weight b.shape b.weight
-
-  abbrev pub lengths : Check
-  lengths = lengths_outcome a.shape.shape (length a.samples) b.shape.shape (length b.samples) room
-
-  pub pool-is : first pair (first lengths limits) ≡ pool_outcome a b room
-  unfolding pool_outcome pair_outcome lengths_outcome length_outcome
-  pool-is =
-      first-assoc (first shapes same) weights (first lengths limits)
-      ∙ first-assoc shapes same (first weights (first lengths limits))
-      ∙ ap (λ (o : Check). first shapes (first same (first weights o))) (first-assoc long roomy limits)
-
-  -- the pair, where it is not refused
-  module _ (h : pair ≡ done tt) where
-    abbrev tested : (first shapes same ≡ done tt) × (weights ≡ done tt)
-    unfolding pair_outcome
-    tested = first_done (first shapes same) weights tt h
-
-    pub pair-shaped : Shaped a.shape.shape × Shaped b.shape.shape
-    pair-shaped = shapes-pass a.shape b.shape (first_done shapes same tt tested.0).0
-
-    pair-weights : Weights a.weight b.weight
-    pair-weights = weights-pass a.weight b.weight (refuse-done (weights_allowed a.weight b.weight) 28 0 tested.1)
-
-    pair-nodes : nodes_of b ≡ nodes_of a
-    pair-nodes = same_nodes a.shape b.shape
-        (refuse-done (same_shape a.shape b.shape) 27 0 (first_done shapes same tt tested.0).1)
-
   -- the call
   module _ (h : pool_outcome a b room ≡ done tt) where
-    abbrev passed : (pair ≡ done tt) × (first lengths limits ≡ done tt)
-    passed = first_done pair (first lengths limits) tt (pool-is ∙ h)
+    abbrev tested : (shapes ≡ done tt) × (first same (first weights (first long (first roomy limits))) ≡ done tt)
+    unfolding pool_outcome
+    tested = first_done shapes _ tt h
 
-    abbrev fitted : (first long roomy ≡ done tt) × (limits ≡ done tt)
-    unfolding lengths_outcome length_outcome
-    fitted = first_done (first long roomy) limits tt passed.1
+    abbrev alike_pair : (same ≡ done tt) × (first weights (first long (first roomy limits)) ≡ done tt)
+    alike_pair = first_done same _ tt tested.1
+
+    abbrev weighed : (weights ≡ done tt) × (first long (first roomy limits) ≡ done tt)
+    weighed = first_done weights _ tt alike_pair.1
+
+    abbrev counted : (long ≡ done tt) × (first roomy limits ≡ done tt)
+    counted = first_done long _ tt weighed.1
+
+    abbrev fitted : (roomy ≡ done tt) × (limits ≡ done tt)
+    fitted = first_done roomy limits tt counted.1
+
+    pair-nodes : nodes_of b ≡ nodes_of a
+    pair-nodes = same_nodes a.shape b.shape (refuse-done (same_shape a.shape b.shape) 27 0 alike_pair.0)
+
+    lengths : (length_outcome a ≡ done tt) × (length_outcome b ≡ done tt)
+    lengths = first_done (length_outcome a) (length_outcome b) tt counted.0
 
     pub pool-length : length a.samples ≡ nodes_of a
     unfolding length_outcome
-    pool-length =
-        eqb-true (length a.samples) (nodes_of a) (refuse-done (eqb (length a.samples) (nodes_of a)) 4 0
-        (first_done (length_outcome a) (length_outcome b) tt (first_done long roomy tt fitted.0).0).0)
+    pool-length = eqb-true (length a.samples) (nodes_of a) (refuse-done (eqb (length a.samples) (nodes_of a)) 4 0 lengths.0)
 
     other_length : length b.samples ≡ nodes_of b
     unfolding length_outcome
-    other_length =
-        eqb-true (length b.samples) (nodes_of b) (refuse-done (eqb (length b.samples) (nodes_of b)) 4 0
-        (first_done (length_outcome a) (length_outcome b) tt (first_done long roomy tt fitted.0).0).1)
+    other_length = eqb-true (length b.samples) (nodes_of b) (refuse-done (eqb (length b.samples) (nodes_of b)) 4 0 lengths.1)
 
     pub poolable : Poolable a.samples a.weight b.samples b.weight room
     poolable =
         let five = first_done (limit_outcome 5 sample_limit a.samples) (limit_outcome 5 sample_limit b.samples) tt fitted.1 in
-        let nine = refuse-done (leb (nodes_of a) room) 9 0 (first_done long roomy tt fitted.0).1 in
         record {
-          weights = pair-weights passed.0;
-          same = omega (arith, pool-length, other_length, pair-nodes passed.0);
-          fits = omega (arith, pool-length, leb-true (nodes_of a) room nine);
+          weights = weights-pass a.weight b.weight (refuse-done (weights_allowed a.weight b.weight) 28 0 weighed.0);
+          same = omega (arith, pool-length, other_length, pair-nodes);
+          fits = omega (arith, pool-length, leb-true (nodes_of a) room (refuse-done (leb (nodes_of a) room) 9 0 fitted.0));
           first = limit-each 5 sample_limit a.samples five.0;
           second = limit-each 5 sample_limit b.samples five.1;
         }

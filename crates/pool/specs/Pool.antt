@@ -3,6 +3,7 @@ use Rattle.std.specs.Prelude.{◌≡◌, ℕ, ◌+◌, ◌*◌, ◌≤◌, ◌<�
 use Rattle.std.specs.Bool.{beq}
 use Rattle.arith.specs.Int.{round_half_up}
 use Rattle.lattice.specs.declared.FullShape.{FullShape}
+use Rattle.pool.specs.declared.Measured.{Measured}
 use Rattle.lattice.specs.Outcome.{Check, done, refuse_unless, first, when_done}
 use Rattle.lattice.specs.Buffer.{at, tabulate, overwrite}
 use Rattle.lattice.specs.Shape.{count, steps_on, nodes, axes_outcome, degree_outcome, counts_outcome, step_numbers_outcome}
@@ -49,6 +50,10 @@ pub record Measurement : Type 0 where
 
 abbrev pub measured : FullShape → List ℤ → ℕ → Measurement
 measured shape samples weight = record { shape = shape; samples = samples; weight = weight }
+
+-- as the code is given it
+abbrev pub measurement_of : Measured → Measurement
+measurement_of a = measured a.shape a.samples.now a.weight
 
 -- the number of its nodes
 abbrev pub nodes_of : Measurement → ℕ

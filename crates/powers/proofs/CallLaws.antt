@@ -29,7 +29,7 @@ use Rattle.cell.proofs.CellLaws.{accepted}
 use Rattle.cell.proofs.CornerLaws.{corner-placed}
 use Rattle.cell.proofs.CornerRecords.{corner-permitted}
 use Rattle.coefficients.specs.Blocks.{gathered, Gathered}
-use Rattle.coefficients.proofs.TableCell.{gathered-is, corners-gathered}
+use Rattle.coefficients.proofs.TableCell.{gathered-is}
 use Rattle.powers.specs.Powers.{column_entry, column_numbers, matrix, table_two, factor, power_coefficient, power_list, request_outcome}
 use Rattle.powers.specs.Parts.{column_at, row_sum}
 use Rattle.powers.proofs.MatrixLaws.{entry-low, matrix-at, column-size}
@@ -45,6 +45,12 @@ pub record Asked (s : Shape) (given : ℕ) (cell : Place) (room : ℕ) : Type 0 
 two-orders : (d : ℕ) → d ≡ 3 → orders_of d ≡ 2
 unfolding orders_of pick
 two-orders d e = rw e refl
+
+-- 4^2 coefficients where 24 does not arise
+pub sixteen : (s : Shape) → refuse_unless (eqb s.axes 2 && eqb s.degree 3) 24 0 ≡ done tt → coefficient_count (orders s) s.axes ≡ 16
+sixteen s h =
+    let k = and-true (eqb s.axes 2) (eqb s.degree 3) (refuse-done (eqb s.axes 2 && eqb s.degree 3) 24 0 h) in
+    ap₂ coefficient_count (two-orders s.degree (eqb-true s.degree 3 k.1)) (eqb-true s.axes 2 k.0)
 
 pub asked : (t : FullShape) (given : ℕ) (xs : List ℕ) (room : ℕ) → request_outcome t given (place_at xs) room ≡ done tt
     → Asked t.shape given (place_at xs) room
@@ -96,11 +102,10 @@ module _ (s : Shape) (cell : Place) (room : ℕ) (rs : List ℤ) (ok : Asked s (
         entry = nat_abs (records_field s rs (corner_place s cell (column_entry K)))
 
   module _ (l : Layout) (laid : Laid s cell l) where
-    pub pair-gathered : corners_outcome s rs cell ≡ done tt → Gathered 2 2 l rs
-    pair-gathered passed =
-        subst (λ (m : ℕ). Gathered m 2 l rs) ok.cubic
-        (subst (λ (n : ℕ). Gathered (orders s) n l rs) ok.two
-        (corners-gathered s ok.shape cell ok.here rs ok.many l laid passed))
+    pub pair-gathered : Gathered l.orders.count s.axes l rs → Gathered 2 2 l rs
+    pair-gathered g =
+        subst (λ (m : ℕ). Gathered m 2 l rs) (laid.orders-are ∙ ok.cubic)
+        (subst (λ (n : ℕ). Gathered l.orders.count n l rs) ok.two g)
 
     -- a column as the layout finds it
     column-is : (K : ℕ) → K < 16 → factor K *ℤ records_field s rs (λ a. 2 * cell a + column_numbers K a) ≡ column_at l rs K

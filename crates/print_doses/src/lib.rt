@@ -7,16 +7,16 @@ use std::io;
 use std::io::{Read, Write};
 
 // Reads until `buf` is full or the input ends, and gives how many bytes lie at the front of `buf`.
+// By hand, with no heap: `read_to_end` fills a Vec, and `io::copy` does not say how few bytes it copied.
 fn read_full<R: Read>(input: &mut R, buf: &mut [u8]) -> io::Result<usize>
     ensures { IfOk result (λ n. n ≤ length buf.new) }
 {
     let mut done = 0;
     while done < buf.len() {
-        let n = input.read(&mut buf[done..])?;
-        if n == 0 {
-            break;
+        match input.read(&mut buf[done..])? {
+            0 => break,
+            n => done += n,
         }
-        done += n;
     }
     Ok(done)
 }

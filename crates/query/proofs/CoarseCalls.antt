@@ -19,10 +19,9 @@ use Rattle.lattice.proofs.OutcomeLaws.{first_done, refused-first}
 use Rattle.lattice.proofs.ShapeLaws.{shaped}
 use Rattle.lattice.proofs.StepLaws.{steps-each, full-done, full-shape}
 use Rattle.cell.specs.Cell.{place_at}
-use Rattle.cell.proofs.CellLaws.{three, indices}
+use Rattle.cell.proofs.CellLaws.{three}
 use Rattle.evaluate.specs.Evaluate.{Want}
-use Rattle.query.specs.declared.Reading.{Reading}
-use Rattle.query.specs.Answers.{outcome_of_reading, Marks}
+use Rattle.query.specs.Answers.{Reading, outcome_of_reading, Marks}
 use Rattle.query.specs.Queries.{asked_outcome, by_cell, Position, position_at, position_outcome, position_cell, position_step, by_position, cell_mark, position_mark}
 use Rattle.query.specs.Parts.{finest, factor_for, factor_on, scaled, scaled_position, Finest, StandsFor, Stand}
 use Rattle.query.proofs.QueryLaws.{asked-facts, by-cell-is, finest-small}
@@ -56,11 +55,6 @@ itself t fine xs ys is = record {
 pub back : (b : Bool) → not b ≡ false → b ≡ true
 back true e = refl
 back false e = clash (cc)
-
--- three equal numbers
-pub moved : (t : FullShape) (xs : List ℕ) (x y z u v w : ℕ) → u ≡ x → v ≡ y → w ≡ z → Finest t xs (x ∷ y ∷ z ∷ [])
-    → Finest t xs (u ∷ v ∷ w ∷ [])
-moved t xs x y z u v w ex ey ez h = rw (ex, ey, ez) h
 
 -- a factor as the code finds it: 0 where the step number of axis a is not allowed
 abbrev pub Factor : FullShape → ℕ → ℕ → Type 0
@@ -140,16 +134,6 @@ module _ (t : FullShape) (rs : List ℤ) (want : Want) where
       stands : (a : ℕ) → a < 3 → StandsFor (scaled_position (g.factor a) (at p a)) (get_or finer a 0)
       stands a l = subst (StandsFor (scaled_position (g.factor a) (at p a))) (sym (g.each a l))
           (scaled-stands (g.factor a) (at p a) (get_or from a 0) (g.small a l) (st a l))
-
--- what is read at numbers taken one by one
-pub one_by_one : (t : FullShape) (rs : List ℤ) (want : Want) (r : Reading) (cell : List ℕ) (step : Place)
-    → let cell' = place_at (get_or cell 0 0 ∷ get_or cell 1 0 ∷ get_or cell 2 0 ∷ []) in
-    (outcome_of_reading r ≡ by_cell t rs want cell' step) × Marks r (cell_mark t rs want cell' step)
-    → (outcome_of_reading r ≡ by_cell t rs want (place_at cell) step) × Marks r (cell_mark t rs want (place_at cell) step)
-one_by_one t rs want r cell step h = (
-  h.0 ∙ ap (λ (c : Place). by_cell t rs want c step) (indices cell),
-  λ given. h.1 given ∙ ap (λ (c : Place). cell_mark t rs want c step) (indices cell),
-)
 
 -- ---- every table: an answer is below 2^24
 

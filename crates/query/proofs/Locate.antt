@@ -4,7 +4,7 @@ use mathlib.Core.Path.{◌≡◌, refl, sym, ap, ap₂, subst, ◌∙◌, fun_ex
 use mathlib.Core.Bool.{Bool, true, false}
 use mathlib.Core.List.{List, [], ◌∷◌}
 use mathlib.Core.Logic.{◌⊎◌}
-use Prim.Native.Nat.{ℕ, ◌+◌, ◌*◌, ◌-◌, ◌/◌, ◌^◌, ◌≤◌, ◌<◌, min}
+use Prim.Native.Nat.{ℕ, ◌+◌, ◌*◌, ◌-◌, ◌^◌, ◌≤◌, ◌<◌, min}
 use native.Mathlib.Nat.{mul-zero, zero-div}
 use native.Mathlib.Omega.{arith}
 use native.Mathlib.Decide.{dec_lt}
@@ -18,7 +18,7 @@ use borrow.Author.Tests.{leb-true, lt-leb, le-leb, ne_eqb, lt-ltb, le-ltb}
 use Rattle.arith.specs.Choice.{pick}
 use Rattle.arith.specs.Int.{unsigned_of}
 use Rattle.arith.proofs.Machine.{element}
-use Rattle.arith.proofs.Choices.{clash, pick_true, pick-false, by-3, from-3}
+use Rattle.arith.proofs.Choices.{clash, split, pick_true, pick-false, by-3, from-3}
 use Rattle.arith.proofs.Bits.{same_test}
 use Rattle.lattice.specs.declared.Shape.{Shape}
 use Rattle.lattice.specs.declared.FullShape.{FullShape}
@@ -33,23 +33,13 @@ use Rattle.hermite.specs.Hermite.{steps}
 use Rattle.cell.specs.Cell.{place_at, cell_outcome}
 use Rattle.cell.proofs.CellLaws.{place-beyond, indices, cell-passes}
 use Rattle.evaluate.specs.Evaluate.{Want}
-use Rattle.query.specs.declared.Reading.{Reading}
-use Rattle.query.specs.Answers.{outcome_of_reading, Marks}
+use Rattle.query.specs.Answers.{Reading, outcome_of_reading, Marks}
 use Rattle.query.specs.Queries.{asked_outcome, reading, position_test, steps_outcome, by_cell, Position, position_at, position_outcome, cell_of, position_cell, position_step, by_position, cell_mark, position_mark}
-use Rattle.query.specs.Parts.{renumbered, below, position_number, number_by, finest, cell_on, StandsFor, Stand}
+use Rattle.query.specs.Parts.{renumbered, below, position_number, number_by, finest, cell_on, InCells, StandsFor, Stand}
 use Rattle.query.proofs.QueryLaws.{asked-facts, by-cell-is, used-test, unused-test, finest-used, steps-pass, position-range, in_cell}
 use Rattle.query.proofs.Renumbered.{renumbered-first, renumbered-each, renumbered-test, kept-asked, renumbered-query, position-keeps, position-or, by-cell-stays, by-position-told}
 
 -- ---- the cell that the code finds
-
-module _ (count p last : ℕ) (is : last ≡ count - 2) where
-  pub low-cell : p / 256 < last → p / 256 ≡ cell_of steps count p
-  unfolding cell_of
-  low-cell h = omega arith
-
-  pub last-cell : last ≤ p / 256 → last ≡ cell_of steps count p
-  unfolding cell_of
-  last-cell h = omega arith
 
 -- a cell starts at or below its positions
 module _ (count p i : ℕ) (e : i ≡ cell_of steps count p) where
@@ -59,6 +49,12 @@ module _ (count p i : ℕ) (e : i ≡ cell_of steps count p) where
 
   pub cell-held : p < 2 ^ 32 → Fits w32 (256 * i)
   cell-held f = let l = cell_below in record { fits = omega arith }
+
+pub cell-on-below : (s : Shape) (a p i : ℕ) → i ≡ cell_on s a p → 256 * i ≤ p
+unfolding cell_on
+cell-on-below s a p i e = split (ltb a s.axes)
+    (λ h. cell_below (count s a) p i (e ∙ pick_true (ltb a s.axes) (cell_of steps (count s a) p) 0 h))
+    (λ h. let f = e ∙ pick-false (ltb a s.axes) (cell_of steps (count s a) p) 0 h in omega arith)
 
 -- ---- one axis
 
@@ -433,82 +429,63 @@ module _ (s : Shape) (even : Bool) (rs : List ℤ) (want : Want) where
               let f = shaped s (asked-facts there rs want a).shape in
               (ej ∙ cell-on f 1 (omega arith) y, ek ∙ cell-on f 2 (omega arith) z)
 
-pub used-cell : (s : Shape) (a b j v : ℕ) → a < s.axes → j ≡ cell_of steps (count s a) b → v ≡ b - 256 * j
-    → (j ≡ cell_on s a b) × (v ≡ b - 256 * j)
-unfolding cell_on
-used-cell s a b j v l e f = (e ∙ sym (pick_true (ltb a s.axes) (cell_of steps (count s a) b) 0 (lt-ltb a s.axes l)), f)
-
-pub unused-cell : (s : Shape) (a b j v : ℕ) → s.axes ≤ a → j ≡ 0 → v ≡ b → (j ≡ cell_on s a b) × (v ≡ b - 256 * j)
-unfolding cell_on
-unused-cell s a b j v l e f =
-    (e ∙ sym (pick-false (ltb a s.axes) (cell_of steps (count s a) b) 0 (le-ltb a s.axes l)), omega arith)
+-- three numbers that are the same
+three_same : {x y z u v w : ℕ} → u ≡ x → v ≡ y → w ≡ z → place_at (u ∷ v ∷ w ∷ []) ≡ place_at (x ∷ y ∷ z ∷ [])
+three_same e f g = rw (e, f, g) refl
 
 -- what the code reads at the cells and in-cell steps of a position
-pub spot-read : (s : Shape) (even : Bool) (rs : List ℤ) (want : Want) (xs : List ℤ) (b : List ℕ) → Stand xs b → (i u j v k w : ℕ)
-    → (i ≡ cell_of steps (count s 0) (get_or b 0 0)) × (u ≡ get_or b 0 0 - 256 * i) × (j ≡ cell_on s 1 (get_or b 1 0)) ×
-    (v ≡ get_or b 1 0 - 256 * j)
-    × (k ≡ cell_on s 2 (get_or b 2 0)) × (w ≡ get_or b 2 0 - 256 * k)
-    → (r : Reading)
+spot-read : (s : Shape) (even : Bool) (rs : List ℤ) (want : Want) (xs : List ℤ) (b : List ℕ) → Stand xs b → (c u : List ℕ)
+    → InCells s b c u → (r : Reading)
     → let t = finest s even in
-    let cell = place_at (i ∷ j ∷ k ∷ []) in
-    let step = place_at (u ∷ v ∷ w ∷ []) in
+    let cell = place_at c in
+    let step = place_at u in
     (outcome_of_reading r ≡ renumbered (position_number cell step) (by_cell t rs want cell step)) × Marks r (cell_mark t rs want cell step)
     → (outcome_of_reading r ≡ by_position t rs want (position_at xs)) × Marks r (position_mark t rs want (position_at xs))
-spot-read s even rs want xs b st i u j v k w e r h =
+spot-read s even rs want xs b st c u l r h =
     let x = get_or b 0 0 in
     let y = get_or b 1 0 in
     let z = get_or b 2 0 in
-    let cell = place_at (i ∷ j ∷ k ∷ []) in
-    let same : place_at (u ∷ v ∷ w ∷ []) ≡ place_at ((x - 256 * i) ∷ (y - 256 * j) ∷ (z - 256 * k) ∷ []) = rw (e.1, e.3, e.5) refl in
+    let i = get_or c 0 0 in
+    let j = get_or c 1 0 in
+    let k = get_or c 2 0 in
+    let t = finest s even in
+    let Told : Place → Place → Type 0 = (λ (cell step : Place).
+    (outcome_of_reading r ≡ renumbered (position_number cell step) (by_cell t rs want cell step)) × Marks r
+    (cell_mark t rs want cell step)) in
+    let steps_same : place_at u ≡ place_at ((x - 256 * i) ∷ (y - 256 * j) ∷ (z - 256 * k) ∷ []) =
+    sym (indices u) ∙ three_same (l.rest 0 (omega arith)) (l.rest 1 (omega arith)) (l.rest 2 (omega arith)) in
+    let there : Told (place_at (i ∷ j ∷ k ∷ [])) (place_at ((x - 256 * i) ∷ (y - 256 * j) ∷ (z - 256 * k) ∷ [])) =
+    subst (λ (step : Place). Told (place_at (i ∷ j ∷ k ∷ [])) step) steps_same
+    (subst (λ (cell : Place). Told cell (place_at u)) (sym (indices c)) h) in
     on-axes s even rs want xs x y z i (cell_of steps (count s 1) y) (cell_of steps (count s 2) z) (st 0 (omega arith)) (st 1 (omega arith))
-    (st 2 (omega arith)) e.0 refl refl r
-    (all-cells s even rs want x y z i j k e.2 e.4 r
-    (subst (λ (step : Place). (outcome_of_reading r ≡ renumbered (position_number cell step) (by_cell (finest s even) rs want cell step))
-    × Marks r (cell_mark (finest s even) rs want cell step)) same h))
-
--- what the code reads at the cell and in-cell step of a query by cell
-spot-own : (t : FullShape) (rs : List ℤ) (want : Want) (cells inside : List ℕ) (i u j v k w : ℕ)
-    → (i ≡ get_or cells 0 0) × (u ≡ get_or inside 0 0) × (j ≡ get_or cells 1 0) × (v ≡ get_or inside 1 0) × (k ≡ get_or cells 2 0)
-    × (w ≡ get_or inside 2 0)
-    → (r : Reading)
-    → let cell = place_at (i ∷ j ∷ k ∷ []) in
-    let step = place_at (u ∷ v ∷ w ∷ []) in
-    (outcome_of_reading r ≡ renumbered (number_by true cell step) (by_cell t rs want cell step)) × Marks r (cell_mark t rs want cell step)
-    → (outcome_of_reading r ≡ by_cell t rs want (place_at cells) (place_at inside))
-    × Marks r (cell_mark t rs want (place_at cells) (place_at inside))
-spot-own t rs want cells inside i u j v k w e r h =
-    let cell = place_at (i ∷ j ∷ k ∷ []) in
-    let step = place_at (u ∷ v ∷ w ∷ []) in
-    let c : place_at (i ∷ j ∷ k ∷ []) ≡ place_at cells = rw (e.0, e.2, e.4) (indices cells) in
-    let d : place_at (u ∷ v ∷ w ∷ []) ≡ place_at inside = rw (e.1, e.3, e.5) (indices inside) in (
-      h.0 ∙ by-cell-stays cell step (by_cell t rs want cell step) ∙ ap₂ (by_cell t rs want) c d,
-      λ given. h.1 given ∙ ap₂ (cell_mark t rs want) c d,
-    )
+    (st 2 (omega arith)) l.on_x refl refl r (all-cells s even rs want x y z i j k l.on_y l.on_z r there)
 
 -- by cell or by position
-pub spot-told : (cellwise : Bool) (s : Shape) (even : Bool) (rs : List ℤ) (want : Want) (cells inside : List ℕ) (i u j v k w : ℕ)
-    → (cellwise ≡ true → (i ≡ get_or cells 0 0) × (u ≡ get_or inside 0 0) × (j ≡ get_or cells 1 0) × (v ≡ get_or inside 1 0)
-    × (k ≡ get_or cells 2 0) × (w ≡ get_or inside 2 0))
-    → (cellwise ≡ false → (i ≡ cell_of steps (count s 0) (get_or inside 0 0)) × (u ≡ get_or inside 0 0 - 256 * i)
-    × (j ≡ cell_on s 1 (get_or inside 1 0))
-    × (v ≡ get_or inside 1 0 - 256 * j) × (k ≡ cell_on s 2 (get_or inside 2 0)) × (w ≡ get_or inside 2 0 - 256 * k))
-    → (r : Reading)
+pub spot-told : (cellwise : Bool) (s : Shape) (even : Bool) (rs : List ℤ) (want : Want) (cells inside c u : List ℕ)
+    → (cellwise ≡ true → (c ≡ cells) × (u ≡ inside)) → (cellwise ≡ false → InCells s inside c u) → (r : Reading)
     → let t = finest s even in
-    let cell = place_at (i ∷ j ∷ k ∷ []) in
-    let step = place_at (u ∷ v ∷ w ∷ []) in
+    let cell = place_at c in
+    let step = place_at u in
     (outcome_of_reading r ≡ renumbered (number_by cellwise cell step) (by_cell t rs want cell step)) × Marks r
     (cell_mark t rs want cell step)
     → (cellwise ≡ true → (outcome_of_reading r ≡ by_cell t rs want (place_at cells) (place_at inside))
     × Marks r (cell_mark t rs want (place_at cells) (place_at inside)))
     × (cellwise ≡ false → (p : List ℤ) → Stand p inside → (outcome_of_reading r ≡ by_position t rs want (position_at p))
     × Marks r (position_mark t rs want (position_at p)))
-spot-told true s even rs want cells inside i u j v k w e f r h =
-    (λ g. spot-own (finest s even) rs want cells inside i u j v k w (e refl) r h, λ g. clash (cc))
-spot-told false s even rs want cells inside i u j v k w e f r h =
+spot-told true s even rs want cells inside c u e f r h =
     let t = finest s even in
-    let cell = place_at (i ∷ j ∷ k ∷ []) in
-    let step = place_at (u ∷ v ∷ w ∷ []) in (
+    let at_cell = ap place_at (e refl).0 in
+    let at_step = ap place_at (e refl).1 in (
+      λ g. (
+        h.0 ∙ by-cell-stays (place_at c) (place_at u) (by_cell t rs want (place_at c) (place_at u)) ∙ ap₂
+            (by_cell t rs want) at_cell at_step,
+        λ given. h.1 given ∙ ap₂ (cell_mark t rs want) at_cell at_step,
+      ),
       λ g. clash (cc),
-      λ g p st. spot-read s even rs want p inside st i u j v k w (f refl) r
-          (h.0 ∙ by-position-told cell step (by_cell t rs want cell step), h.1),
+    )
+spot-told false s even rs want cells inside c u e f r h =
+    let t = finest s even in (
+      λ g. clash (cc),
+      λ g p st. spot-read s even rs want p inside st c u (f refl) r
+          (h.0 ∙ by-position-told (place_at c) (place_at u) (by_cell t rs want (place_at c) (place_at u)), h.1),
     )

@@ -7,8 +7,7 @@ use native.Mathlib.Nat.{mul_comm}
 use native.Mathlib.Decide.{dec_lt}
 use native.Mathlib.Omega.{arith}
 use lib.Dec.{leb, ltb, eqb}
-use lib.ListN.{length, take}
-use lib.Seq.{take-length}
+use lib.ListN.{length, get_or}
 use lib.IntN.{ℤ, pos, negsuc, nat_abs}
 use lib.Signed.{non_neg}
 use borrow.Author.Tests.{ltb-true, ltb-false, leb-true, eqb-true, lt-ltb, le-ltb, le-leb, eq-eqb}
@@ -25,7 +24,7 @@ use Rattle.lattice.specs.Axes.{Place, Field, OnUsed}
 use Rattle.lattice.specs.Records.{records_field}
 use Rattle.lattice.proofs.ShapeLaws.{orders-range, shaped}
 use Rattle.lattice.proofs.StepLaws.{by-step-number, step-factor, factor-range, step_range, full-shape, full-stepped}
-use Rattle.lattice.proofs.OutcomeLaws.{first_done, first_passes, first-passed, first-assoc, refused-first, passed-done, passed-not, done-same, refuse-done, passes, first_of-each, first_of-passes}
+use Rattle.lattice.proofs.OutcomeLaws.{first_done, first-passed, first-assoc, refused-first, passed-done, done-same, refuse-done, passes, first_of-each, first_of-passes}
 use Rattle.hermite.specs.Hermite.{steps}
 use Rattle.hermite.specs.Stage.{Smooth}
 use Rattle.cell.specs.declared.Layout.{Layout}
@@ -36,8 +35,6 @@ use Rattle.evaluate.proofs.Answering.{answer-fits}
 use Rattle.evaluate.proofs.Scaled.{Scales, answer-scaled, exact-scaled}
 use Rattle.evaluate.specs.Evaluate.{Want, dose, derivative_along, order_wanted, last_axis, ask_at, answer_by, exact_by}
 use Rattle.evaluate.specs.declared.Value.{Value}
-use Rattle.query.specs.declared.Reading.{Reading}
-use Rattle.query.specs.Answers.{outcome_of_reading, is_exact, Marks}
 use Rattle.query.specs.Queries.{want_outcome, asked_outcome, tested_outcome, reading, ask_in, position_test, steps_outcome, by_cell, Position, position_outcome, cell_of, cell_mark}
 use Rattle.query.specs.Parts.{finest}
 
@@ -154,12 +151,13 @@ step-test s u a = split (ltb a s.axes)
     (λ e. rw e refl ∙ sym (unused-test s (finest_on s.axes a) (pos u) a e))
 
 -- one axis after the other
-pub steps-scanned : (s : Shape) (even : Bool) (u v w : ℕ) {x y z one two three : Check}
-    → x ≡ position_test s (finest_on s.axes 0) (pos u) 0
-    → y ≡ position_test s (finest_on s.axes 1) (pos v) 1 → z ≡ position_test s (finest_on s.axes 2) (pos w) 2
-    → one ≡ x → two ≡ first one y → three ≡ first two z → three ≡ steps_outcome (finest s even) (place_at (u ∷ v ∷ w ∷ []))
+pub steps-scanned : (s : Shape) (even : Bool) (xs : List ℕ)
+    → let test : ℕ → Check = λ a. position_test s (finest_on s.axes a) (pos (get_or xs a 0)) a in
+    first (test 0) (first (test 1) (test 2)) ≡ steps_outcome (finest s even) (place_at xs)
 unfolding steps_outcome steps_on first_of place_at pick
-steps-scanned s even u v w ex ey ez e f g = rw (g, f, e, ex, ey, ez) refl
+steps-scanned s even xs =
+    let test : ℕ → Check = λ a. position_test s (finest_on s.axes a) (pos (get_or xs a 0)) a in
+    sym (first-assoc (test 0) (test 1) (test 2))
 
 -- what 1, 2, 3, 26, 4, 12 and 21 say of a query that they do not refuse
 pub record Common (t : FullShape) (rs : List ℤ) (want : Want) : Type 0 where
@@ -299,13 +297,6 @@ module _ (s : Shape) (even : Bool) {rs : List ℤ} (want : Want) (cell step : Pl
       ≡ exact_by (rounding_of even) (ask_in (finest s even) want cell step) g
   finest-mark = finer-mark (finest s even) want cell step step a.full a.wanted itself g (edition-sound even)
 
--- the slice made anew of all the records
-abbrev pub lent : List ℤ → List ℤ
-lent rs = take (length rs) rs
-
-pub lent-long : (rs : List ℤ) → length (lent rs) ≡ length rs
-lent-long rs = ap length (take-length rs)
-
 -- where the cell is given by three numbers: what its layout, its corners' test and its stages need
 pub record Near (s : Shape) (rs : List ℤ) (cell : List ℕ) : Type 0 where
   pub shape : Shaped s
@@ -354,7 +345,7 @@ module _ (s : Shape) (even : Bool) (rs : List ℤ) (want : Want) (cell : List �
     where
       laid : Layout
       laid = record {
-        orders = orders s;
+        orders = record { count = orders s; bounds = orders-range s.degree };
         entries = entries s;
         base = base s (place_at cell);
         strides =
@@ -371,19 +362,15 @@ pub record Reader (s : Shape) (even : Bool) (rs : List ℤ) (want : Want) (cell 
       → (Shaped s × (length rs ≡ size s)) × (Accepted s (place_at cell) × Laid s (place_at cell) l)
   pub stages-ask : (l : Layout) → Laid s (place_at cell) l → (w : Bool) → w ≡ passed (corners_outcome s rs (place_at cell)) → w ≡ true
       → Ready s rs (place_at cell) step want l
-  pub answered : (w : Bool) → w ≡ passed (corners_outcome s rs (place_at cell)) → w ≡ true
-      → (r : Reading) (v : Value) → (outcome_of_reading r ≡ done v.number) × (is_exact r ≡ v.exact)
-      → (v.number ≡ answer_by (rounding_of even) (ask_at s want (place_at cell) step) (records_field s rs))
-      × (v.exact ≡ exact_by (rounding_of even) (ask_at s want (place_at cell) step) (records_field s rs))
-      → (outcome_of_reading r ≡ reading (finest s even) rs want (place_at cell) step)
-      × Marks r (cell_mark (finest s even) rs want (place_at cell) step)
-  pub beyond-asks : (l : Layout) → Laid s (place_at cell) l → (w : Bool) → w ≡ passed (corners_outcome s rs (place_at cell)) → w ≡ false
-      → (Shaped s × (length rs ≡ size s))
-      × ((Accepted s (place_at cell) × Laid s (place_at cell) l) × (passed (corners_outcome s rs (place_at cell)) ≡ false))
-  pub stopped : (w : Bool) → w ≡ passed (corners_outcome s rs (place_at cell)) → w ≡ false
-      → (r : Reading) → ((v : ℤ) → outcome_of_reading r ≡ first (corners_outcome s rs (place_at cell)) (done v))
-      → (outcome_of_reading r ≡ reading (finest s even) rs want (place_at cell) step)
-      × Marks r (cell_mark (finest s even) rs want (place_at cell) step)
+  pub answered : (w : Bool) → w ≡ passed (corners_outcome s rs (place_at cell)) → w ≡ true → (v : Value)
+      → v.number ≡ answer_by (rounding_of even) (ask_at s want (place_at cell) step) (records_field s rs)
+      → v.exact ≡ exact_by (rounding_of even) (ask_at s want (place_at cell) step) (records_field s rs)
+      → (done v.number ≡ reading (finest s even) rs want (place_at cell) step)
+      × (v.exact ≡ cell_mark (finest s even) rs want (place_at cell) step)
+  pub beyond-asks : (w : Bool) → w ≡ passed (corners_outcome s rs (place_at cell)) → w ≡ false
+      → passed (corners_outcome s rs (place_at cell)) ≡ false
+  pub stopped : {n p : ℕ} → refused n p ≡ corners_outcome s rs (place_at cell)
+      → refused n p ≡ reading (finest s even) rs want (place_at cell) step
 
 pub reader : (s : Shape) (even : Bool) (rs : List ℤ) (want : Want) (cell : List ℕ) (step : Place)
     → tested_outcome (finest s even) rs want (place_at cell) step ≡ done tt → Reader s even rs want cell step
@@ -395,18 +382,14 @@ reader s even rs want cell step t =
       layout-asks = (f.shape, f.here);
       corners-asks = λ l laid. ((f.shape, f.long), (f.here, laid));
       stages-ask = λ l laid w e h. ready s even rs want cell step t l laid (sym e ∙ h);
-      answered = λ w e h r v told is. (
-        told.0 ∙ ap done (is.0 ∙ finest-answer s even want (place_at cell) step a (records_field s rs))
+      answered = λ w e h v number exact. (
+        ap done (number ∙ finest-answer s even want (place_at cell) step a (records_field s rs))
             ∙ sym (reading-passes (finest s even) rs want (place_at cell) step
             (passed-done (corners_outcome s rs (place_at cell)) (sym e ∙ h))),
-        λ given. told.1 ∙ is.1 ∙ finest-mark s even want (place_at cell) step a (records_field s rs),
+        exact ∙ finest-mark s even want (place_at cell) step a (records_field s rs),
       );
-      beyond-asks = λ l laid w e h. ((f.shape, f.long), ((f.here, laid), sym e ∙ h));
-      stopped = λ w e h r o. (
-        o (answer_by (rounding_of even) (ask_in (finest s even) want (place_at cell) step) (records_field s rs)),
-        λ given. absurd (passed-not (corners_outcome s rs (place_at cell)) (sym e ∙ h)
-            (first_passes (corners_outcome s rs (place_at cell)) (done (pos 0)) (sym (ap passed (o (pos 0))) ∙ given)).0),
-      );
+      beyond-asks = λ w e h. sym e ∙ h;
+      stopped = λ e. sym (refused-first _ (sym e));
     }
 
 -- ---- positions

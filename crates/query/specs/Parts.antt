@@ -1,6 +1,6 @@
 -- What the inner functions state, on 256 steps: a position below 0 by its cell and in-cell step, refusals under another number, and numbers
 -- of coarser steps.
-use Rattle.std.specs.Prelude.{ℕ, ◌+◌, ◌*◌, ◌/◌, ◌^◌, ◌≤◌, ◌<◌, ◌≡◌, Bool, true, false, ◌&&◌, List, leb, ltb, eqb, ℤ, pos, negsuc, nat_abs, get_or}
+use Rattle.std.specs.Prelude.{ℕ, ◌+◌, ◌*◌, ◌-◌, ◌/◌, ◌^◌, ◌≤◌, ◌<◌, ◌≡◌, Bool, true, false, ◌&&◌, List, leb, ltb, eqb, ℤ, pos, negsuc, nat_abs, get_or}
 use Rattle.std.specs.Int.Signed.{non_neg}
 use Rattle.arith.specs.Choice.{pick}
 use Rattle.lattice.specs.declared.Shape.{Shape}
@@ -64,6 +64,13 @@ pub record Finest (t : FullShape) (from to : List ℕ) : Type 0 where
 -- the cell of a position on an axis of 256 steps; 0 on an unused axis
 unfoldable pub cell_on : Shape → ℕ → ℕ → ℕ
 cell_on s a p = pick (ltb a s.axes) (cell_of steps (count s a) p) 0
+
+-- the cells and in-cell steps of three positions, on 256 steps
+pub record InCells (s : Shape) (at cell step : List ℕ) : Type 0 where
+  pub on_x : get_or cell 0 0 ≡ cell_of steps (count s 0) (get_or at 0 0)
+  pub on_y : get_or cell 1 0 ≡ cell_on s 1 (get_or at 1 0)
+  pub on_z : get_or cell 2 0 ≡ cell_on s 2 (get_or at 2 0)
+  pub rest : (a : ℕ) → a < 3 → get_or step a 0 ≡ get_or at a 0 - 256 * get_or cell a 0
 
 -- b stands for the position p in two's complement: p itself, or a number of 2^31 or more where p is below 0
 pub record StandsFor (p : ℤ) (b : ℕ) : Type 0 where

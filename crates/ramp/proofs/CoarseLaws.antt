@@ -90,6 +90,10 @@ pub itself : (t : FullShape) → ((a : ℕ) → a < 3 → steps_on t a ≡ fines
 itself t fine ps i l a h =
     sym (ap (λ (k : ℕ). scaled_position k (query_at ps i a)) (factor-one t fine a h) ∙ position-one (query_at ps i a))
 
+-- a list has at most 768 numbers
+pub at-most : (s : Shape) (rs ps : List ℤ) → Listed s rs ps → length ps ≤ 768
+at-most s rs ps h = let l = h.few in let e = h.whole in omega arith
+
 -- query i of the scaled list, whose front is lent
 module _ (t : FullShape) (full : full_outcome t ≡ done tt) (x y z : ℕ) (fx : Factor t 0 x) (fy : Factor t 1 y)
     (fz : Factor t 2 z) (ps held : List ℤ) (f : Finer (x ∷ y ∷ z ∷ []) ps held) (few : length ps ≤ 768)

@@ -1,9 +1,11 @@
+pub mod ChunkLaws
 pub mod NewCells
 pub mod RowLaws
 pub mod FetchLaws
 pub mod DoseLaws
 pub mod QueryLaws
 pub mod LoopLaws
+pub mod TurnLaws
 pub mod CoarseLaws
 pub mod ListLaws
 pub mod Theorems

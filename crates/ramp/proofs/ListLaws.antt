@@ -1,15 +1,18 @@
 -- What follows from a list that is not refused by its lengths.
-use mathlib.Core.Path.{◌≡◌}
+use mathlib.Core.Path.{◌≡◌, sym, ap, ap₂, ◌∙◌}
 use mathlib.Core.Bool.{◌&&◌}
-use mathlib.Core.List.{List}
-use Prim.Native.Nat.{ℕ, ◌%◌, ◌≤◌}
+use mathlib.Core.List.{List, ◌++◌}
+use Prim.Native.Nat.{ℕ, ◌%◌, ◌≤◌, ◌<◌}
 use native.Mathlib.Omega.{arith}
 use lib.Dec.{leb, eqb}
-use lib.IntN.{ℤ}
-use lib.ListN.{length}
+use lib.IntN.{ℤ, pos}
+use lib.ListN.{length, take, drop}
 use borrow.Author.Tests.{leb-true, eqb-true}
 use Rattle.arith.proofs.Choices.{and-true}
 use Rattle.lattice.specs.declared.FullShape.{FullShape}
+use Rattle.std.proofs.lemmas.List.{length-take-le, get_or-take}
+use Rattle.lattice.specs.Buffer.{at, tabulate, overwrite}
+use Rattle.lattice.proofs.BufferLaws.{tabulate-get_or, tabulate-same, length-tabulate}
 use Rattle.lattice.specs.Outcome.{Check, done, refuse_unless, first}
 use Rattle.lattice.specs.Shape.{size, full_outcome}
 use Rattle.lattice.proofs.OutcomeLaws.{first_done, refuse-done}
@@ -41,3 +44,14 @@ listed t rs ps room h =
       leb-true (queries ps) room (refuse-done (leb (queries ps) room) 9 0 i.1),
       f.0,
     )
+
+-- ---- the answers that are written
+
+-- the front of an array, by its elements
+pub front : (found : List ℤ) (n : ℕ) (f : ℕ → ℤ) → n ≤ length found → ((i : ℕ) → i < n → at found i ≡ f i) → take n found ≡ tabulate n f
+front found n f few is =
+    sym (tabulate-get_or (take n found) n (pos 0) (length-take-le n found few))
+    ∙ tabulate-same n (at (take n found)) f (λ i l. get_or-take n found i (pos 0) l ∙ is i l)
+
+pub overwritten : (new old : List ℤ) (n : ℕ) (f : ℕ → ℤ) → new ≡ tabulate n f → new ++ drop n old ≡ overwrite (tabulate n f) old
+overwritten new old n f e = ap₂ ◌++◌ e (ap (λ (k : ℕ). drop k old) (sym (length-tabulate n f)))

@@ -1,38 +1,36 @@
 -- Cells that differ, and the number of fetches from query to query.
-use mathlib.Core.Path.{◌≡◌, refl, sym, ap, ap₂}
+use mathlib.Core.Path.{◌≡◌, refl, sym, ap, ap₂, ◌∙◌}
 use mathlib.Core.Bool.{Bool, true, false, not, ◌&&◌}
+use mathlib.Core.List.{List}
 use Prim.Native.Nat.{ℕ, zero, suc, ◌+◌, ◌≤◌, ◌<◌}
 use native.Mathlib.Omega.{arith}
 use lib.Dec.{eqb}
-use borrow.Author.Tests.{eqb-true, eq-eqb, ne_eqb}
+use lib.ListN.{length, get_or}
+use lib.Pointwise.{pointwise}
+use borrow.Author.Tests.{eqb-true}
 use Rattle.arith.specs.Choice.{pick}
-use Rattle.arith.proofs.Choices.{and-true, pick_true, pick-false}
+use Rattle.arith.proofs.Choices.{and-true}
 use Rattle.lattice.specs.Axes.{Place}
+use Rattle.lattice.specs.Buffer.{tabulate}
+use Rattle.lattice.proofs.BufferLaws.{tabulate-get_or}
+use Rattle.cell.specs.Cell.{place_at}
+use Rattle.std.proofs.Math.Bool.{and-true as and-right}
 use Rattle.query.proofs.CoarseCalls.{back}
 use Rattle.ramp.specs.Ramp.{differ, changes, fetches}
 
--- whether a cell is new after so many fetches
-module _ (fetched : ℕ) (b : Bool) where
-  pub new-first : fetched ≡ 0 → true ≡ pick (eqb fetched 0) true b
-  new-first e = sym (pick_true (eqb fetched 0) true b (eq-eqb fetched 0 e))
+-- cells as they are compared
+three-pairs : (f g : ℕ → ℕ) → not (pointwise eqb (tabulate 3 f) (tabulate 3 g))
+    ≡ not (eqb (f 0) (g 0) && (eqb (f 1) (g 1) && eqb (f 2) (g 2)))
+unfolding tabulate
+three-pairs f g = ap (λ (t : Bool). not (eqb (f 0) (g 0) && (eqb (f 1) (g 1) && t))) (and-right (eqb (f 2) (g 2)))
 
-  pub new-later : (fetched ≡ 0 → ⊥) → pick (eqb fetched 0) true b ≡ b
-  new-later n = pick-false (eqb fetched 0) true b (ne_eqb fetched 0 n)
+pub differ-lists : (xs ys : List ℕ) → length xs ≡ 3 → length ys ≡ 3 → not (pointwise eqb xs ys) ≡ differ (place_at xs) (place_at ys)
+unfolding differ place_at pick
+differ-lists xs ys h k =
+    ap₂ (λ (a b : List ℕ). not (pointwise eqb a b)) (sym (tabulate-get_or xs 3 0 h)) (sym (tabulate-get_or ys 3 0 k))
+    ∙ three-pairs (λ a. get_or xs a 0) (λ a. get_or ys a 0)
 
 module _ (c d : Place) where
-  -- the first axis on which they differ
-  pub differ-x : (c 0 ≡ d 0 → ⊥) → true ≡ differ c d
-  unfolding differ
-  differ-x n = sym (ap (λ (b : Bool). not (b && (eqb (c 1) (d 1) && eqb (c 2) (d 2)))) (ne_eqb (c 0) (d 0) n))
-
-  pub differ-y : c 0 ≡ d 0 → (c 1 ≡ d 1 → ⊥) → true ≡ differ c d
-  unfolding differ
-  differ-y e n = sym (ap₂ (λ (a b : Bool). not (a && (b && eqb (c 2) (d 2)))) (eq-eqb (c 0) (d 0) e) (ne_eqb (c 1) (d 1) n))
-
-  pub differ-z : c 0 ≡ d 0 → c 1 ≡ d 1 → not (eqb (c 2) (d 2)) ≡ differ c d
-  unfolding differ
-  differ-z e f = sym (ap₂ (λ (a b : Bool). not (a && (b && eqb (c 2) (d 2)))) (eq-eqb (c 0) (d 0) e) (eq-eqb (c 1) (d 1) f))
-
   -- cells that do not differ are the same
   pub differ-not : differ c d ≡ false → (c 0 ≡ d 0) × (c 1 ≡ d 1) × (c 2 ≡ d 2)
   unfolding differ
@@ -54,10 +52,6 @@ module _ (cell : ℕ → Place) where
   pub fetches-more : (n : ℕ) → fetches cell (suc n) + pick (differ (cell n) (cell (suc n))) 1 0 ≡ fetches cell (suc (suc n))
   unfolding fetches changes
   fetches-more n = omega arith
-
-  pub fetches-some : (n : ℕ) → fetches cell (suc n) ≡ 0 → ⊥
-  unfolding fetches
-  fetches-some n h = omega arith
 
   -- there are at most as many as queries
   pub fetches-few : (n : ℕ) → fetches cell n ≤ n

@@ -1,4 +1,3 @@
--- Reading order: Ramp, Answers, Parts.
+-- Reading order: Ramp, Parts.
 pub mod Ramp
-pub mod Answers
 pub mod Parts

@@ -1,14 +1,16 @@
 -- A query for the middle of an accepted cell is answered from the records that estimation wrote, and its dose is that from the records of
 -- the rules.
-use mathlib.Core.Path.{◌≡◌, refl, ap, ◌∙◌}
+use mathlib.Core.Path.{◌≡◌, refl, sym, ap, ◌∙◌}
 use mathlib.Core.Bool.{Bool}
 use mathlib.Core.List.{List, [], ◌∷◌}
-use Prim.Native.Nat.{ℕ, ◌≤◌}
+use Prim.Native.Nat.{ℕ, ◌≤◌, ◌/◌}
 use native.Mathlib.Omega.{arith}
 use borrow.Author.Tests.{le-ltb}
 use lib.Dec.{ltb, lit≤}
 use lib.IntN.{ℤ}
-use Rattle.arith.proofs.Choices.{pick-false, on-pick}
+use Rattle.arith.proofs.Choices.{clash, pick_true, pick-false, on-pick, split}
+use lib.ListN.{get_or}
+use Rattle.lattice.specs.Shape.{finest_on, finest_steps}
 use Rattle.lattice.specs.declared.Shape.{Shape}
 use Rattle.lattice.specs.declared.FullShape.{FullShape}
 use Rattle.lattice.specs.Outcome.{done}
@@ -19,6 +21,8 @@ use Rattle.cell.specs.Cell.{place_at, Accepted}
 use Rattle.estimate.specs.Estimate.{records_of, estimate_outcome}
 use Rattle.estimate.proofs.CallLaws.{estimated, estimated-full, records-length}
 use Rattle.evaluate.specs.Evaluate.{dose, last_axis}
+use Rattle.std.specs.Prelude.{Ok, Err, IsOk}
+use Rattle.query.specs.Answers.{Reading, outcome_of_reading}
 use Rattle.query.specs.Queries.{want_outcome, steps_outcome, by_cell}
 use Rattle.cell.proofs.CellLaws.{three, cell-passes}
 use Rattle.query.specs.Parts.{finest}
@@ -44,9 +48,20 @@ middle-passes s second few =
     (λ a l. middle-none s.axes a)
 
 -- three steps as a place
-pub middle-place : (axes x y z : ℕ) → axes ≤ 3 → x ≡ middle axes 0 → y ≡ middle axes 1 → z ≡ middle axes 2
+middle-place : (axes x y z : ℕ) → axes ≤ 3 → x ≡ middle axes 0 → y ≡ middle axes 1 → z ≡ middle axes 2
     → place_at (x ∷ y ∷ z ∷ []) ≡ middle axes
 middle-place axes x y z h i j k = three x y z (middle axes) i j k (λ a l. middle-none axes a (omega arith))
+
+half-finest : (axes a : ℕ) → finest_on axes a / 2 ≡ middle axes a
+unfolding finest_on middle
+half-finest axes a = split (ltb a axes)
+    (λ t. ap (λ (k : ℕ). k / 2) (pick_true (ltb a axes) 256 1 t) ∙ sym (pick_true (ltb a axes) 128 0 t))
+    (λ t. ap (λ (k : ℕ). k / 2) (pick-false (ltb a axes) 256 1 t) ∙ sym (pick-false (ltb a axes) 128 0 t))
+
+-- half the finest steps
+pub middle-halves : (axes : ℕ) (r : List ℕ) → axes ≤ 3 → r ≡ finest_steps axes
+    → place_at (get_or r 0 0 / 2 ∷ get_or r 1 0 / 2 ∷ get_or r 2 0 / 2 ∷ []) ≡ middle axes
+middle-halves axes r h e = rw e (middle-place axes _ _ _ h (half-finest axes 0) (half-finest axes 1) (half-finest axes 2))
 
 -- the query is answered
 pub answered : (second : Bool) (s : Shape) (rs : List ℤ) (cell : List ℕ) (step : Place) → Answers (finest s second) rs
@@ -59,6 +74,10 @@ answered second s rs cell step known here is =
     ∙ by-cell-passes t rs dose (place_at cell) (middle s.axes) known.long known.shape refl
     (cell-passes s (place_at cell) here.used (λ a l. here.unused a))
     (middle-passes s second (shaped s (full-shape t known.shape)).axes-high) (known.corners (place_at cell) here)
+
+pub is-read : (r : Reading) (x : ℤ) → outcome_of_reading r ≡ done x → IsOk r
+is-read (Ok v) x e = refl
+is-read (Err v) x e = clash (cc)
 
 -- ---- the records that estimation wrote
 

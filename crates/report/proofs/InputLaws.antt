@@ -1,17 +1,20 @@
 -- The text by what reading the input gives, and the table that a read input holds.
 use mathlib.Core.Path.{◌≡◌, sym, ap, subst, ◌∙◌}
 use mathlib.Core.List.{List}
-use Prim.Native.Nat.{ℕ, ◌≤◌, ◌<◌}
+use Prim.Native.Nat.{ℕ, ◌≤◌}
 use native.Mathlib.Nat.{le_trans, le_of_eq}
-use borrow.Author.Tests.{le-leb, lt-leb}
 use lib.Dec.{leb}
 use lib.IntN.{ℤ}
 use lib.ListN.{length, take, drop}
 use lib.Seq.{take_at}
-use Rattle.lattice.specs.Outcome.{Outcome, done, refused, refuse_unless, first, when_done}
+use Rattle.arith.proofs.Choices.{clash}
+use Rattle.std.specs.Prelude.{Result, Ok, Err, IsErr}
+use Rattle.std.specs.Result.{IsErrAnd}
+use Rattle.lattice.specs.declared.refusal.Refusal.{Refusal}
+use Rattle.lattice.specs.Outcome.{Outcome, done, refused, refuse_unless, when_done}
 use Rattle.lattice.specs.Buffer.{overwrite}
 use Rattle.lattice.specs.Shape.{nodes, Shaped}
-use Rattle.lattice.proofs.OutcomeLaws.{first-passed, passes, when-done}
+use Rattle.lattice.proofs.OutcomeLaws.{first-passed, refused-first, when-done}
 use Rattle.table_file.specs.File.{Header, samples_in, read_outcome}
 use Rattle.table_file.proofs.ReadLaws.{samples-length}
 use Rattle.table_file.proofs.TakenLaws.{taken}
@@ -20,28 +23,33 @@ use Rattle.report.specs.Report.{held_nodes, held_bytes, with_degree, input_outco
 use Rattle.report.specs.Parts.{HeldTable}
 use Rattle.report.proofs.TableLaws.{nodes-are, cubic-shaped}
 
+-- what is said of a refusal that `?` hands on
+pub on-err : {A : Type 0} (P : Result A Refusal → Type 0) (r : Result A Refusal) (e : Refusal) → IsErr r × IsErrAnd r (λ x. x ≡ e) → P
+    (Err e)
+    → P r
+on-err P (Ok a) e h p = let f = h.0 in clash (cc)
+on-err P (Err x) e h p = subst (λ (y : Refusal). P (Err y)) (sym h.1) p
+
 module _ (input : List ℕ) where
-  outcome : length input ≤ held_bytes → input_outcome input ≡ read_outcome input held_nodes
-  unfolding input_outcome
-  outcome h = first-passed (refuse_unless (leb (length input) held_bytes) 9 0) (read_outcome input held_nodes)
-      (passes (leb (length input) held_bytes) 9 0 (le-leb (length input) held_bytes h))
-
   -- a longer input
-  pub too_long : held_bytes < length input → report_text input ≡ refused_line 9
+  pub too_long : {n p : ℕ} → refused n p ≡ refuse_unless (leb (length input) held_bytes) 9 0 → report_text input ≡ refused_line n
   unfolding report_text input_outcome text_of
-  too_long h = ap (λ t. text_of (first (refuse_unless t 9 0) (read_outcome input held_nodes)) (samples_in input))
-      (lt-leb (length input) held_bytes h)
+  too_long e = ap (λ (o : Outcome Header). text_of o (samples_in input)) (refused-first (read_outcome input held_nodes) (sym e))
 
-  pub read-refused : (n p : ℕ) → length input ≤ held_bytes → read_outcome input held_nodes ≡ refused n p → report_text input ≡ refused_line
-      n
-  unfolding report_text text_of
-  read-refused n p h e = ap (λ (o : Outcome Header). text_of o (samples_in input)) (outcome h ∙ e)
+  module _ (short : done tt ≡ refuse_unless (leb (length input) held_bytes) 9 0) where
+    outcome : input_outcome input ≡ read_outcome input held_nodes
+    unfolding input_outcome
+    outcome = first-passed (refuse_unless (leb (length input) held_bytes) 9 0) (read_outcome input held_nodes) (sym short)
+
+    pub read-refused : {n p : ℕ} → read_outcome input held_nodes ≡ refused n p → report_text input ≡ refused_line n
+    unfolding report_text text_of
+    read-refused e = ap (λ (o : Outcome Header). text_of o (samples_in input)) (outcome ∙ e)
+
+    pub read_done : (h : Header) → read_outcome input held_nodes ≡ done h → report_text input ≡ text_of (done h) (samples_in input)
+    unfolding report_text
+    read_done h e = ap (λ (o : Outcome Header). text_of o (samples_in input)) (outcome ∙ e)
 
   module _ (h : Header) (e : read_outcome input held_nodes ≡ done h) where
-    pub read_done : length input ≤ held_bytes → report_text input ≡ text_of (done h) (samples_in input)
-    unfolding report_text
-    read_done l = ap (λ (o : Outcome Header). text_of o (samples_in input)) (outcome l ∙ e)
-
     pub held : HeldTable h (samples_in input)
     held =
         let f = taken input held_nodes h e in

@@ -1,17 +1,19 @@
 -- What the inner functions give and ask for. The promises of `report` mention none of this.
-use Rattle.std.specs.Prelude.{◌≡◌, ℕ, ◌≤◌, List, ℤ, length}
+use Rattle.std.specs.Prelude.{◌≡◌, ℕ, ◌*◌, ◌≤◌, List, ℤ, length, take, Result, Ok, Err}
 use Rattle.lattice.specs.declared.FullShape.{FullShape}
-use Rattle.lattice.specs.Outcome.{done}
+use Rattle.lattice.specs.declared.refusal.Refusal.{Refusal}
+use Rattle.lattice.specs.Answers.{number_of}
+use Rattle.lattice.specs.Outcome.{done, refused}
 use Rattle.lattice.specs.Shape.{rounding_in, size, full_outcome}
 use Rattle.lattice.specs.Axes.{Place}
 use Rattle.lattice.specs.Records.{records_field, limit_outcome}
 use Rattle.cell.specs.Cell.{place_at, Accepted, corners_outcome}
 use Rattle.cell.specs.Cells.{cell_count, cell_at}
-use Rattle.estimate.specs.Estimate.{estimate_limit}
+use Rattle.estimate.specs.Estimate.{records_of, estimate_limit, estimate_outcome}
 use Rattle.evaluate.specs.Evaluate.{dose, answer_by}
 use Rattle.query.specs.Queries.{ask_in}
 use Rattle.table_file.specs.File.{Header, PermittedTable}
-use Rattle.text.specs.Lines.{cell_line}
+use Rattle.text.specs.Lines.{Put, cell_line, refused_line}
 use Rattle.report.specs.Report.{middle, with_degree, table_with, held_nodes, joined}
 
 -- records that refuse no cell
@@ -44,3 +46,14 @@ pub record HeldTable (h : Header) (samples : List ℤ) : Type 0 where
 pub record TakenTable (h : Header) (samples : List ℤ) : Type 0 where
   pub held : HeldTable h samples
   pub small : limit_outcome 19 (estimate_limit h.axes) samples ≡ done tt
+
+-- the records at the front of a slice and the number of their entries, or the refusal of estimation
+abbrev pub Estimates : FullShape → List ℤ → List ℤ → List ℤ → Result ℕ Refusal → Type 0
+Estimates t samples old now (Ok n) =
+    (estimate_outcome t samples (length old) ≡ done tt) × (n ≤ length now) × (take n now ≡ records_of t.shape samples)
+Estimates t samples old now (Err r) = estimate_outcome t samples (length old) ≡ refused (number_of r.reason) r.place
+
+-- a text at the front of a slice and its length, or the refusal whose line the text is
+abbrev pub Gives : List ℕ → List ℕ → List ℕ → Result ℕ Refusal → Type 0
+Gives old text now (Ok n) = Put old 0 text now n × (n ≤ held_nodes * line_limit)
+Gives old text now (Err r) = (text ≡ refused_line (number_of r.reason)) × (now ≡ old)

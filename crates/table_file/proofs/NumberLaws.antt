@@ -2,11 +2,16 @@
 use mathlib.Core.Path.{◌≡◌, refl, sym, ap, subst, fun_ext, ◌∙◌}
 use mathlib.Core.List.{List, [], ◌∷◌, ◌++◌, append_assoc, append-nil}
 use Prim.Native.Nat.{ℕ, zero, suc, ◌+◌, ◌*◌, ◌/◌, ◌%◌, ◌<◌, ◌≤◌}
-use native.Mathlib.Nat.{add-zero, add-suc}
+use native.Mathlib.Nat.{add-zero, add-suc, not-suc-le-zero}
 use native.Mathlib.Omega.{arith}
 use lib.Dec.{lit<}
-use lib.ListN.{length, get_or, set, take, drop, length-append, length-drop, get_or-eq_default}
-use lib.Seq.{sets, take-add, length-take-le, get_or-append-add, get_or-take, get_or-drop}
+use mir.Syntax.{w32}
+use Rattle.std.specs.Int.{from_le_bytes}
+use Rattle.std.specs.Simd.{first_chunks}
+use lib.ListN.{length, get_or, take, drop, length-append, length-drop, get_or-eq_default}
+use borrow.Rule.Slice.PartMut.{put_mid}
+use Rattle.std.proofs.lemmas.List.{drop-drop}
+use lib.Seq.{sets, sets-eq, take-add, length-take-le, get_or-append-add, get_or-take, get_or-drop}
 use Rattle.lattice.specs.Buffer.{tabulate}
 use Rattle.lattice.specs.Digits.{number, span, digit}
 use Rattle.lattice.proofs.BufferLaws.{tabulate-get_or}
@@ -31,15 +36,13 @@ bytes-are v =
 pub length-bytes : (v : ℕ) → length (bytes_of v) ≡ 4
 length-bytes v = ap length (bytes-are v)
 
--- 4 stores
-pub stores-are : (l : List ℕ) (at v : ℕ)
-    → set (set (set (set l at (v % 256)) (at + 1) (v / 256 % 256)) (at + 2) (v / 65536 % 256)) (at + 3) (v / 16777216 % 256) ≡ sets l at
-    (bytes_of v)
-stores-are l at v =
-    let e₁ : at + 1 ≡ suc at = omega arith in
-    let e₂ : at + 2 ≡ suc (suc at) = omega arith in
-    let e₃ : at + 3 ≡ suc (suc (suc at)) = omega arith in
-    rw (e₁, e₂, e₃, bytes-are v) refl
+-- the bytes of a number put over four others
+pub four-put : (l new : List ℕ) (at k v : ℕ) → at + 4 ≤ length l → k ≡ 4 → new ≡ bytes_of v → put_mid at k l new ≡ sets l at (bytes_of v)
+four-put l new at k v room e f =
+    rw (f, e) (ap (λ (m : List ℕ). take at l ++ (bytes_of v ++ m))
+    (drop-drop 4 at l ∙ ap (λ (n : ℕ). drop (at + n) l) (sym (length-bytes v)))
+    ∙ sym (append_assoc (take at l) (bytes_of v) (drop (at + length (bytes_of v)) l)) ∙ sym (sets-eq (bytes_of v) l at (omega
+    (arith, length-bytes v))))
 
 -- the bytes of a number make it again
 pub number-first : (v : ℕ) (rest : List ℕ) → v < 4294967296 → number_at (bytes_of v ++ rest) 0 ≡ v
@@ -51,6 +54,34 @@ unfolding number_at
 number-later xs ys at = ap (number 4 (λ b. 256)) (fun_ext (λ b.
     let e : length xs + at + b ≡ length xs + (at + b) = omega arith in
     ap (λ (k : ℕ). get_or (xs ++ ys) k 0) e ∙ get_or-append-add xs ys (at + b) 0))
+
+-- ---- a slice four bytes at a time
+
+-- the library reads the lowest byte first
+pub number-of-four : (b : List ℕ) → from_le_bytes w32 b ≡ number_at b 0
+number-of-four b = omega (arith, number_is b 0)
+
+number-dropped : (n at : ℕ) (bytes : List ℕ) → number_at (drop n bytes) at ≡ number_at bytes (n + at)
+unfolding number_at
+number-dropped n at bytes = ap (number 4 (λ b. 256)) (fun_ext (λ b.
+    let e : n + (at + b) ≡ n + at + b = omega arith in
+    get_or-drop n bytes (at + b) 0 ∙ ap (λ (k : ℕ). get_or bytes k 0) e))
+
+number-taken : (bytes : List ℕ) → number_at (take 4 bytes) 0 ≡ number_at bytes 0
+unfolding number_at number
+number-taken bytes = rw (
+  get_or-take 4 bytes 0 0 (lit< tt),
+  get_or-take 4 bytes 1 0 (lit< tt),
+  get_or-take 4 bytes 2 0 (lit< tt),
+  get_or-take 4 bytes 3 0 (lit< tt),
+) refl
+
+pub chunk-number : (m k : ℕ) (bytes d : List ℕ) → k < m → number_at (get_or (first_chunks 4 m bytes) k d) 0 ≡ number_at bytes (4 * k)
+chunk-number zero k bytes d h = absurd (not-suc-le-zero h)
+chunk-number (suc m) zero bytes d h = number-taken bytes
+chunk-number (suc m) (suc k) bytes d h =
+    let e : 4 + 4 * k ≡ 4 * suc k = omega arith in
+    chunk-number m k (drop 4 bytes) d (omega arith) ∙ number-dropped 4 (4 * k) bytes ∙ ap (number_at bytes) e
 
 -- ---- several numbers
 

@@ -7,7 +7,11 @@ use native.Mathlib.Omega.{arith}
 use borrow.Author.Tests.{le-leb, leb-true, lt-ltb, le-ltb, ltb-true, ltb-false, eq-eqb, eqb-true}
 use lib.Dec.{leb, ltb, eqb}
 use lib.IntN.{pos}
-use lib.ListN.{length, get_or}
+use lib.ListN.{length, get_or, take, drop, length-drop, length-map}
+use lib.Seq.{length-take-le, get_or-take, get_or-drop}
+use Rattle.std.proofs.lemmas.List.{get_or-map}
+use Rattle.std.specs.Simd.{first_chunks}
+use Rattle.table_file.proofs.NumberLaws.{chunk-number}
 use Rattle.arith.specs.Choice.{pick}
 use Rattle.arith.proofs.Choices.{pick_true, pick-false, split}
 use Rattle.lattice.specs.Outcome.{Check, done, refuse_unless, first, first_of}
@@ -18,11 +22,40 @@ use Rattle.lattice.specs.Records.{sample_limit, limit_outcome}
 use Rattle.lattice.specs.declared.Shape.{Shape}
 use Rattle.lattice.proofs.OutcomeLaws.{first_done, first-passed, refuse-done, passes, first_of-each, first_of-passes}
 use Rattle.lattice.proofs.ShapeLaws.{axes-range, counts_each, nodes-high, allowed-unused}
-use Rattle.lattice.proofs.BufferLaws.{length-tabulate, get_d_tabulate}
-use Rattle.table_file.specs.Numbers.{signed_of}
+use Rattle.lattice.proofs.BufferLaws.{length-tabulate, get_d_tabulate, tabulate-get_or, tabulate-same}
+use Rattle.table_file.specs.Numbers.{number_at, signed_of}
 use Rattle.table_file.specs.File.{file_header, section_three, header_in, count_of, file_number, complete, axes_in, count_in, nodes_in, samples_in, start_of_three, second_in, count_outcome, one_outcome, nothing_after, two_outcome, three_outcome}
-use Rattle.table_file.specs.Parser.{samples_from, shape_in, rest_outcome, AfterOne}
+use Rattle.table_file.specs.Parser.{samples_of, samples_from, shape_in, rest_outcome, AfterOne}
 use Rattle.table_file.proofs.WriteLaws.{shaped_of}
+
+-- ---- samples as they stand in the file
+
+pub length-of : (numbers : List (List ℕ)) → length (samples_of numbers) ≡ length numbers
+length-of numbers = length-map numbers (λ b. signed_of (number_at b 0))
+
+pub sample-of : (numbers : List (List ℕ)) (i : ℕ) (d : List ℕ) → i < length numbers
+    → at (samples_of numbers) i ≡ signed_of (number_at (get_or numbers i d) 0)
+sample-of numbers i d l = get_or-map (λ b. signed_of (number_at b 0)) numbers i d (pos 0) l
+
+-- those from number `start` on
+pub samples-chunks : (bytes : List ℕ) (start count m : ℕ) (numbers : List (List ℕ)) → numbers ≡ first_chunks 4 m bytes → length numbers ≡ m
+    → start + count ≤ m → samples_of (take (start + count - start) (drop start numbers)) ≡ samples_from bytes start count
+unfolding samples_from
+samples-chunks bytes start count m numbers e f room =
+    let part = take (start + count - start) (drop start numbers) in
+    let some : length part ≡ count = omega (
+      arith,
+      length-take-le (start + count - start)
+          (drop start numbers),
+      length-drop start numbers,
+    ) in
+    sym (tabulate-get_or (samples_of part) count (pos 0) (length-of part ∙ some))
+    ∙ tabulate-same count (at (samples_of part)) (λ i. signed_of (file_number bytes (start + i))) (λ i l.
+    sample-of part i [] (omega arith)
+    ∙ ap (λ (b : List ℕ). signed_of (number_at b 0))
+    (get_or-take (start + count - start) (drop start numbers) i [] (omega arith) ∙ get_or-drop start numbers i []
+    ∙ ap (λ (bs : List (List ℕ)). get_or bs (start + i) []) e)
+    ∙ ap signed_of (chunk-number m (start + i) bytes [] (omega arith)))
 
 -- what section three of a file is in either edition, and that nothing comes after it
 pub record Third (bytes : List ℕ) (second : Bool) : Type 0 where
@@ -107,7 +140,7 @@ module _ (bytes : List ℕ) where
   nodes-in = refl
 
   pub header_is : (s : Shape) (second : Bool) → s ≡ shape_in bytes → second ≡ second_in bytes
-      → header_in bytes ≡ file_header s.axes (get_or s.counts 0 0 ∷ get_or s.counts 1 0 ∷ get_or s.counts 2 0 ∷ []) second
+      → header_in bytes ≡ file_header s.axes s.counts second
   unfolding header_in tabulate
   header_is s second e f = rw (e, f) refl
 
@@ -245,9 +278,6 @@ module _ (bytes : List ℕ) where
         (first (refuse_unless (leb nodes room) 9 0) (limit_outcome 5 sample_limit (samples_from bytes (2 + axes) nodes))))
     unfolding rest_outcome
     rest-is room = rw (samples-are, p.nodes-is) refl
-
-    pub samples-held : two_outcome bytes ≡ done tt → 4 * (2 + axes + nodes) ≤ length bytes
-    samples-held h = omega (arith, start_is.0, (two_facts h).1)
 
   -- what the tests after section one say
   pub record Rest (room : ℕ) : Type 0 where

@@ -11,6 +11,12 @@ use lib.IntN.{ℤ, pos}
 use lib.ListN.{length, get_or, take, length-append, length-map, get_or-map}
 use lib.Seq.{sets, take-suc, length-take-le}
 use Rattle.arith.specs.Choice.{pick}
+use Rattle.std.specs.Prelude.{Result, Ok, Err, IsErr}
+use Rattle.std.specs.Result.{IsErrAnd}
+use Rattle.lattice.specs.Answers.{number_of}
+use Rattle.lattice.specs.declared.refusal.Refusal.{Refusal}
+use Rattle.table_file.specs.Answers.{outcome_of_header}
+use Rattle.table_file.specs.declared.Header.{Header as Read}
 use Rattle.lattice.specs.Outcome.{Outcome, Check, done, refused, refuse_unless, first, when_done}
 use Rattle.lattice.specs.Buffer.{at, overwrite}
 use Rattle.lattice.specs.Shape.{shape_of, count, nodes, axes_outcome, degree_outcome, counts_outcome, shape_outcome, full_shape, steps_on, step_numbers_outcome, full_outcome, Shaped}
@@ -37,6 +43,12 @@ module _ {A B : Type 0} (o : Outcome A) (new old : B) where
 
   pub answered-done : (v : A) (now : B) → o ≡ done v → now ≡ new → Answered (done v) now
   answered-done v now e h = (sym e, h ∙ when-done new old e)
+
+-- a refusal that reading hands on
+pub read-stopped : (r : Result Read Refusal) (e : Refusal) → IsErr r × IsErrAnd r (λ x. x ≡ e)
+    → outcome_of_header r ≡ refused (number_of e.reason) e.place
+read-stopped (Ok h) e is = let f = is.0 in cc
+read-stopped (Err x) e is = ap (λ (y : Refusal). refused (number_of y.reason) y.place) is.1
 
 -- ---- runs of numbers
 

@@ -1,16 +1,20 @@
 -- What the parts of reading give.
-use Rattle.std.specs.Prelude.{◌≡◌, ℕ, ◌+◌, ◌≤◌, List, leb, ℤ}
+use Rattle.std.specs.Prelude.{◌≡◌, ℕ, ◌+◌, ◌≤◌, List, map, leb, ℤ}
 use Rattle.lattice.specs.Shape.{shape_of}
 use Rattle.lattice.specs.declared.Shape.{Shape}
 use Rattle.lattice.specs.Outcome.{Check, refuse_unless, first}
 use Rattle.lattice.specs.Buffer.{tabulate}
 use Rattle.lattice.specs.Records.{sample_limit, limit_outcome}
-use Rattle.table_file.specs.Numbers.{signed_of}
+use Rattle.table_file.specs.Numbers.{number_at, signed_of}
 use Rattle.table_file.specs.File.{file_number, axes_in, count_in, nodes_in, samples_in, two_outcome, three_outcome}
 
 -- `count` samples from number k on
 unfoldable pub samples_from : List ℕ → ℕ → ℕ → List ℤ
 samples_from bytes k count = tabulate count (λ i. signed_of (file_number bytes (k + i)))
+
+-- the samples whose 4 bytes are given
+abbrev pub samples_of : List (List ℕ) → List ℤ
+samples_of numbers = map (λ b. signed_of (number_at b 0)) numbers
 
 -- the shape in section one, of degree 3
 abbrev pub shape_in : List ℕ → Shape

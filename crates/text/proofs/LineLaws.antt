@@ -1,11 +1,13 @@
 -- Texts put one after the other are one text: words make a line. How long a line is.
 use mathlib.Core.Path.{◌≡◌, refl, sym, ap, ◌∙◌}
 use mathlib.Core.List.{List, [], ◌∷◌, ◌++◌, append_assoc}
-use Prim.Native.Nat.{ℕ, ◌+◌}
+use Prim.Native.Nat.{ℕ, ◌+◌, ◌≤◌}
 use native.Mathlib.Omega.{arith}
 use lib.IntN.{ℤ}
-use lib.ListN.{length, get_or, set, length-append}
-use lib.Seq.{sets, length-sets}
+use lib.ListN.{length, get_or, set, take, drop, length-append}
+use lib.Seq.{sets, sets-eq, length-sets}
+use borrow.Rule.Slice.PartMut.{put_mid}
+use Rattle.std.proofs.lemmas.List.{drop-drop}
 use Rattle.text.specs.Decimal.{decimal, signed_decimal}
 use Rattle.text.specs.Lines.{Put, word, line, indices, cell_line, refused_word, refused_line}
 use Rattle.lattice.proofs.BufferLaws.{sets-append}
@@ -27,6 +29,13 @@ put-length {old} {text} {now} {at} p = ap length p.written ∙ length-sets old a
 
 pub put_byte : (old : List ℕ) (at b : ℕ) → Put old at (b ∷ []) (set old at b) (at + 1)
 put_byte old at b = record { ended = refl; written = refl }
+
+-- a text copied over a part of a slice
+pub part-put : (l new text : List ℕ) (at k : ℕ) → at + length text ≤ length l → k ≡ length text → new ≡ text
+    → put_mid at k l new ≡ sets l at text
+part-put l new text at k room e f =
+    rw (f, e) (ap (λ (m : List ℕ). take at l ++ (text ++ m)) (drop-drop (length text) at l)
+    ∙ sym (append_assoc (take at l) text (drop (at + length text) l)) ∙ sym (sets-eq text l at room))
 
 pub length-word : (w : List ℕ) (b : ℕ) → length (word w b) ≡ length w + 1
 length-word w b = length-append w (b ∷ [])

@@ -7,16 +7,17 @@ ghost use Rattle.text.specs.Decimal.{decimal, signed_decimal};
 ghost use Rattle.text.specs.Lines.{Put, word, indices, cell_line, refused_line};
 
 // Puts the decimal digits of `n` at `at`, and gives the place after them.
+// Not by `write!`: its contract says nothing of an error, and no function here can fail.
 fn put_number(out: &mut [u8], at: usize, n: u64) -> usize
     requires { at + length (decimal n) ≤ length out.old }
     ensures { Put out.old at (decimal n) out.new result }
 {
     if n < 10 {
-        out[at] = 48 + (n as u8);
+        out[at] = b'0' + n as u8;
         return at + 1;
     }
     let end = put_number(out, at, n / 10);
-    out[end] = 48 + ((n % 10) as u8);
+    out[end] = b'0' + (n % 10) as u8;
     end + 1
 }
 
@@ -25,7 +26,7 @@ fn put_signed(out: &mut [u8], at: usize, x: i64) -> usize
     requires { at + length (signed_decimal x) ≤ length out.old }
     ensures { Put out.old at (signed_decimal x) out.new result }
 {
-    let size = arith::magnitude(x);
+    let size = x.unsigned_abs();
     if x < 0 {
         out[at] = b'-';
         return put_number(out, at + 1, size);
@@ -38,12 +39,9 @@ fn put_bytes(out: &mut [u8], at: usize, bytes: &[u8]) -> usize
     requires { at + length bytes.now ≤ length out.old }
     ensures { Put out.old at bytes.now out.new result }
 {
-    let mut i = 0;
-    while i < bytes.len() {
-        out[at + i] = bytes[i];
-        i += 1;
-    }
-    at + i
+    let end = at + bytes.len();
+    out[at..end].copy_from_slice(bytes);
+    end
 }
 
 // Puts a number and the byte after it.
@@ -61,7 +59,7 @@ fn put_natural(out: &mut [u8], at: usize, n: u32, after: u8) -> usize
     requires { at + length (word (decimal n) after) ≤ length out.old }
     ensures { Put out.old at (word (decimal n) after) out.new result }
 {
-    put_word(out, at, n as i64, after)
+    put_word(out, at, i64::from(n), after)
 }
 
 // Puts the three indices of a cell, with a space after each.
@@ -81,8 +79,8 @@ pub fn put_cell_line(out: &mut [u8], at: usize, cell: [u32; 3], cubic: i32, quin
     ensures out_after { out.new ≡ sets out.old at (cell_line cell cubic quintic) }
 {
     let first = put_indices(out, at, cell);
-    let second = put_word(out, first, cubic as i64, b' ');
-    put_word(out, second, quintic as i64, b'\n')
+    let second = put_word(out, first, i64::from(cubic), b' ');
+    put_word(out, second, i64::from(quintic), b'\n')
 }
 
 // Puts the line of a refusal at the front of `out`, and gives its length.

@@ -10,14 +10,17 @@ use lib.Dec.{leb, ltb, eqb, lit<, lit≤}
 use lib.Pow.{pow_mono}
 use lib.IntN.{ℤ, pos, nat_abs, +ℤ_idl}
 use lib.ListN.{length, get_or}
-use lib.Signed.{non_neg}
 use borrow.Author.Tests.{leb-true, eqb-true, lt-ltb, le-ltb}
 use Rattle.arith.specs.Choice.{pick}
 use Rattle.arith.specs.Sum.{sum}
 use Rattle.arith.proofs.Choices.{and-true, pick_true, pick-false, by-m, by_n, from-3}
 use Rattle.lattice.specs.declared.Shape.{Shape}
 use Rattle.lattice.specs.declared.FullShape.{FullShape}
-use Rattle.lattice.specs.Outcome.{Check, done, refuse_unless, first_of}
+use Rattle.std.specs.Prelude.{Result, Ok, Err}
+use Rattle.std.specs.Result.{result_and}
+use Rattle.lattice.specs.declared.refusal.Refusal.{Refusal}
+use Rattle.lattice.specs.Answers.{outcome_of}
+use Rattle.lattice.specs.Outcome.{Check, done, refuse_unless, first, first_of}
 use Rattle.lattice.specs.Buffer.{at}
 use Rattle.lattice.specs.Shape.{count, orders, nodes, entries, size, full_outcome, Shaped}
 use Rattle.lattice.specs.Axes.{Place, Field, origin, put, sweep, axes}
@@ -29,7 +32,7 @@ use Rattle.lattice.proofs.OutcomeLaws.{first_done, refuse-done, first_of-each, f
 use Rattle.lattice.proofs.ShapeLaws.{shaped, orders-range, entries-pos, nodes-is}
 use Rattle.lattice.proofs.StepLaws.{full-shape}
 use Rattle.cell.specs.declared.Layout.{Layout}
-use Rattle.cell.specs.Cell.{place_at, corners_outcome, Accepted, Laid, base, node_stride, corner_start, limit_of, limit_in, Limits, record_outcome}
+use Rattle.cell.specs.Cell.{place_at, corners_outcome, Accepted, Laid, base, node_stride, corner_start, limit_of, limit_in, record_outcome}
 use Rattle.cell.proofs.CellLaws.{place-beyond, laid-small}
 use Rattle.cell.proofs.CornerLaws.{corners-rows}
 use Rattle.totals.specs.Totals.{cell_numerator, over_cells, box_numerator, table_outcome, box_outcome, records_outcome}
@@ -113,6 +116,9 @@ module _ (s : Shape) (ok : Shaped s) (from to : Place) (box : Boxed s from to) (
     along : (a : ℕ) → a < 3 → (v : ℕ) → v ≤ get_or K a 0 → from a + v < count s a
     along a l v h = let r = along-room s ok from to box a l in let e = cells a l in omega arith
 
+    pub some-entries : 1 ≤ l.entries
+    some-entries = rw laid.entries-are (entries-pos s)
+
     pub walk : Walk l K (length rs)
     walk = record {
       small = laid-small s from l ok first-accepted laid;
@@ -138,13 +144,10 @@ module _ (s : Shape) (ok : Shaped s) (from to : Place) (box : Boxed s from to) (
             next e k = omega arith
 
     -- the limits that the code holds
-    module _ (limits : List ℤ) (are : (e : ℕ) → e < l.orders ^ 3 → at limits e ≡ pos (limit_of l.orders e)) where
+    module _ (limits : List ℤ) (are : (e : ℕ) → e < l.orders.count ^ 3 → at limits e ≡ pos (limit_of l.orders.count e)) where
       limit-at : (e : ℕ) → e < entries s → at limits e ≡ pos (limit_of (orders s) e)
       limit-at e h = are e (rw laid.orders-are (entry-below e h))
           ∙ ap (λ (m : ℕ). pos (limit_of m e)) laid.orders-are
-
-      pub limits-hold : Limits l.entries limits
-      limits-hold e h = ap non_neg (limit-at e (rw laid.entries-are at h))
 
       pub rows-tested : first_of (row_count K) (λ r. first_of (get_or K 0 0 + 1)
           (λ i. record_outcome (limit_in limits) l.entries rs (row_start l K r + l.entries * i))) ≡ records_outcome s rs from to
@@ -289,3 +292,9 @@ tabled t given h =
     let s = t.shape in
     let a = first_done (full_outcome t) (refuse_unless (eqb given (size s)) 4 0) tt h in
     record { shape = shaped s (full-shape t a.0); many = eqb-true given (size s) (refuse-done (eqb given (size s)) 4 0 a.1) }
+
+-- ---- two tests of a call, one after the other
+
+pub both-tests : (a b : Result (Unit {0}) Refusal) → outcome_of (result_and a b) ≡ first (outcome_of a) (outcome_of b)
+both-tests (Ok u) b = refl
+both-tests (Err e) b = refl

@@ -1,3 +1,4 @@
+pub mod ChunkLaws
 pub mod SumLaws
 pub mod TakenLaws
 pub mod RowLaws

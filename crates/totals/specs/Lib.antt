@@ -1,5 +1,4 @@
--- Reading order: Totals, Answers, Promises, then Parts.
+-- Reading order: Totals, Promises, then Parts.
 pub mod Totals
-pub mod Answers
 pub mod Promises
 pub mod Parts

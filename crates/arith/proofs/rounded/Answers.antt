@@ -15,9 +15,9 @@ returns-then-even c =
     ∙ ap (λ z. round_half_even z (2 ^ (a.k + 1))) (to_z-of_z c.before.before.ranges.x)
     ∙ sym (ap (λ (e : Bool). rounding_of e a.x (2 ^ (a.k + 1))) c.before.if-even.true)
 
-pub returns : goal.returns
+pub returns-else-even : goal.returns-else-even
 unfolding rounding_of
-returns c =
+returns-else-even c =
     let a = c.before.before.args in
     read c.half_up.result c.half_up.type_inv ∙ c.half_up.ensures
     ∙ ap (λ z. round_half_up z (2 ^ (a.k + 1))) (to_z-of_z c.before.before.ranges.x)

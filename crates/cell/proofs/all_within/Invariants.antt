@@ -1,7 +1,7 @@
 -- `cell::all_within` meets its contract: no record of a row before the one at hand has an entry beyond its limit.
 use mathlib.Core.Path.{◌≡◌}
 use mathlib.Core.List.{List}
-use Prim.Native.Nat.{ℕ, ◌≤◌, ◌+◌, ◌*◌, ◌-◌}
+use Prim.Native.Nat.{ℕ, ◌+◌, ◌*◌}
 use lib.IntN.{ℤ}
 use Rattle.lattice.specs.Outcome.{Check, done, first, first_of}
 use Rattle.cell.specs.declared.Layout.{Layout}
@@ -13,7 +13,4 @@ abbrev pub row_test : List ℤ → ℕ → List ℤ → Layout → ℕ → Check
 row_test limits n rs l r = first (corner_test limits n rs l (2 * r)) (corner_test limits n rs l (2 * r + 1))
 
 abbrev pub invariant-loop-row : goal.invariant-loop-row
-invariant-loop-row q = (q.row ≤ q.rows) × (first_of q.row (row_test q.limits q.n q.records q.l) ≡ done tt)
-
-abbrev pub decreases-loop-row : goal.decreases-loop-row
-decreases-loop-row q = q.rows - q.row
+invariant-loop-row q = first_of q.row (row_test q.limits.limits q.n q.records q.l) ≡ done tt

@@ -2,11 +2,7 @@
 use Rattle.lattice.specs.Outcome.{done, first_of}
 use Rattle.cell.proofs.LayoutLaws.{corner_test}
 use mathlib.Core.Path.{◌≡◌}
-use Prim.Native.Nat.{◌≤◌, ◌-◌}
 use Rattle.cell.proofs.check_corners.Given as goal
 
 abbrev pub invariant-loop-c : goal.invariant-loop-c
-invariant-loop-c q = (q.c ≤ q.corners) × (first_of q.c (corner_test q.limits q.n q.records q.l) ≡ done tt)
-
-abbrev pub decreases-loop-c : goal.decreases-loop-c
-decreases-loop-c q = q.corners - q.c
+invariant-loop-c q = first_of q.c (corner_test q.limits.limits q.n q.records q.l) ≡ done tt

@@ -1,12 +1,8 @@
 -- `cell::check_record` meets its contract: no entry before the one at hand is beyond its limit.
 use mathlib.Core.Path.{◌≡◌}
-use Prim.Native.Nat.{◌≤◌, ◌-◌}
 use Rattle.lattice.specs.Outcome.{done, first_of}
 use Rattle.cell.proofs.LimitLaws.{test}
 use Rattle.cell.proofs.check_record.Given as goal
 
 abbrev pub invariant-loop-e : goal.invariant-loop-e
-invariant-loop-e l = (l.e ≤ l.n) × (first_of l.e (test l.limits l.records l.start) ≡ done tt)
-
-abbrev pub decreases-loop-e : goal.decreases-loop-e
-decreases-loop-e l = l.n - l.e
+invariant-loop-e l = first_of l.e (test l.limits l.records l.start) ≡ done tt

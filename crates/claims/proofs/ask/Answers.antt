@@ -11,7 +11,7 @@ unfolding queried
 returns-in-Position c =
     let a = c.args in
     let w = wanted a.derivative in
-    ap (in_float w) (c.by_position.ensures
+    ap (in_float w) (c.at_position.ensures.result_value
     ∙ sym (ap (λ z. queried a.t a.records.now w (query_of z)) c.in-Position.is))
 
 pub returns-in-Cell : goal.returns-in-Cell
@@ -19,7 +19,7 @@ unfolding queried
 returns-in-Cell c =
     let a = c.args in
     let w = wanted a.derivative in
-    ap (in_float w) (c.by_cell.ensures ∙ sym (ap (λ z. queried a.t a.records.now w (query_of z)) c.in-Cell.is))
+    ap (in_float w) (c.in_cell.ensures.result_value ∙ sym (ap (λ z. queried a.t a.records.now w (query_of z)) c.in-Cell.is))
 
 pub returns-in-Floats : goal.returns-in-Floats
 unfolding queried

@@ -3,22 +3,17 @@ use mathlib.Core.Path.{ap, ◌∙◌}
 use Prim.Native.Nat.{ℕ, ◌≤◌, ◌^◌, ◌*◌}
 use native.Mathlib.Omega.{arith}
 use lib.Dec.{lit<}
-use Rattle.lattice.proofs.ShapeLaws.{orders-range, pow-range}
+use Rattle.lattice.proofs.ShapeLaws.{pow-range}
 use Rattle.coefficients.proofs.coefficient_count.Goals as goal
-use Rattle.coefficients.proofs.coefficient_count.Goals.{After-orders}
 
-low : (c : After-orders) → 2 * c.orders.result ≤ 6
-low c = let h = orders-range c.args.degree in let e = c.orders.ensures in omega arith
+low : (m n : ℕ) → m ≤ 3 → n ≤ 3 → (2 * m) ^ n ≤ 216
+low m n m3 n3 = pow-range 6 (2 * m) n (omega arith) n3 (lit< tt)
+
+pub pow-requires : goal.pow-requires
+pow-requires c = let h = low c.orders-both.result.count c.args.axes c.orders-both.result.bounds.1 c.requires in omega arith
 
 pub returns : goal.returns
-returns c =
-    let w = c.before in (
-      c.power.ensures ∙ ap (λ (m : ℕ). (2 * m) ^ w.args.axes) w.orders.ensures,
-      rw c.power.ensures (pow-range 6 (2 * w.orders.result) w.args.axes (low w) w.requires (lit< tt)),
-    )
-
-pub overflow_mul-orders : goal.overflow_mul-orders
-overflow_mul-orders c = let h = low c in omega arith
-
-pub power-requires : goal.power-requires
-power-requires c = (low c, c.requires)
+returns c = (
+  c.pow.ensures ∙ ap (λ (m : ℕ). (2 * m) ^ c.args.axes) c.orders-both.ensures,
+  rw c.pow.ensures (low c.orders-both.result.count c.args.axes c.orders-both.result.bounds.1 c.requires),
+)

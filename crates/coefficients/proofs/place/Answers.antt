@@ -5,7 +5,6 @@ use native.Mathlib.Omega.{arith}
 use Rattle.coefficients.specs.Blocks.{coefficient_number}
 use Rattle.coefficients.proofs.SpotLaws.{mirror-low, mirror-high}
 use Rattle.coefficients.proofs.place.Goals as goal
-use Rattle.coefficients.proofs.place.Goals.{Start}
 
 -- by the end
 place_is : (m b o : ℕ) → b < 2 → o < m → (2 * m - 1 - 2 * o) * b + o ≡ coefficient_number m (m * b + o)
@@ -23,14 +22,8 @@ place-low m zero o l h = omega arith
 place-low m (suc zero) o l h = omega arith
 place-low m (suc (suc b)) o l h = absurd (omega arith)
 
-low : (s : Start) → (2 * s.args.m - 1 - 2 * s.args.o) * s.args.b + s.args.o < 2 * s.args.m
-low s = place-low s.args.m s.args.b s.args.o s.requires.1 s.requires.2
-
-pub overflow_mul-result-3 : goal.overflow_mul-result-3
-overflow_mul-result-3 c = let h = low c in let m3 = c.requires.0 in omega arith
-
-pub overflow_add-result : goal.overflow_add-result
-overflow_add-result c = let h = low c in let m3 = c.requires.0 in omega arith
-
 pub returns : goal.returns
-returns c = (place_is c.args.m c.args.b c.args.o c.requires.1 c.requires.2, low c)
+returns c = (
+  place_is c.args.m.count c.args.b c.args.o c.requires.0 c.requires.1,
+  place-low c.args.m.count c.args.b c.args.o c.requires.0 c.requires.1,
+)

@@ -7,7 +7,6 @@ use Rattle.lattice.specs.Digits.{number, digit}
 use Rattle.lattice.proofs.DigitsLaws.{high_digit, low_digit}
 use Rattle.coefficients.specs.Blocks.{coefficient_number, block_numbers, coefficient_index}
 use Rattle.coefficients.proofs.row_place.Goals as goal
-use Rattle.coefficients.proofs.row_place.Goals.{After-place-2, Start}
 
 -- a place by its number along x and its row
 place_is : (m c y z t : ℕ) → c < 8 → y < m → z < m → t < m
@@ -33,37 +32,19 @@ place_is m c y z t few ly lz l =
     turn : (x y z w : ℕ) → x + w * (y + w * (z + w * 0)) ≡ w * (y + w * z) + x
     turn x y z w = omega arith
 
-module _ (c : After-place-2) where
-  abbrev s : Start
-  s = c.before.before
-
-  -- the sums are small
-  sums : (2 * s.args.m * c.place-2.result ≤ 36)
-      × (2 * s.args.m * (c.place.result + 2 * s.args.m * c.place-2.result) ≤ 252)
-  sums =
-      let y = c.place.ensures.1 in
-      let z = c.place-2.ensures.1 in
-      let m3 = s.requires.1 in
-      let a = mul-le-mul {n₁ = 2 * s.args.m} {m₁ = c.place-2.result} {n₂ = 6} {m₂ = 6} (omega arith) (omega arith) in (
-        a,
-        mul-le-mul {n₁ = 2 * s.args.m} {m₁ = c.place.result + 2 * s.args.m * c.place-2.result}
-            {n₂ = 6} {m₂ = 42} (omega arith) (omega arith),
-      )
+-- the sums are small
+sums : (m y z : ℕ) → m ≤ 3 → y < 2 * m → z < 2 * m → (2 * m * z ≤ 30) × (2 * m * (y + 2 * m * z) ≤ 210)
+sums m y z m3 ly lz =
+    let a = mul-le-mul {n₁ = 2 * m} {m₁ = z} {n₂ = 6} {m₂ = 5} (omega arith) (omega arith) in (
+      a,
+      mul-le-mul {n₁ = 2 * m} {m₁ = y + 2 * m * z} {n₂ = 6} {m₂ = 35} (omega arith) (omega arith),
+    )
 
 pub returns : goal.returns
 returns c =
-    let a = (s c).args in
-    let p = (s c).requires in (
-      (sums c).1,
+    let a = c.args in
+    let p = c.requires in (
+      (sums a.m.count c.place.result c.place-2.result a.m.bounds.1 c.place.ensures.1 c.place-2.ensures.1).1,
       λ t l. rw (c.place.ensures.0, c.place-2.ensures.0)
-          (place_is a.m a.c a.o.y a.o.z t p.2 p.3 p.4 l),
+          (place_is a.m.count a.c a.o.y a.o.z t p.0 p.1 p.2 l),
     )
-
-pub overflow_mul-result-3 : goal.overflow_mul-result-3
-overflow_mul-result-3 c = let h = sums c in omega arith
-
-pub overflow_add-result : goal.overflow_add-result
-overflow_add-result c = let h = sums c in let y = c.place.ensures.1 in let m3 = (s c).requires.1 in omega arith
-
-pub overflow_mul-result-4 : goal.overflow_mul-result-4
-overflow_mul-result-4 c = let h = sums c in omega arith

@@ -1,24 +1,16 @@
 -- `coefficients::sign` meets its contract, by the two ends and the three orders.
 use mathlib.Core.Path.{◌≡◌, refl, sym, subst}
 use Prim.Native.Nat.{ℕ, ◌<◌}
-use lib.Dec.{lit<}
 use lib.IntN.{ℤ, pos, ◌-ℤ◌, ◌*ℤ◌, nat_abs}
 use mir.Syntax.{w64}
-use mir.Val.{SFits, to_z, of_z}
+use mir.Val.{to_z, of_z}
 use Rattle.arith.specs.Int.{◌^ℤ◌}
-use Rattle.arith.proofs.Abs.{sfits-abs}
 use Rattle.arith.proofs.Choices.{by_2, by-3}
 use Rattle.coefficients.specs.Blocks.{end_sign}
 use Rattle.coefficients.proofs.sign.Goals as goal
 
-twice : (b : ℕ) → b < 2 → SFits w64 (pos 2 *ℤ to_z w64 b)
-twice = by_2 (λ b. SFits w64 (pos 2 *ℤ to_z w64 b)) (sfits-abs {w = w64} _ (lit< tt)) (sfits-abs {w = w64} _ (lit< tt))
-
 abbrev less : ℕ → ℤ
 less b = pos 1 -ℤ to_z w64 (of_z w64 (pos 2 *ℤ to_z w64 b))
-
-less-fits : (b : ℕ) → b < 2 → SFits w64 (less b)
-less-fits = by_2 (λ b. SFits w64 (less b)) (sfits-abs {w = w64} _ (lit< tt)) (sfits-abs {w = w64} _ (lit< tt))
 
 one : (b : ℕ) → b < 2 → (to_z w64 (of_z w64 (less b)) ≡ end_sign b ^ℤ 1) × (nat_abs (to_z w64 (of_z w64 (less b))) ≡ 1)
 unfolding end_sign
@@ -37,12 +29,6 @@ returns-then-o-eq1 c =
     let r = to_z w64 (of_z w64 (less s.args.b)) in
     subst (λ (o : ℕ). (r ≡ end_sign s.args.b ^ℤ o) × (nat_abs r ≡ 1))
     (sym c.if-o-eq1.true) (one s.args.b s.requires.0)
-
-pub overflow_mul-result : goal.overflow_mul-result
-overflow_mul-result c = twice c.args.b c.requires.0
-
-pub overflow_sub-result : goal.overflow_sub-result
-overflow_sub-result c = less-fits c.args.b c.requires.0
 
 pub returns : goal.returns
 returns c = (other c.args.b c.args.o c.requires.0 c.requires.1 c.if-o-eq1.false, refl)

@@ -4,11 +4,10 @@ use mathlib.Core.List.{List}
 use Prim.Native.Nat.{ℕ, ◌≤◌, ◌<◌, ◌+◌, ◌^◌}
 use native.Mathlib.Nat.{add-zero, le_of_eq}
 use native.Mathlib.Omega.{arith}
-use lib.Dec.{eqb, lit<}
+use lib.Dec.{eqb}
 use lib.IntN.{ℤ, ◌*ℤ◌, nat_abs}
 use lib.ListN.{set}
 use Rattle.arith.specs.Choice.{pick}
-use Rattle.arith.proofs.Machine.{kept, kept_low}
 use Rattle.lattice.specs.Buffer.{at}
 use Rattle.hermite.proofs.DotLaws.{held}
 use Rattle.coefficients.specs.Blocks.{scatter}
@@ -26,23 +25,20 @@ module _ (s : Start) where
 
   first-low : nat_abs (at s.args.xs.now s.args.i) ≤ 2 ^ 50
   first-low =
-      let m2 = s.requires.le_m.0 in
+      let m2 = s.args.m.bounds.0 in
       subst (λ (k : ℕ). nat_abs (at s.args.xs.now k) ≤ 2 ^ 50) (add-zero s.args.i) (s.requires.m_bound.1 0 (omega arith))
 
   second-low : nat_abs (xs 1) ≤ 2 ^ 50
-  second-low = let m2 = s.requires.le_m.0 in s.requires.m_bound.1 1 (omega arith)
+  second-low = let m2 = s.args.m.bounds.0 in s.requires.m_bound.1 1 (omega arith)
 
-  third-low : 2 < s.args.m → nat_abs (xs 2) ≤ 2 ^ 50
+  third-low : 2 < s.args.m.count → nat_abs (xs 2) ≤ 2 ^ 50
   third-low l = s.requires.m_bound.1 2 l
 
   -- so many numbers written
   abbrev written : ℕ → List ℤ
   written k = scatter k (λ o. s.args.i + o) signed s.args.zs.now
 
-  -- what a call is asked, and what it gives
-  asks : (z x : ℤ) → nat_abs z ≡ 1 → nat_abs x ≤ 2 ^ 50 → (nat_abs (held z) ≡ 1) × (nat_abs (held x) ≤ 2 ^ 50)
-  asks z x hz hx = (ap nat_abs (kept z 1 (le_of_eq hz) (lit< tt)) ∙ hz, kept_low x (2 ^ 50) hx (lit< tt))
-
+  -- what a call gives
   gives : (z x r : ℤ) → nat_abs z ≡ 1 → nat_abs x ≤ 2 ^ 50 → r ≡ held z *ℤ held x → held r ≡ z *ℤ x
   gives z x r hz hx e = ap held e ∙ sign_kept z x (le_of_eq hz) hx
 
@@ -51,50 +47,38 @@ module _ (s : Start) where
   unfolding scatter pick
   one r e =
       scatter-more (λ o. s.args.i + o) signed s.args.zs.now s.args.zs.now 0 s.args.i _ refl (sym (add-zero s.args.i))
-      (gives s.args.s (at s.args.xs.now s.args.i) r s.requires.le_m.2 first-low e
+      (gives s.args.s (at s.args.xs.now s.args.i) r s.requires.le_m.0 first-low e
       ∙ ap (λ (k : ℕ). s.args.s *ℤ at s.args.xs.now k) (sym (add-zero s.args.i)))
 
   two : (r : ℤ) → r ≡ held s.args.t *ℤ held (xs 1) → (zs : List ℤ) → zs ≡ written 1 → set zs (s.args.i + 1) (held r) ≡ written 2
   unfolding pick
   two r h zs e =
       scatter-more (λ o. s.args.i + o) signed s.args.zs.now zs 1 (s.args.i + 1) _ e refl
-      (gives s.args.t (xs 1) r s.requires.le_m.3 second-low h)
+      (gives s.args.t (xs 1) r s.requires.le_m.1 second-low h)
 
-  three : 2 < s.args.m → (r : ℤ) → r ≡ held s.args.s *ℤ held (xs 2) → (zs : List ℤ) → zs ≡ written 2
+  three : 2 < s.args.m.count → (r : ℤ) → r ≡ held s.args.s *ℤ held (xs 2) → (zs : List ℤ) → zs ≡ written 2
       → set zs (s.args.i + 2) (held r) ≡ written 3
   unfolding pick
   three l r h zs e =
       scatter-more (λ o. s.args.i + o) signed s.args.zs.now zs 2 (s.args.i + 2) _ e refl
-      (gives s.args.s (xs 2) r s.requires.le_m.2 (third-low l) h)
+      (gives s.args.s (xs 2) r s.requires.le_m.0 (third-low l) h)
 
-more : (s : Start) → (s.args.m ≡ 2 → ⊥) → 2 < s.args.m
-more s left = let m2 = s.requires.le_m.0 in omega (arith, left)
+more : (s : Start) → (s.args.m.count ≡ 2 → ⊥) → 2 < s.args.m.count
+more s left = let m2 = s.args.m.bounds.0 in omega (arith, left)
 
 pub returns-then-m-eq2 : goal.returns-then-m-eq2
 returns-then-m-eq2 c =
     let b = c in
     let a = b in
-    let s = a.before.before.before.before.before in
+    let s = a.before.before.before.before.before.before in
     two s _ b.by_sign-2.ensures _ (one s _ a.by_sign.ensures) ∙ ap (written s) (sym c.if-m-eq2.true)
 
 pub returns : goal.returns
 returns c =
     let b = c in
     let a = b in
-    let s = a.before.before.before.before.before.before.before in
+    let s = a.before.before.before.before.before.before.before.before in
     let l = more s c.if-m-eq2.false in
-    let m3 = s.requires.le_m.1 in
-    let e : 3 ≡ s.args.m = omega arith in
+    let m3 = s.args.m.bounds.1 in
+    let e : 3 ≡ s.args.m.count = omega arith in
     three s l _ c.by_sign-3.ensures _ (two s _ b.by_sign-2.ensures _ (one s _ a.by_sign.ensures)) ∙ ap (written s) e
-
-pub by_sign-requires-3 : goal.by_sign-requires-3
-by_sign-requires-3 c =
-    let b = c in
-    let s = b.before.before.before.before.before.before in
-    asks s s.args.s (xs s 2) s.requires.le_m.2 (third-low s (more s c.if-m-eq2.false))
-
-pub by_sign-requires : goal.by_sign-requires
-by_sign-requires c = let s = c.before in asks s s.args.s (at s.args.xs.now s.args.i) s.requires.le_m.2 (first-low s)
-
-pub by_sign-requires-2 : goal.by_sign-requires-2
-by_sign-requires-2 c = let s = c.before.before.before in asks s s.args.t (xs s 1) s.requires.le_m.3 (second-low s)

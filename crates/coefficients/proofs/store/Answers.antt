@@ -1,100 +1,61 @@
--- `coefficients::store` meets its contract: row after row, the numbers are scattered to their places.
-use mathlib.Core.Path.{◌≡◌, sym, ap, subst, ◌∙◌}
-use mathlib.Core.List.{List}
-use lib.IntN.{ℤ}
-use Prim.Native.Nat.{ℕ, ◌≤◌, ◌<◌, ◌+◌, ◌^◌, ◌*◌, zero-le}
-use native.Mathlib.Nat.{mul-zero, lt_of_lt_of_le}
+-- `coefficients::store` meets its contract: the numbers are scattered to their places.
+use mathlib.Core.Path.{◌≡◌, refl, sym, ap, ◌∙◌}
+use Prim.Native.Nat.{ℕ, ◌≤◌, ◌<◌, ◌^◌}
+use native.Mathlib.Nat.{lt_of_lt_of_le}
 use native.Mathlib.Omega.{arith}
+use lib.Dec.{lit<}
+use lib.IntN.{nat_abs}
+use lib.ListN.{get_or, take}
+use mir.Syntax.{w32}
+use mir.Val.{to_z, of_z}
+use mir.Facts.{to_z-of_z}
+use Rattle.std.proofs.lemmas.List.{get_or-take, length-take}
+use Rattle.arith.proofs.Abs.{sfits-abs}
+use Rattle.arith.proofs.Machine.{kept}
 use Rattle.lattice.specs.Buffer.{at}
-use Rattle.coefficients.specs.Blocks.{RowOf, coefficient_index, scatter}
-use Rattle.coefficients.proofs.BlockLaws.{orders-some, entries-low, count_low, corner-low, row_room, first-row, row-orders}
-use Rattle.coefficients.proofs.SpotLaws.{spot_in, scatter-add}
-use Rattle.lattice.proofs.DigitsLaws.{next-group}
+use mathlib.Core.List.{List}
+use Rattle.coefficients.specs.declared.block.Block.{Block}
+use Rattle.coefficients.specs.Blocks.{coefficient_index, Placed, scatter}
+use Rattle.coefficients.proofs.BlockLaws.{orders-some, count_low}
+use Rattle.coefficients.proofs.SpotLaws.{spot_in, scatter-more}
 use Rattle.coefficients.proofs.store.Goals as goal
-use Rattle.coefficients.proofs.store.Goals.{In-loop-g, Start}
 
-module _ (c : In-loop-g) where
-  abbrev s : Start
-  s = c.before.before
+-- where number k stands
+module _ (b : Block) (d : ℕ) (hd : d < 2 ^ b.axes) (size : ℕ) (e : size ≡ b.orders.count ^ b.axes) (ps : List ℕ)
+    (placed : Placed b.orders.count d (b.orders.count ^ b.axes) ps) (k : ℕ) (l : k < size) where
+  low : k < b.orders.count ^ b.axes
+  low = rw (sym e) l
 
-  -- the row lies in the block
-  room : s.args.m * c.loop-g.g + s.args.m ≤ s.args.m ^ s.args.n
-  room = row_room s.requires.0 c.loop-g.g c.loop-g-test.true
+  place_is : get_or (take size ps) k 0 ≡ coefficient_index b.orders.count d k
+  place_is = get_or-take size ps k 0 l ∙ placed.is k low
 
-  -- and its orders are below m
-  z-low : c.loop-g.o.z < s.args.m
-  z-low = row-orders s.requires.0 c.loop-g.g c.loop-g.o c.loop-g-test.true c.loop-g.invariant.1
+  place-low : get_or (take size ps) k 0 < 216
+  place-low =
+      let ok = b.sizes in
+      rw place_is
+      (lt_of_lt_of_le (spot_in b.orders.count b.axes (orders-some ok) d k hd low ok.axes-low ok.axes-high) (count_low ok))
 
-pub loop-g-init : goal.loop-g-init
+pub loop-k-init : goal.loop-k-init
 unfolding scatter
-loop-g-init c = (
-  zero-le,
-  first-row c.args.m (orders-some c.requires.0),
-  ap (λ (k : ℕ). scatter k (coefficient_index c.args.m c.args.c) (at c.args.zs.now) c.args.out.now)
-      (sym (mul-zero c.args.m)),
-)
+loop-k-init c = refl
 
-pub store_row-requires : goal.store_row-requires
-store_row-requires c =
-    let i = c.before in
-    let a = (s i).args in
-    let p = (s i).requires in
-    let ok = p.0 in
-    let h = room i in
-    let e = entries-low ok in record {
-      le_m = (
-        ok.orders-low,
-        ok.orders-high,
-        corner-low ok a.c p.1,
-        i.loop-g.invariant.1.low,
-        z-low i,
-        ap (λ (g : ℕ). a.m * g) i.loop-g.invariant.1.number_is,
-      );
-      m_bound = (
-        omega arith,
-        λ t l. p.2 (a.m * i.loop-g.g + t) (omega arith),
-        λ t l. lt_of_lt_of_le (spot_in a.m a.n (orders-some ok) a.c (a.m * i.loop-g.g + t) p.1 (omega arith)
-            ok.axes-low ok.axes-high) (count_low ok),
-      );
-    }
-
-pub next_row-o-requires : goal.next_row-o-requires
-next_row-o-requires c =
-    let i = c.before.before in
-    let z = z-low i in
-    let m3 = (s i).requires.0.orders-high in
-    (m3, i.loop-g.invariant.1.low, omega arith)
-
-pub loop-g-preserved : goal.loop-g-preserved
-loop-g-preserved c =
-    let i = c.before.before.before in
-    let a = (s i).args in
-    let w = i.loop-g in
-    let place = coefficient_index a.m a.c in
-    let before = a.m * w.g in (
-      omega arith,
-      subst (λ (g : ℕ). RowOf a.m g c.next_row-o.result) (ap (λ (k : ℕ). k + 1) (sym w.invariant.1.number_is)) c.next_row-o.ensures,
-      c.store_row.ensures
-          ∙ ap (λ (xs : List ℤ). scatter a.m (λ t. place (before + t)) (λ t. at a.zs.now (before + t)) xs) w.invariant.2
-          ∙ scatter-add place (at a.zs.now) a.out.now before a.m
-          ∙ ap (λ (k : ℕ). scatter k place (at a.zs.now) a.out.now) (next-group a.m w.g),
-    )
-
-pub returns : goal.returns
-returns c =
-    let a = c.args in
-    let w = c.loop-g in
-    let e : w.g ≡ a.r = omega arith in
-    w.invariant.2 ∙ ap (λ (k : ℕ). scatter k (coefficient_index a.m a.c) (at a.zs.now) a.out.now)
-    (ap (λ (k : ℕ). a.m * k) e ∙ c.requires.0.groups-are)
-
-pub overflow_mul-m : goal.overflow_mul-m
-overflow_mul-m c = let h = room c in let e = entries-low (s c).requires.0 in omega arith
-
-pub overflow_add-g : goal.overflow_add-g
-overflow_add-g c = let i = c.before.before.before in let h = room i in let p = (s i).requires.0.orders-low in let e = entries-low
-    (s i).requires.0 in
+pub offset_bounds-out-p : goal.offset_bounds-out-p
+offset_bounds-out-p c =
+    let l : c.loop-k.k < c.size.result = omega (arith, length-take {A = ℕ}) in
+    let h = place-low c.args.b c.args.c c.requires.0 c.size.result c.size.ensures.0 c.places-ps.result c.places-ps.ensures c.loop-k.k l in
     omega arith
 
-pub loop-g-smaller : goal.loop-g-smaller
-loop-g-smaller c = omega arith
+pub bounds-out-p : goal.bounds-out-p
+bounds-out-p c =
+    place-low c.args.b c.args.c c.requires.0 c.size.result c.size.ensures.0 c.places-ps.result c.places-ps.ensures c.loop-k.k
+    (omega (arith, length-take {A = ℕ}))
+
+pub loop-k-preserved : goal.loop-k-preserved
+loop-k-preserved c =
+    let k = c.loop-k.k in
+    let z = at c.args.zs.now k in
+    let l : k < c.size.result = omega (arith, length-take {A = ℕ}) in
+    let h : nat_abs z ≤ 2 ^ 30 = c.requires.1 k (rw (sym c.size.ensures.0) l) in
+    scatter-more (coefficient_index c.args.b.orders.count c.args.c) (at c.args.zs.now) c.args.out.now c.loop-k.out k _ _ c.loop-k.invariant
+    (place_is c.args.b c.args.c c.requires.0 c.size.result c.size.ensures.0 c.places-ps.result c.places-ps.ensures k l)
+    (ap (λ y. to_z w32 (of_z w32 y)) (kept z (2 ^ 30) h (lit< tt)) ∙ to_z-of_z (sfits-abs {w = w32} z (omega arith)))

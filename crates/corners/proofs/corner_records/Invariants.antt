@@ -1,7 +1,7 @@
 -- `corners::corner_records` meets its contract: corner after corner the tests are passed and the entries stand in order.
 use mathlib.Core.Path.{◌≡◌}
 use mathlib.Core.List.{List}
-use Prim.Native.Nat.{ℕ, ◌≤◌, ◌<◌, ◌+◌, ◌^◌, ◌-◌, ◌*◌}
+use Prim.Native.Nat.{ℕ, ◌<◌, ◌+◌, ◌^◌, ◌*◌}
 use lib.IntN.{ℤ}
 use lib.ListN.{length}
 use Rattle.lattice.specs.Outcome.{Check, done, first_of}
@@ -15,12 +15,6 @@ row m n cs c = first_of (m ^ n) (λ k. entry_test m n cs (m ^ n * c + k))
 
 abbrev pub invariant-loop-c : goal.invariant-loop-c
 invariant-loop-c l =
-    (length l.xs ≡ 27)
-    × (length l.zs ≡ 27)
-    × (length l.out ≡ 216)
-    × (first_of l.c (row l.m l.n l.cs) ≡ done tt)
-    × ((i : ℕ) → i < l.m ^ l.n * l.c → at l.out i ≡ entry_of l.m l.n l.cs i)
-    × (l.c ≤ l.corners)
-
-abbrev pub decreases-loop-c : goal.decreases-loop-c
-decreases-loop-c l = l.corners - l.c
+    (length l.out ≡ 216)
+    × (first_of l.c (row l.b.orders.count l.b.axes l.cs) ≡ done tt)
+    × ((i : ℕ) → i < l.b.orders.count ^ l.b.axes * l.c → at l.out i ≡ entry_of l.b.orders.count l.b.axes l.cs i)

@@ -1,112 +1,130 @@
 -- `corners::corners` meets its contract: refused, the slice stays as it is; else it is overwritten by the corner records.
-use mathlib.Core.Path.{◌≡◌, refl, sym, ap, subst, ◌∙◌}
-use mathlib.Core.List.{List}
+use mathlib.Core.Path.{◌≡◌, refl, sym, ap, ◌∙◌}
+use mathlib.Core.List.{List, ◌++◌}
 use Prim.Native.Nat.{ℕ, ◌≤◌, ◌<◌}
 use lib.IntN.{ℤ}
-use lib.ListN.{length}
-use Rattle.lattice.specs.Answers.{outcome_of}
-use Rattle.lattice.specs.Outcome.{Check, done}
+use lib.ListN.{length, drop}
+use Rattle.std.proofs.lemmas.List.{length-take-le}
+use Rattle.lattice.specs.Outcome.{done}
 use Rattle.lattice.specs.Buffer.{at, tabulate, overwrite}
 use Rattle.lattice.specs.Shape.{orders_of}
 use Rattle.lattice.proofs.BufferLaws.{tabulate-same}
-use Rattle.lattice.proofs.OutcomeLaws.{refused-first, first-passed, when-done, when-refused}
-use Rattle.lattice.proofs.ShapeLaws.{axes-range, orders-range}
+use Rattle.lattice.proofs.OutcomeLaws.{stopped, went-on, at_once, refused-first, first-passed, when-done, when-refused}
+use Rattle.lattice.proofs.ShapeLaws.{axes-range}
 use Rattle.cell.specs.Coefficients.{coefficient_count}
+use Rattle.coefficients.specs.declared.block.Block.{Block}
+use Rattle.coefficients.proofs.CallLaws.{copied}
 use Rattle.corners.specs.Corners.{possible_outcome, entry_list, numbers_outcome, back_outcome, back_writes}
-use Rattle.corners.proofs.CallLaws.{Numbered, numbered}
 use Rattle.corners.specs.Back.{entry_of}
+use Rattle.corners.proofs.CallLaws.{Numbered, numbered}
 use Rattle.corners.proofs.corners.Goals as goal
 
--- what the slice is overwritten by
-abbrev written : ℕ → ℕ → List ℤ → List ℤ → List ℤ
-written axes degree cs out = overwrite (entry_list (orders_of degree) axes cs) out
-
 -- not refused before 13
-module _ (axes degree : ℕ) (cs out : List ℤ) (passed : numbers_outcome axes degree (length cs) (length out) ≡ done tt) where
-  facts : Numbered axes degree (length cs) (length out)
-  facts = numbered axes degree (length cs) (length out) passed
+facts : (axes degree : ℕ) (cs out : List ℤ) → done tt ≡ numbers_outcome axes degree (length cs) (length out)
+    → Numbered axes degree (length cs) (length out)
+facts axes degree cs out h = numbered axes degree (length cs) (length out) (sym h)
 
-  axes-in : (1 ≤ axes) × (axes ≤ 3)
-  axes-in = axes-range axes facts.axes-done
+-- the block of a corner by the degree
+module _ (b : Block) (m axes degree : ℕ) (e : (b.orders.count ≡ m) × (b.axes ≡ axes)) (of_degree : m ≡ orders_of degree) (cs : List ℤ) where
+  orders-are : b.orders.count ≡ orders_of degree
+  orders-are = e.0 ∙ of_degree
 
-  -- what is tested and what is written last
-  module _ (m : ℕ) (m-is : m ≡ orders_of degree) where
-    last : (answer : Check) → answer ≡ possible_outcome m axes cs → back_outcome axes degree cs (length out) ≡ answer
-    unfolding back_outcome
-    last answer told =
-        first-passed (numbers_outcome axes degree (length cs) (length out)) _ passed
-        ∙ sym (told ∙ ap (λ (k : ℕ). possible_outcome k axes cs) m-is)
+  count-is : coefficient_count b.orders.count b.axes ≡ coefficient_count (orders_of degree) axes
+  count-is = rw (orders-are, e.1) refl
 
-    list-is : (xs : List ℤ) → ((i : ℕ) → i < coefficient_count m axes → at xs i ≡ entry_of m axes cs i)
-        → tabulate (coefficient_count (orders_of degree) axes) (at xs) ≡ entry_list (orders_of degree) axes cs
-    unfolding entry_list
-    list-is xs are =
-        tabulate-same (coefficient_count (orders_of degree) axes) (at xs) (entry_of (orders_of degree) axes cs)
-        (subst (λ (k : ℕ). (i : ℕ) → i < coefficient_count k axes → at xs i ≡ entry_of k axes cs i) m-is are)
+  possible-is : possible_outcome b.orders.count b.axes cs ≡ possible_outcome (orders_of degree) axes cs
+  possible-is = rw (orders-are, e.1) refl
 
-pub returns-in-Refused : goal.returns-in-Refused
+  list-is : (xs : List ℤ)
+      → ((i : ℕ) → i < coefficient_count b.orders.count b.axes → at xs i ≡ entry_of b.orders.count b.axes cs i)
+      → tabulate (coefficient_count (orders_of degree) axes) (at xs) ≡ entry_list (orders_of degree) axes cs
+  unfolding entry_list
+  list-is xs are =
+      tabulate-same (coefficient_count (orders_of degree) axes) (at xs) (entry_of (orders_of degree) axes cs)
+      (λ i l. are i (rw count-is l) ∙ (rw (orders-are, e.1) refl))
+
+pub returns-in_err-check_numbers-clause-result_value : goal.returns-in_err-check_numbers-clause-result_value
+unfolding back_outcome
+returns-in_err-check_numbers-clause-result_value c = stopped _ _ _ _ c.from_residual.ensures c.in_err-check_numbers.ensures
+
+pub returns-in_err-check_numbers-clause-out_after : goal.returns-in_err-check_numbers-clause-out_after
 unfolding back_outcome back_writes
-returns-in-Refused c =
-    let w = c in
-    let a = w.args in
-    let e = ap outcome_of c.in-Refused.is in
-    let h = refused-first (possible_outcome (orders_of a.degree) a.axes a.coefficients.now)
-    (sym w.check_numbers-asked.ensures ∙ e) in
-    record { result_value = e ∙ sym h; out_after = when-refused (written a.axes a.degree a.coefficients.now a.out.now) a.out.now h }
+returns-in_err-check_numbers-clause-out_after c =
+    when-refused _ c.args.out.now (refused-first _ (sym c.in_err-check_numbers.ensures))
 
-pub records_of-tested-requires : goal.records_of-tested-requires
-records_of-tested-requires c =
-    let a = c.args in
-    let passed = sym c.check_numbers-asked.ensures ∙ ap outcome_of c.in_default.is in
-    let e = c.orders.ensures in
-    let r = orders-range a.degree in
-    let n = axes-in a.axes a.degree a.coefficients.now a.out.now passed in (
-      rw e r.0,
-      rw e r.1,
-      n.0,
-      n.1,
-      (facts a.axes a.degree a.coefficients.now a.out.now passed).many ∙ ap (λ (m : ℕ). coefficient_count m a.axes) (sym e),
-      refl,
-    )
+pub of-block-requires : goal.of-block-requires
+of-block-requires c =
+    axes-range c.args.axes (facts c.args.axes c.args.degree c.args.coefficients.now c.args.out.now c.in_ok-check_numbers.ensures).axes-done
 
-pub returns-in-Refused-tested : goal.returns-in-Refused-tested
-unfolding back_writes
-returns-in-Refused-tested c =
-    let a = c.args in
-    let passed = sym c.check_numbers-asked.ensures ∙ ap outcome_of c.in_default.is in
-    let h = last a.axes a.degree a.coefficients.now a.out.now passed c.orders.result c.orders.ensures
-    (outcome_of c.records_of-tested.result) c.records_of-tested.ensures.result_value in
-    record {
-      result_value = sym h;
-      out_after = when-refused (written a.axes a.degree a.coefficients.now a.out.now) a.out.now (h ∙ ap outcome_of c.in-Refused-tested.is);
-    }
+pub corner_records-requires : goal.corner_records-requires
+corner_records-requires c =
+    (facts c.args.axes c.args.degree c.args.coefficients.now c.args.out.now c.in_ok-check_numbers.ensures).many
+    ∙ sym (count-is c.of-block.result c.orders.result.count c.args.axes c.args.degree c.of-block.ensures c.orders.ensures
+    c.args.coefficients.now)
 
-pub copy_out-requires : goal.copy_out-requires
-copy_out-requires c =
-    let a = c.args in
-    let passed = sym c.check_numbers-asked.ensures ∙ ap outcome_of c.in_default.is in
-    let e = c.coefficient_count.ensures in (e.1, rw e.0 (facts a.axes a.degree a.coefficients.now a.out.now passed).roomy)
+pub returns-in_err-xs-clause-result_value : goal.returns-in_err-xs-clause-result_value
+unfolding back_outcome
+returns-in_err-xs-clause-result_value c =
+    went-on _ _ _ c.in_ok-check_numbers.ensures
+    (at_once _ _ _ c.from_residual-in_err-xs.ensures
+    (c.in_err-xs.ensures.outcome
+    ∙ possible-is c.of-block.result c.orders.result.count c.args.axes c.args.degree c.of-block.ensures c.orders.ensures
+    c.args.coefficients.now))
 
-pub returns : goal.returns
-unfolding back_writes
-returns c =
-    let a = c.args in
-    let cs = a.coefficients.now in
-    let passed = sym c.check_numbers-asked.ensures ∙ ap outcome_of c.in_default.is in
-    let xs = c.records_of-tested.new.out in
-    let e = ap outcome_of c.in_default-tested.is in
-    let h = last a.axes a.degree cs a.out.now passed c.orders.result c.orders.ensures
-    (outcome_of c.records_of-tested.result) c.records_of-tested.ensures.result_value in
-    record {
-      result_value = sym h;
-      out_after = c.copy_out.ensures
-          ∙ ap (λ (k : ℕ). overwrite (tabulate k (at xs)) a.out.now) c.coefficient_count.ensures.0
-          ∙ ap (λ (ys : List ℤ). overwrite ys a.out.now)
-          (list-is a.axes a.degree cs a.out.now passed c.orders.result c.orders.ensures xs (c.records_of-tested.ensures.i_after e))
-          ∙ when-done (written a.axes a.degree cs a.out.now) a.out.now (h ∙ e);
-    }
+pub returns-in_err-xs-clause-out_after : goal.returns-in_err-xs-clause-out_after
+unfolding back_outcome back_writes
+returns-in_err-xs-clause-out_after c =
+    when-refused _ c.args.out.now
+    (first-passed _ _ (sym c.in_ok-check_numbers.ensures)
+    ∙ sym (c.in_err-xs.ensures.outcome
+    ∙ possible-is c.of-block.result c.orders.result.count c.args.axes c.args.degree c.of-block.ensures c.orders.ensures
+    c.args.coefficients.now))
 
-pub coefficient_count-requires : goal.coefficient_count-requires
-coefficient_count-requires c =
+-- room for all of them
+roomy : (axes degree : ℕ) (cs out : List ℤ) → done tt ≡ numbers_outcome axes degree (length cs) (length out)
+    → (count : ℕ) → count ≡ coefficient_count (orders_of degree) axes → count ≤ length out
+roomy axes degree cs out h count e = rw e (facts axes degree cs out h).roomy
+
+pub slice_bounds-copy_from_slice-end : goal.slice_bounds-copy_from_slice-end
+slice_bounds-copy_from_slice-end c =
+    roomy c.args.axes c.args.degree c.args.coefficients.now c.args.out.now c.in_ok-check_numbers.ensures _
+    c.coefficient_count-count.ensures.0
+
+pub slice_bounds-copy_from_slice-end-2 : goal.slice_bounds-copy_from_slice-end-2
+slice_bounds-copy_from_slice-end-2 c =
+    sym (length-take-le c.coefficient_count-count.result c.args.out.now
+    (roomy c.args.axes c.args.degree c.args.coefficients.now c.args.out.now c.in_ok-check_numbers.ensures _
+    c.coefficient_count-count.ensures.0))
+
+pub copy_from_slice-requires : goal.copy_from_slice-requires
+copy_from_slice-requires c =
+    length-take-le c.coefficient_count-count.result c.args.out.now
+    (roomy c.args.axes c.args.degree c.args.coefficients.now c.args.out.now c.in_ok-check_numbers.ensures _
+    c.coefficient_count-count.ensures.0)
+    ∙ sym (length-take-le c.coefficient_count-count.result c.in_ok-xs.xs
+    (rw c.in_ok-xs.ensures.entries.0 c.coefficient_count-count.ensures.1))
+
+pub returns-clause-result_value : goal.returns-clause-result_value
+unfolding back_outcome
+returns-clause-result_value c =
+    went-on _ _ _ c.in_ok-check_numbers.ensures
+    (c.in_ok-xs.ensures.outcome
+    ∙ possible-is c.of-block.result c.orders.result.count c.args.axes c.args.degree c.of-block.ensures c.orders.ensures
+    c.args.coefficients.now)
+
+pub returns-clause-out_after : goal.returns-clause-out_after
+unfolding back_outcome back_writes
+returns-clause-out_after c =
     let a = c.args in
-    (axes-in a.axes a.degree a.coefficients.now a.out.now (sym c.check_numbers-asked.ensures ∙ ap outcome_of c.in_default.is)).1
+    let xs = c.in_ok-xs.xs in
+    let count = c.coefficient_count-count.result in
+    let b = c.of-block.result in
+    ap (λ (ys : List ℤ). ys ++ drop count a.out.now) c.copy_from_slice.ensures.after
+    ∙ copied count xs a.out.now (rw c.in_ok-xs.ensures.entries.0 c.coefficient_count-count.ensures.1)
+    ∙ ap (λ (k : ℕ). overwrite (tabulate k (at xs)) a.out.now) c.coefficient_count-count.ensures.0
+    ∙ ap (λ (ys : List ℤ). overwrite ys a.out.now)
+    (list-is b c.orders.result.count a.axes a.degree c.of-block.ensures c.orders.ensures a.coefficients.now xs c.in_ok-xs.ensures.entries.1)
+    ∙ when-done _ a.out.now
+    (first-passed _ _ (sym c.in_ok-check_numbers.ensures)
+    ∙ sym (c.in_ok-xs.ensures.outcome
+    ∙ possible-is b c.orders.result.count a.axes a.degree c.of-block.ensures c.orders.ensures a.coefficients.now))

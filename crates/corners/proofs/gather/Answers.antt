@@ -1,90 +1,53 @@
--- `corners::gather` meets its contract: row after row, the array is filled from the front.
-use mathlib.Core.Path.{◌≡◌, sym, ap, subst, ◌∙◌}
-use Prim.Native.Nat.{ℕ, ◌≤◌, ◌<◌, ◌+◌, ◌^◌, ◌*◌, zero-le}
+-- `corners::gather` meets its contract: the coefficients are read at their places, one after the other.
+use mathlib.Core.Path.{◌≡◌, sym, ap, ◌∙◌}
+use mathlib.Core.List.{List}
+use Prim.Native.Nat.{ℕ, ◌<◌, ◌^◌}
 use native.Mathlib.Omega.{arith}
-use Rattle.coefficients.proofs.BlockLaws.{orders-some, entries-low, corner-low, row_room, first-row, row-orders}
+use lib.ListN.{get_or, take}
+use Rattle.std.proofs.lemmas.List.{get_or-take, length-take}
+use Rattle.arith.proofs.Machine.{widened, near}
+use Rattle.lattice.specs.Buffer.{at}
+use Rattle.cell.specs.Coefficients.{coefficient_count}
+use Rattle.coefficients.specs.declared.block.Block.{Block}
+use Rattle.coefficients.specs.Blocks.{coefficient_index, Placed}
+use Rattle.coefficients.proofs.BlockLaws.{orders-some, count_low}
 use Rattle.coefficients.proofs.SpotLaws.{spot_in}
-use Rattle.coefficients.specs.Blocks.{RowOf}
-use Rattle.corners.specs.Back.{Gathers}
-use Rattle.lattice.proofs.DigitsLaws.{no-group, next-group}
+use Rattle.corners.proofs.BackLaws.{gathers-more}
 use Rattle.corners.proofs.gather.Goals as goal
-use Rattle.corners.proofs.gather.Goals.{In-loop-g, Start}
 
-module _ (c : In-loop-g) where
-  abbrev s : Start
-  s = c.before.before
+-- where number k stands
+module _ (b : Block) (d : ℕ) (hd : d < 2 ^ b.axes) (size : ℕ) (e : size ≡ b.orders.count ^ b.axes) (ps : List ℕ)
+    (placed : Placed b.orders.count d (b.orders.count ^ b.axes) ps) (k : ℕ) (l : k < size) where
+  low : k < b.orders.count ^ b.axes
+  low = rw (sym e) l
 
-  -- the row lies in the block
-  room : s.args.m * c.loop-g.g + s.args.m ≤ s.args.m ^ s.args.n
-  room = row_room s.requires.0 c.loop-g.g c.loop-g-test.true
+  place_is : get_or (take size ps) k 0 ≡ coefficient_index b.orders.count d k
+  place_is = get_or-take size ps k 0 l ∙ placed.is k low
 
-  -- and its orders are below m
-  z-low : c.loop-g.o.z < s.args.m
-  z-low = row-orders s.requires.0 c.loop-g.g c.loop-g.o c.loop-g-test.true c.loop-g.invariant.1
+  place-low : get_or (take size ps) k 0 < coefficient_count b.orders.count b.axes
+  place-low =
+      let ok = b.sizes in
+      rw place_is (spot_in b.orders.count b.axes (orders-some ok) d k hd low ok.axes-low ok.axes-high)
 
-pub loop-g-init : goal.loop-g-init
-loop-g-init c =
-    let none = no-group c.args.m in (
-      zero-le,
-      first-row c.args.m (orders-some c.requires.0),
-      record { long = c.requires.3; is = λ j h. absurd (none j h); low = λ j h. absurd (none j h) },
-    )
-
-pub gather_row-requires : goal.gather_row-requires
-gather_row-requires c =
-    let i = c.before in
-    let a = (s i).args in
-    let ok = (s i).requires.0 in
-    let h = room i in
-    let e = entries-low ok in record {
-      le_m = (
-        ok.orders-low,
-        ok.orders-high,
-        corner-low ok a.c (s i).requires.1,
-        i.loop-g.invariant.1.low,
-        z-low i,
-        ap (λ (g : ℕ). a.m * g) i.loop-g.invariant.1.number_is,
-      );
-      m_bound = (
-        omega arith,
-        λ t l. rw (s i).requires.2 (spot_in a.m a.n (orders-some ok) a.c (a.m * i.loop-g.g + t) (s i).requires.1 (omega arith)
-            ok.axes-low ok.axes-high),
-        i.loop-g.invariant.2,
-      );
-    }
-
-pub next_row-o-requires : goal.next_row-o-requires
-next_row-o-requires c =
-    let i = c.before.before in
-    let z = z-low i in
-    let m3 = (s i).requires.0.orders-high in
-    (m3, i.loop-g.invariant.1.low, omega arith)
-
-pub loop-g-preserved : goal.loop-g-preserved
-loop-g-preserved c =
-    let i = c.before.before.before in
-    let a = (s i).args in
-    let w = i.loop-g in (
-      omega arith,
-      subst (λ (g : ℕ). RowOf a.m g c.next_row-o.result) (ap (λ (k : ℕ). k + 1) (sym w.invariant.1.number_is)) c.next_row-o.ensures,
-      rw (← next-group a.m w.g) c.gather_row.ensures,
-    )
-
-pub returns : goal.returns
-returns c =
-    let a = c.args in
-    let w = c.loop-g in
-    let e : w.g ≡ a.r = omega arith in
-    subst (λ (k : ℕ). Gathers a.m a.c k a.cs.now w.xs) (ap (λ (k : ℕ). a.m * k) e ∙ c.requires.0.groups-are)
-    w.invariant.2
-
-pub overflow_mul-m : goal.overflow_mul-m
-overflow_mul-m c = let h = room c in let e = entries-low (s c).requires.0 in omega arith
-
-pub overflow_add-g : goal.overflow_add-g
-overflow_add-g c = let i = c.before.before.before in let h = room i in let p = (s i).requires.0.orders-low in let e = entries-low
-    (s i).requires.0 in
+pub offset_bounds-cs-p : goal.offset_bounds-cs-p
+offset_bounds-cs-p c =
+    let l : c.loop-k.k < c.size.result = omega (arith, length-take {A = ℕ}) in
+    let h = place-low c.args.b c.args.c c.requires.0 c.size.result c.size.ensures.0 c.places-ps.result c.places-ps.ensures c.loop-k.k l in
+    let few = count_low c.args.b.sizes in
     omega arith
 
-pub loop-g-smaller : goal.loop-g-smaller
-loop-g-smaller c = omega arith
+pub bounds-cs-p : goal.bounds-cs-p
+bounds-cs-p c =
+    rw c.requires.1
+    (place-low c.args.b c.args.c c.requires.0 c.size.result c.size.ensures.0 c.places-ps.result c.places-ps.ensures c.loop-k.k
+    (omega (arith, length-take {A = ℕ})))
+
+pub loop-k-preserved : goal.loop-k-preserved
+loop-k-preserved c =
+    let k = c.loop-k.k in
+    let l : k < c.size.result = omega (arith, length-take {A = ℕ}) in
+    let x = at c.args.cs.now (get_or (take c.size.result c.places-ps.result) k 0) in
+    gathers-more c.args.b.orders.count c.args.c k c.args.cs.now c.loop-k.xs _ (let few = c.size.ensures.1 in omega arith) c.loop-k.invariant
+    (widened x c.xs-1.given ∙ ap (at c.args.cs.now)
+    (place_is c.args.b c.args.c c.requires.0 c.size.result c.size.ensures.0 c.places-ps.result c.places-ps.ensures k l))
+    (rw (widened x c.xs-1.given) (near x c.xs-1.given))

@@ -1,5 +1,6 @@
--- `estimate::check_samples` meets its contract: where all samples are within the limit, none is refused.
+-- `check_samples` meets its contract: where the greatest is within the limit, no sample is refused.
 use mathlib.Core.Path.{sym}
+use native.Mathlib.Nat.{le_trans}
 use lib.Dec.{leb}
 use lib.IntN.{nat_abs}
 use lib.ListN.{length}
@@ -10,14 +11,11 @@ use Rattle.lattice.proofs.OutcomeLaws.{passes, first_of-passes}
 use Rattle.lattice.proofs.RecordsLaws.{limit_test}
 use Rattle.estimate.proofs.check_samples.Goals as goal
 
-pub returns-then-all_within : goal.returns-then-all_within
+pub returns-then-largest-limit : goal.returns-then-largest-limit
 unfolding limit_outcome
-returns-then-all_within c =
-    let w = c.before in
-    let xs = w.args.xs.now in
-    let limit = w.args.limit in
+returns-then-largest-limit c =
+    let xs = c.args.xs.now in
+    let limit = c.args.limit in
     sym (first_of-passes (length xs) (limit_test 19 limit xs)
-    (λ i l. passes (leb (nat_abs (at xs i)) limit) 19 i (le-leb (nat_abs (at xs i)) limit (w.all_within.ensures c.if-all_within.true i l))))
-
-pub returns : goal.returns
-returns c = c.check_limit.ensures
+    (λ i l. passes (leb (nat_abs (at xs i)) limit) 19 i (le-leb (nat_abs (at xs i)) limit (le_trans
+    (c.largest.ensures i l) c.if-largest-limit.true))))

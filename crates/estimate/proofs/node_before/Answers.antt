@@ -1,10 +1,14 @@
--- `estimate::node_before` meets its contract.
+-- `node_before` meets its contract.
+use mathlib.Core.Path.{◌≡◌, refl, ◌∙◌}
+use Prim.Native.Nat.{ℕ, zero, suc, ◌-◌}
 use native.Mathlib.Omega.{arith}
-use Rattle.estimate.proofs.PassesLaws.{before-is, before-none}
+use Rattle.estimate.specs.Passes.{before}
 use Rattle.estimate.proofs.node_before.Goals as goal
 
-pub returns-then-i-eq0 : goal.returns-then-i-eq0
-returns-then-i-eq0 c = (before-none c.args.i c.if-i-eq0.true, omega arith)
+less : (i : ℕ) → i - 1 ≡ before i
+unfolding before
+less zero = refl
+less (suc i) = omega arith
 
-pub returns-else-i-eq0 : goal.returns-else-i-eq0
-returns-else-i-eq0 c = (before-is c.args.i c.if-i-eq0.false, omega arith)
+pub returns : goal.returns
+returns c = (c.saturating_sub.ensures ∙ less c.args.i, omega (arith, c.saturating_sub.ensures))

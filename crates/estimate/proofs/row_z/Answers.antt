@@ -1,46 +1,61 @@
--- `estimate::row_z` meets its contract: it is one pass over three rows of the samples.
+-- `row_z` meets its contract: it is one pass over three rows of the samples.
 use mathlib.Core.Bool.{Bool}
 use mathlib.Core.List.{List}
-use mathlib.Core.Path.{◌≡◌, ◌∙◌}
-use Prim.Native.Nat.{ℕ, ◌*◌, ◌<◌}
+use mathlib.Core.Path.{◌≡◌, ap, ◌∙◌}
+use Prim.Native.Nat.{ℕ, ◌*◌}
 use native.Mathlib.Omega.{arith}
 use lib.IntN.{ℤ}
 use Rattle.estimate.specs.declared.Grid.{Grid}
-use Rattle.estimate.specs.Passes.{placed, since, before, behind, at_border, pass_of, orders_of_row, row_start, row_z, Read, Grids}
+use Rattle.estimate.specs.Passes.{placed, since, before, behind, at_border, pass_of, orders_of_row, row_start, row_z, Grids}
 use Rattle.estimate.proofs.PlacedLaws.{placed_same}
-use Rattle.estimate.proofs.PassesLaws.{row_read, pass-is}
+use Rattle.estimate.proofs.PassesLaws.{row_read, row_part, parts-lines, parts-pass, pass-is}
 use Rattle.estimate.proofs.row_z.Goals as goal
+
+-- the pass gives the row
+made : (g : Grid) → Grids g → (xs old : List ℤ) (y z : ℕ) {next : List ℤ} {border : Bool} {u v : ℕ}
+    → border ≡ at_border g.z.count z → u ≡ before z → v ≡ behind g.z.count z
+    → next ≡ placed 0 (g.z.orders * g.x.count) (pass_of border g.z.orders (since xs (row_start g y u)) (since xs (row_start g y z))
+    (since xs (row_start g y v))) old
+    → next ≡ placed 0 (g.z.orders * g.x.count) (row_z g xs y z) old
+unfolding row_z
+made g ok xs old y z border lo hi e =
+    let row : ℕ → ℕ → ℤ = λ v. since xs (row_start g y v) in
+    (rw (border, lo, hi) at e)
+    ∙ placed_same 0 (g.z.orders * g.x.count) (pass_of (at_border g.z.count z) g.z.orders (row (before z)) (row z) (row
+    (behind g.z.count z)))
+    (orders_of_row g.z.orders g.z.count row z) old (λ t l. pass-is g.z.orders g.z.count z ok.z-used row t)
 
 pub pass-requires : goal.pass-requires
 pass-requires c =
-    let n = c.before.before.before in
-    let s = n.before.before.before.before in
-    let a = s.args in
-    let read : (k : ℕ) → k < a.g.cz → Read a.xs.now (row_start a.g a.y k) a.g.cx =
-    λ k l. row_read a.g a.xs.now a.y k s.requires.samples s.requires.y_lt_cy.0 l in record {
-      order_count = (s.requires.samples.grid.mz, s.requires.y_lt_cy.2);
-      read = rw (n.row_start-low.ensures, n.row_start-mid.ensures, c.row_start-high.ensures)
-          (read _ (omega arith), read _ s.requires.y_lt_cy.1, read _ n.node_behind.ensures.1);
+    let g = c.args.g in
+    let xs = c.args.xs.now in
+    let y = c.args.y in
+    let ok = c.requires.samples in
+    let h = c.requires.y_lt_cy in
+    let low = h.0 in
+    let here = row_part g xs y c.args.z ok h.0 h.1 c.samples_row-mid.ensures in
+    record {
+      order_count = (ok.grid.mz, ap (λ (n : ℕ). g.z.orders * n) here.long ∙ h.2);
+      read = parts-lines (row_part g xs y _ ok h.0 (omega (arith, c.node_before.ensures.1, h.1)) c.samples_row-low.ensures) here
+          (row_part g xs y _ ok h.0 c.node_behind.ensures.1 c.samples_row-high.ensures) (
+            row_read g xs y _ ok h.0 (omega (arith, c.node_before.ensures.1, h.1)),
+            row_read g xs y _ ok h.0 h.1,
+            row_read g xs y _ ok h.0
+                c.node_behind.ensures.1,
+          );
     }
-
--- the pass gives the row
-made : {g : Grid} → Grids g → (xs b : List ℤ) (y z k : ℕ) {next : List ℤ} {border : Bool} {low mid high u v : ℕ}
-    → border ≡ at_border g.cz z → low ≡ row_start g y u → mid ≡ row_start g y z → high ≡ row_start g y v → u ≡ before z
-    → v ≡ behind g.cz z
-    → next ≡ placed k (g.mz * g.cx) (pass_of border g.mz (since xs low) (since xs mid) (since xs high)) b
-    → next ≡ placed k (g.mz * g.cx) (row_z g xs y z) b
-unfolding row_z
-made {g} ok xs b y z k at_b lo mi hi lo-is hi-is e =
-    let row : ℕ → ℕ → ℤ = λ v. since xs (row_start g y v) in
-    (rw (at_b, lo, mi, hi, lo-is, hi-is) at e)
-    ∙ placed_same k (g.mz * g.cx) (pass_of (at_border g.cz z) g.mz (row (before z)) (row z) (row (behind g.cz z)))
-    (orders_of_row g.mz g.cz row z) b (λ t l. pass-is g.mz g.cz z ok.z-used row t)
 
 pub returns : goal.returns
 returns c =
-    let n = c.before.before.before.before.before in
-    let s = n.before.before.before.before in
-    made s.requires.samples.grid s.args.xs.now s.args.out.now s.args.y s.args.z s.args.k
-    c.at_border.ensures n.row_start-low.ensures n.row_start-mid.ensures
-    c.row_start-high.ensures n.node_before.ensures.0
-    n.node_behind.ensures.0 c.pass.ensures
+    let g = c.args.g in
+    let xs = c.args.xs.now in
+    let y = c.args.y in
+    let z = c.args.z in
+    let old = c.args.out.now in
+    let ok = c.requires.samples in
+    let h = c.requires.y_lt_cy in
+    made g ok.grid xs old y z c.at_border.ensures c.node_before.ensures.0 c.node_behind.ensures.0
+    (parts-pass (row_part g xs y _ ok h.0 (omega (arith, c.node_before.ensures.1, h.1)) c.samples_row-low.ensures)
+    (row_part g xs y z ok h.0 h.1 c.samples_row-mid.ensures)
+    (row_part g xs y _ ok h.0 c.node_behind.ensures.1 c.samples_row-high.ensures) c.at_border.result g.z.orders old ok.grid.mz.0
+    c.pass.ensures)

@@ -21,38 +21,32 @@ module _ (s : Start) where
 
   index : s.args.p < length rs
   index = let a = s.args in
-      safe-index (rounding_of s.args.even) a.m (length rs) (a.x ∷ []) (at rs) a.p (let h = s.requires.prepared.0.m-low in omega arith)
+      safe-index (rounding_of s.args.even) a.m.count (length rs) (a.x ∷ []) (at rs) a.p (let h = s.requires.prepared.0.m-low in omega arith)
       s.requires.safe
 
 module _ (c : After-end_in-high) where
   abbrev start : Start
   start = c.before.before.before
 
-  ends : AreEnds start.args.m (at (rs start)) start.args.p start.args.x.order start.args.x.node
+  ends : AreEnds start.args.m.count (at (rs start)) start.args.p start.args.x.order start.args.x.node
       (record { low = c.end_in-low.result; high = c.end_in-high.result; rest = 0 })
   ends =
       let a = start.args in
       record {
-        low = subst (λ (i : ℕ). IsEnd a.m (at (rs start)) i a.x.order c.end_in-low.result) (omega arith)
-            (part_end (rs start) a.p a.m 0 a.x.order c.end_in-low.result c.end_in-low.ensures);
-        high = part_end (rs start) a.p a.m a.x.node a.x.order c.end_in-high.result c.end_in-high.ensures;
+        low = subst (λ (i : ℕ). IsEnd a.m.count (at (rs start)) i a.x.order c.end_in-low.result) (omega arith)
+            (part_end (rs start) a.p a.m.count 0 a.x.order c.end_in-low.result c.end_in-low.ensures);
+        high = part_end (rs start) a.p a.m.count a.x.node a.x.order c.end_in-high.result c.end_in-high.ensures;
       }
 
 pub end_in-low-requires : goal.end_in-low-requires
 end_in-low-requires c =
     let s = c.before in
-    let h = s.requires.prepared.0 in
-    (h.m-low, h.m-high, λ o l. part-index (rs s) s.args.p (0 + o * s.args.x.order) (let k = (s.requires.safe.0 o l).0 in omega arith))
+    (λ o l. part-index (rs s) s.args.p (0 + o * s.args.x.order) (let k = (s.requires.safe.0 o l).0 in omega arith))
 
 pub end_in-high-requires : goal.end_in-high-requires
 end_in-high-requires c =
     let s = c.before.before in
-    let h = s.requires.prepared.0 in (
-      h.m-low,
-      h.m-high,
-      λ o l. part-index (rs s) s.args.p (s.args.x.node + o * s.args.x.order)
-          (let k = (s.requires.safe.0 o l).1 in omega arith),
-    )
+    λ o l. part-index (rs s) s.args.p (s.args.x.node + o * s.args.x.order) (let k = (s.requires.safe.0 o l).1 in omega arith)
 
 pub stage-requires : goal.stage-requires
 unfolding after
@@ -69,7 +63,7 @@ returns c =
     let e = ends c.before.before in
     record {
       number_is = c.stage.ensures.number_value ∙ stage-gives s.requires.prepared.0 e (rounding_of a.even) a.k;
-      rest-is = c.stage.ensures.rest_value ∙ stage-cleans s.requires.prepared.0 e a.k (λ i. true) (sym (all_true (2 * a.m)));
+      rest-is = c.stage.ensures.rest_value ∙ stage-cleans s.requires.prepared.0 e a.k (λ i. true) (sym (all_true (2 * a.m.count)));
     }
 
 pub offset_bounds-records-p : goal.offset_bounds-records-p

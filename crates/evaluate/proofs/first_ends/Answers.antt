@@ -18,7 +18,7 @@ overflow_add-p c =
     let s = c in
     let a = s.args in
     let m = s.requires.prepared.0.m-low in
-    let h = safe-index (rounding_of a.even) a.m (length a.records.now) (a.x ∷ []) (at a.records.now)
+    let h = safe-index (rounding_of a.even) a.m.count (length a.records.now) (a.x ∷ []) (at a.records.now)
     (a.p + a.node + 0 * a.order)
     (omega arith) (s.requires.at_both 0 (omega arith)).1 in
     omega arith
@@ -31,7 +31,7 @@ returns c =
     let a = d.args in record {
       are_ends = record { low = low.ensures.end; high = high.ensures.end };
       rest_value = or-none high.result.rest low.result.rest ∙ ap₂ ◌&&◌ high.ensures.rest_value low.ensures.rest_value
-          ∙ sym (all-ends a.m a.order a.node (cleanly a.m a.k a.x (at a.records.now) (λ i. true)) a.p);
+          ∙ sym (all-ends a.m.count a.order a.node (cleanly a.m.count a.k a.x (at a.records.now) (λ i. true)) a.p);
     }
 
 pub first_end-low-requires : goal.first_end-low-requires

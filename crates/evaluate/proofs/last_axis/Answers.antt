@@ -6,10 +6,12 @@ use Rattle.evaluate.specs.Wants.{want_of}
 use Rattle.evaluate.proofs.AnswerLaws.{want-some}
 use Rattle.evaluate.proofs.last_axis.Goals as goal
 
-pub returns-then-order-eq0 : goal.returns-then-order-eq0
+pub returns-then-derivative-eq0 : goal.returns-then-derivative-eq0
 unfolding last_axis
-returns-then-order-eq0 c = let a = c.args in sym (ap (λ (o : ℕ). last_axis a.n (want_of o a.axis)) c.if-order-eq0.true)
+returns-then-derivative-eq0 c =
+    let a = c.args in sym (ap (λ (o : ℕ). last_axis a.n (want_of o a.derivative.axis)) c.if-derivative-eq0.true)
 
-pub returns-else-order-eq0 : goal.returns-else-order-eq0
+pub returns-else-derivative-eq0 : goal.returns-else-derivative-eq0
 unfolding last_axis
-returns-else-order-eq0 c = let a = c.args in sym (ap (last_axis a.n) (want-some a.order a.axis c.if-order-eq0.false))
+returns-else-derivative-eq0 c =
+    let a = c.args in sym (ap (last_axis a.n) (want-some a.derivative.order a.derivative.axis c.if-derivative-eq0.false))

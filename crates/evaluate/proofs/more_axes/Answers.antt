@@ -43,11 +43,11 @@ returns c =
     c.third.ensures
 
 pub axis_of-x-requires : goal.axis_of-x-requires
-axis_of-x-requires c = (omega (arith, c.requires.m-low), c.requires.m-low, c.requires.m-high, (low c).0)
+axis_of-x-requires c = (omega (arith, c.requires.m-low), (low c).0)
 
 pub last_stage-z-requires : goal.last_stage-z-requires
-last_stage-z-requires c = let s = c.before in (s.requires.smooth, s.requires.m-low, s.requires.m-high, (low s).1)
+last_stage-z-requires c = (c.requires.smooth, (low c.before).1)
 
 pub axis_of-y-requires : goal.axis_of-y-requires
 axis_of-y-requires c = let s = c.before.before.before in
-    (omega (arith, s.requires.m-low), s.requires.m-low, s.requires.m-high, (low s).2 (not-false _ c.if-not-three.false-raw))
+    (omega (arith, s.requires.m-low), (low s).2 (not-false _ c.if-not-three.false-raw))

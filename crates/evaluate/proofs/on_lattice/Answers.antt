@@ -21,9 +21,9 @@ use Rattle.cell.proofs.CellLaws.{base-in, laid-small}
 use Rattle.evaluate.specs.declared.Strides.{Strides}
 use Rattle.evaluate.specs.Evaluate.{Ask, last_axis, ask_at, answer_by, exact_by}
 use Rattle.evaluate.specs.Stages.{also, of_axis, beside, Workable, WorkedOff, Reports}
-use Rattle.evaluate.specs.Wants.{want_of}
+use Rattle.evaluate.specs.Wants.{wanted}
 use Rattle.evaluate.proofs.AnswerLaws.{order-last}
-use Rattle.evaluate.proofs.Answering.{IsAxis, AreAxes, are-axes, workable-in, reported-in, orders-low, found, fits, cast}
+use Rattle.evaluate.proofs.Answering.{IsAxis, AreAxes, are-axes, workable-in, reported-in, found, fits, cast}
 use Rattle.evaluate.proofs.EndLaws.{part}
 use Rattle.evaluate.proofs.Parts.{workable-part, worked-off-part}
 use Rattle.evaluate.proofs.StageOrder.{axes-before, beside-low}
@@ -31,22 +31,18 @@ use lib.Signed.{mag}
 use Rattle.evaluate.proofs.on_lattice.Goals as goal
 use Rattle.evaluate.proofs.on_lattice.Goals.{After-in_sequence-sequence, After-last_axis-last, Start}
 
-low : (b : Start) → b.args.l.orders ≤ 3
-low b = let a = b.args in
-    orders-low (edition-sound a.even) a.s a.records.now (place_at a.cell) a.step a.order a.axis a.l b.requires.ready
-
 module _ (c : After-in_sequence-sequence) where
   abbrev f : After-last_axis-last
   f = c.before.before.before.before
 
   abbrev b : Start
-  b = f.before
+  b = f.before.before
 
   abbrev n : ℕ
   n = b.args.s.axes
 
   abbrev last : ℕ
-  last = last_axis n (want_of b.args.order b.args.axis)
+  last = last_axis n (wanted b.args.derivative)
 
   last-low : (last < n) × (last < 3)
   last-low = let h = b.requires.ready.shape.axes-high in let k = b.requires.ready.last in (k, omega arith)
@@ -60,7 +56,7 @@ module _ (c : After-in_sequence-sequence) where
   unfolding of_axis
   axis =
       let a = b.args in
-      let is = found (edition-sound a.even) a.s a.records.now (place_at a.cell) a.step a.order a.axis a.l
+      let is = found (edition-sound a.even) a.s a.records.now (place_at a.cell) a.step a.derivative.order a.derivative.axis a.l
       b.requires.ready in
       let x = c.strides_of-x in
       let y = c.strides_of-y in
@@ -97,13 +93,14 @@ module _ (c : After-in_sequence-sequence) where
       (are-axes b.args.s (place_at b.args.step) (eqb n 3) (beside 0 last) (beside 2 last) c.in_sequence-sequence.result.first
       c.in_sequence-sequence.result.middle is-first is-middle)
 
-  whole : Workable (rounding_of b.args.even) b.args.l.orders b.args.order c.in_sequence-sequence.result.last others
+  whole : Workable (rounding_of b.args.even) b.args.l.orders.count b.args.derivative.order c.in_sequence-sequence.result.last others
       (length b.args.records.now) (at b.args.records.now) b.args.l.base
   whole =
       let a = b.args in
-      workable-in (edition-sound a.even) a.s a.records.now (place_at a.cell) (place_at a.step) (want_of a.order a.axis)
+      workable-in (edition-sound a.even) a.s a.records.now (place_at a.cell) (place_at a.step) (wanted a.derivative)
       a.l
-      b.requires.ready n last refl refl a.order (order-last a.order a.axis) c.in_sequence-sequence.result.last others is_last are
+      b.requires.ready n last refl refl a.derivative.order (order-last a.derivative.order a.derivative.axis)
+      c.in_sequence-sequence.result.last others is_last are
 
   -- the records from the cell on
   abbrev here : List ℤ
@@ -121,56 +118,51 @@ module _ (c : After-in_sequence-sequence) where
   base-small = let h = b.requires.ready in
       (laid-small b.args.s (place_at b.args.cell) b.args.l h.shape h.here h.laid).base-low
 
-  asks : Workable (rounding_of b.args.even) b.args.l.orders b.args.order c.in_sequence-sequence.result.last others (length here)
+  asks : Workable (rounding_of b.args.even) b.args.l.orders.count b.args.derivative.order c.in_sequence-sequence.result.last others
+      (length here)
       (at here) 0
   asks = workable-part b.args.records.now b.args.l.base base-low whole
 
   abbrev asked : Ask
-  asked = ask_at b.args.s (want_of b.args.order b.args.axis) (place_at b.args.cell) (place_at b.args.step)
+  asked = ask_at b.args.s (wanted b.args.derivative) (place_at b.args.cell) (place_at b.args.step)
 
   abbrev field : Field
   field = records_field b.args.s b.args.records.now
 
-  gives : (r : Rounded) → WorkedOff b.args.l.orders b.args.order c.in_sequence-sequence.result.last others
-      (Reports (rounding_of b.args.even) b.args.l.orders (at here) 0 r)
+  gives : (r : Rounded) → WorkedOff b.args.l.orders.count b.args.derivative.order c.in_sequence-sequence.result.last others
+      (Reports (rounding_of b.args.even) b.args.l.orders.count (at here) 0 r)
       → (r.number ≡ answer_by (rounding_of b.args.even) asked field)
       × (eqb r.rest 0 ≡ exact_by (rounding_of b.args.even) asked field)
   gives r h =
       let a = b.args in
-      reported-in (edition-sound a.even) a.s a.records.now (place_at a.cell) (place_at a.step) (want_of a.order a.axis)
+      reported-in (edition-sound a.even) a.s a.records.now (place_at a.cell) (place_at a.step) (wanted a.derivative)
       a.l
-      b.requires.ready n last refl refl a.order (order-last a.order a.axis) c.in_sequence-sequence.result.last others is_last are r
+      b.requires.ready n last refl refl a.derivative.order (order-last a.derivative.order a.derivative.axis)
+      c.in_sequence-sequence.result.last others is_last are r
       (worked-off-part a.records.now a.l.base r h)
 
 module _ (w : After-in_sequence-sequence) (r : Rounded) (ok : mag r.number < 2 ^ 63)
-    (e : WorkedOff (b w).args.l.orders (b w).args.order w.in_sequence-sequence.result.last (others w)
-    (Reports (rounding_of (b w).args.even) (b w).args.l.orders (at (here w)) 0 r)) where
+    (e : WorkedOff (b w).args.l.orders.count (b w).args.derivative.order w.in_sequence-sequence.result.last (others w)
+    (Reports (rounding_of (b w).args.even) (b w).args.l.orders.count (at (here w)) 0 r)) where
   fits_in : SFits w32 (to_z w64 (of_z w64 r.number))
   fits_in =
       let s = b w in
       let a = s.args in
-      fits (edition-sound a.even) a.s a.records.now (place_at a.cell) a.step a.order a.axis a.l s.requires.ready r.number ok (gives w r e).0
+      fits (edition-sound a.even) a.s a.records.now (place_at a.cell) a.step a.derivative.order a.derivative.axis a.l s.requires.ready
+      r.number ok (gives w r e).0
 
   answers : to_z w32 (of_z w32 (to_z w64 (of_z w64 r.number))) ≡ answer_by (rounding_of (b w).args.even) (asked w) (field w)
   answers =
       let s = b w in
       let a = s.args in
-      cast (edition-sound a.even) a.s a.records.now (place_at a.cell) a.step a.order a.axis a.l s.requires.ready r.number ok (gives w r e).0
+      cast (edition-sound a.even) a.s a.records.now (place_at a.cell) a.step a.derivative.order a.derivative.axis a.l s.requires.ready
+      r.number ok (gives w r e).0
 
 pub returns : goal.returns
 returns c =
     let w = c.before.before.before.before.before.before.before.before in
     let r = c.more_axes-r in
     record { number_value = answers w r.result c.struct_told-1.given.0.1 r.ensures; exact_value = (gives w r.result r.ensures).1 }
-
-pub strides_of-x-requires : goal.strides_of-x-requires
-strides_of-x-requires c = (low c.before, lit< tt)
-
-pub strides_of-y-requires : goal.strides_of-y-requires
-strides_of-y-requires c = (low c.before.before, lit< tt)
-
-pub strides_of-z-requires : goal.strides_of-z-requires
-strides_of-z-requires c = (low c.before.before.before, lit< tt)
 
 pub offset_bounds-records-base : goal.offset_bounds-records-base
 offset_bounds-records-base c = let h = base-small c.before.before.before in search rules

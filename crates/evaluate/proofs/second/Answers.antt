@@ -20,7 +20,7 @@ first_ends-ends-requires c =
       prepared = (
         h,
         subst (λ (i : ℕ). i ≤ 44) (sym c.shift-before.ensures)
-            (shifted 0 s.args.m _ _ (omega (arith, h.m-low)) h.m-low h.m-high).low,
+            (shifted 0 s.args.m.count _ _ (omega (arith, h.m-low)) h.m-low h.m-high).low,
       );
       at_both = s.requires.safe.0;
     }
@@ -29,24 +29,24 @@ module _ (c : After-first_ends-ends) where
   abbrev start : Start
   start = c.before.before
 
-  ends : AreEnds start.args.m (after (rounding_of start.args.even) start.args.m (start.args.x ∷ [])
+  ends : AreEnds start.args.m.count (after (rounding_of start.args.even) start.args.m.count (start.args.x ∷ [])
       (at start.args.records.now))
       start.args.p start.args.y.order start.args.y.node c.first_ends-ends.result
   unfolding after
   ends =
       let a = start.args in
-      subst (λ (k : ℕ). AreEnds a.m (worked (rounding_of a.even) k a.x (at a.records.now)) a.p a.y.order a.y.node
+      subst (λ (k : ℕ). AreEnds a.m.count (worked (rounding_of a.even) k a.x (at a.records.now)) a.p a.y.order a.y.node
       c.first_ends-ends.result) c.shift-before.ensures c.first_ends-ends.ensures.are_ends
 
   cleans : eqb c.first_ends-ends.result.rest 0
-      ≡ all_at start.args.m (clean_after (rounding_of start.args.even) start.args.m (start.args.x ∷ [])
+      ≡ all_at start.args.m.count (clean_after (rounding_of start.args.even) start.args.m.count (start.args.x ∷ [])
       (at start.args.records.now))
       start.args.p start.args.y.order start.args.y.node
   unfolding after clean_after
   cleans =
       let a = start.args in
       subst (λ (k : ℕ). eqb c.first_ends-ends.result.rest 0
-      ≡ all_at a.m (cleanly a.m k a.x (at a.records.now) (λ i. true)) a.p a.y.order a.y.node)
+      ≡ all_at a.m.count (cleanly a.m.count k a.x (at a.records.now) (λ i. true)) a.p a.y.order a.y.node)
       c.shift-before.ensures c.first_ends-ends.ensures.rest_value
 
 pub stage-requires : goal.stage-requires
@@ -63,9 +63,9 @@ returns c =
     record {
       number_is = c.stage.ensures.number_value ∙ stage-gives s.requires.all_prepared.0.0 (ends d) (rounding_of a.even) a.k;
       rest-is = c.stage.ensures.rest_value
-          ∙ stage-cleans s.requires.all_prepared.0.0 (ends d) a.k (clean_after (rounding_of a.even) a.m (a.x ∷ []) (at a.records.now))
+          ∙ stage-cleans s.requires.all_prepared.0.0 (ends d) a.k (clean_after (rounding_of a.even) a.m.count (a.x ∷ []) (at a.records.now))
           (cleans d);
     }
 
 pub shift-before-requires : goal.shift-before-requires
-shift-before-requires c = let h = c.requires.all_prepared.0.0 in (omega (arith, h.m-low), h.m-low, h.m-high)
+shift-before-requires c = let h = c.requires.all_prepared.0.0 in omega (arith, h.m-low)

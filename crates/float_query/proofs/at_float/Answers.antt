@@ -1,82 +1,85 @@
 -- `float_query::at_float` meets its contract: the query by position at the held steps, with 10 for 22 and 23, is the query by float.
-use mathlib.Core.Path.{◌≡◌, sym, ap, ◌∙◌}
+use mathlib.Core.Path.{◌≡◌, sym, ap, ap₂, ◌∙◌}
 use mathlib.Core.Bool.{Bool}
 use mathlib.Core.List.{List}
-use Prim.Native.Nat.{ℕ}
-use lib.IntN.{ℤ}
-use Rattle.lattice.specs.Outcome.{Outcome}
+use Prim.Native.Nat.{ℕ, ◌<◌, ◌^◌}
+use lib.IntN.{ℤ, nat_abs}
+use lib.Dec.{lit≤}
+use mir.Syntax.{w32}
+use mir.Val.{to_z, of_z}
+use mir.Facts.{to_z-of_z}
+use native.Mathlib.Nat.{lt_of_lt_of_le}
+use Rattle.arith.proofs.Abs.{sfits-abs}
+use Rattle.std.specs.Prelude.{Ok, Err}
+use Rattle.lattice.specs.declared.refusal.Refusal.{Refusal}
+use Rattle.evaluate.specs.declared.Value.{Value}
+use Rattle.lattice.specs.Answers.{number_of}
+use Rattle.lattice.specs.Outcome.{Outcome, done, refused}
 use Rattle.lattice.specs.Shape.{steps_on}
 use Rattle.evaluate.specs.Evaluate.{Want}
 use Rattle.evaluate.specs.Wants.{wanted}
 use Rattle.query.specs.Answers.{outcome_of_reading}
 use Rattle.query.specs.Parts.{renumbered}
 use Rattle.query.specs.Queries.{position_at, by_position}
-use Rattle.float_query.specs.Floats.{floats_at, finite_on, ten_number}
-use Rattle.float_query.specs.Answers.{in_float}
-use Rattle.query.proofs.Renumbered.{renumbered-done}
+use Rattle.float_query.specs.Floats.{floats_at, by_float, finite_on, ten_number}
+use Rattle.float_query.specs.Answers.{float_value, in_float}
 use Rattle.query.proofs.CoarseCalls.{by-position-small}
 use Rattle.float_query.proofs.FloatLaws.{HeldSteps, held, three-held, by-float}
-use lib.Seq.{take-length}
 use Rattle.float_query.proofs.at_float.Goals as goal
-use Rattle.float_query.proofs.at_float.Goals.{After-held_step-3, After-step_of-x, After-step_of-y, After-step_of-z, After-with_ten, Start}
+use Rattle.float_query.proofs.at_float.Goals.{After-at_position}
 
-module _ (c : After-with_ten) where
-  abbrev held_all : After-held_step-3
-  held_all = c.before.before.before.before
-
-  abbrev z : After-step_of-z
-  z = held_all.before.before.before
-
-  abbrev y : After-step_of-y
-  y = z.before.before
-
-  abbrev x : After-step_of-x
-  x = y.before.before
-
-  abbrev start : Start
-  start = x.before.before
-
+module _ (c : After-at_position) where
   abbrev want : Want
-  want = wanted start.args.derivative
+  want = wanted c.args.derivative
 
   abbrev fin : ℕ → Bool
-  fin = finite_on x.step_of-x.result y.step_of-y.result z.step_of-z.result
+  fin = finite_on c.step_of-x.result c.step_of-y.result c.step_of-z.result
 
   -- the steps as the query by position has them
   abbrev steps : List ℤ
-  steps = held held_all.held_step.result held_all.held_step-2.result
-      held_all.held_step-3.result
+  steps = held c.held_step.result c.held_step-2.result c.held_step-3.result
 
   abbrev position : Outcome ℤ
-  position = by_position start.args.t start.args.records.now want (position_at steps)
+  position = by_position c.args.t c.args.records.now want (position_at steps)
 
-  told_is : outcome_of_reading c.with_ten.result ≡ renumbered (ten_number fin) position
-  told_is = c.with_ten.ensures
-      ∙ ap (renumbered (ten_number fin)) (c.at_position-a.ensures.result_value
-      ∙ ap (λ (rs : List ℤ). by_position start.args.t rs want (position_at steps)) (take-length start.args.records.now))
+  asked : outcome_of_reading c.at_position.result ≡ position
+  asked = c.at_position.ensures.result_value
 
-  stands : HeldSteps start.args.t (floats_at start.args.p) fin (position_at steps)
+  stands : HeldSteps c.args.t (floats_at c.args.p) fin (position_at steps)
   unfolding floats_at steps_on
-  stands =
-      let e = x.step_of-x.ensures in
-      let f = y.step_of-y.ensures in
-      let g = z.step_of-z.ensures in
-      three-held start.args.t (floats_at start.args.p) x.step_of-x.result y.step_of-y.result z.step_of-z.result
-      (record { finite-is = e.0; step_is = e.1 }) (record { finite-is = f.0; step_is = f.1 })
-      (record { finite-is = g.0; step_is = g.1 }) _ _ _
-      held_all.held_step.ensures held_all.held_step-2.ensures
-      held_all.held_step-3.ensures
+  stands = three-held c.args.t (floats_at c.args.p) c.step_of-x.result c.step_of-y.result c.step_of-z.result
+      c.step_of-x.ensures c.step_of-y.ensures c.step_of-z.ensures _ _ _
+      c.held_step.ensures c.held_step-2.ensures c.held_step-3.ensures
+
+  told : renumbered (ten_number fin) position ≡ by_float c.args.t c.args.records.now want (floats_at c.args.p)
+  told = by-float c.args.t c.args.records.now want (floats_at c.args.p) fin (position_at steps) stands
+
+  -- the answer, and the refusal, that the query by position gives
+  given : (v : Value) → c.at_position.result ≡ Ok v → done v.number ≡ position
+  given v is = sym (ap outcome_of_reading is) ∙ asked
+
+  given-small : (v : Value) → c.at_position.result ≡ Ok v → nat_abs v.number < 2 ^ 24
+  given-small v is = by-position-small c.args.t c.args.records.now want steps v.number (sym (given v is))
+
+  -- the number as the machine holds it
+  given-held : (v : Value) → c.at_position.result ≡ Ok v → to_z w32 (of_z w32 v.number) ≡ v.number
+  given-held v is = to_z-of_z {w = w32} (sfits-abs v.number (lt_of_lt_of_le (given-small v is) (lit≤ tt)))
+
+  stopped : (r : Refusal) → c.at_position.result ≡ Err r → refused (number_of r.reason) r.place ≡ position
+  stopped r is = sym (ap outcome_of_reading is) ∙ asked
 
 pub in_float-requires : goal.in_float-requires
-in_float-requires c = λ v h.
-    let a = (start c).args in
-    by-position-small a.t a.records.now (want c) (steps c) v
-    (renumbered-done (ten_number (fin c)) (position c) v (sym (told_is c) ∙ h))
+in_float-requires c = let p = c.before.before.before in rw (given-held p c.in-Ok.v c.in-Ok.is) (given-small p c.in-Ok.v c.in-Ok.is)
 
-pub returns : goal.returns
-returns c =
-    let d = c.before in
-    let a = (start d).args in
-    c.in_float.ensures a.derivative.axis
-    ∙ ap (in_float (want d)) (told_is d
-    ∙ by-float a.t a.records.now (want d) (floats_at a.p) (fin d) (position_at (steps d)) (stands d))
+pub returns-in-Ok : goal.returns-in-Ok
+returns-in-Ok c =
+    let p = c.before.before.before in
+    let want = wanted c.args.derivative in
+    c.in_float.ensures c.args.derivative.axis ∙ ap (λ v. done (float_value want v)) (given-held p c.in-Ok.v c.in-Ok.is)
+    ∙ ap (in_float want) (ap (renumbered (ten_number (fin p))) (given p c.in-Ok.v c.in-Ok.is) ∙ told p)
+
+pub returns-in-Err : goal.returns-in-Err
+returns-in-Err c =
+    let p = c.before.before in
+    ap (in_float (wanted c.args.derivative)) (ap₂ refused c.with_ten.ensures.0 c.with_ten.ensures.1
+    ∙ ap (renumbered (ten_number (fin p))) (stopped p c.in-Err.r c.in-Err.is) ∙ told p)

@@ -8,7 +8,7 @@ use lib.IntN.{pos, neg_ℤ, ◌-ℤ◌, +ℤ_idl}
 use mir.Syntax.{w64}
 use mir.Facts.{to_z-of_z}
 use mir.Val.{SFits, to_z, of_z}
-use borrow.Author.Tests.{le-leb, lt-leb}
+use borrow.Author.Tests.{le-leb}
 use Rattle.arith.proofs.Abs.{abs_neg, sfits-abs}
 use Rattle.arith.proofs.Machine.{is-nat}
 use Rattle.floats.specs.Step.{signed}
@@ -33,11 +33,6 @@ overflow_sub-result c =
     let b = c.args.b in
     let n = (b % 8388608 + 8388608) * 512 in
     subst (SFits w64) (sym (negated n (small b))) (fits-negated n (small b))
-
-pub returns-then-b-lt2147483648 : goal.returns-then-b-lt2147483648
-returns-then-b-lt2147483648 c =
-    let b = c.args.b in
-    rw (lt-leb 2147483648 b c.if-b-lt2147483648.true) (plain ((b % 8388608 + 8388608) * 512) (small b))
 
 pub returns-else-b-lt2147483648 : goal.returns-else-b-lt2147483648
 returns-else-b-lt2147483648 c =

@@ -1,76 +1,57 @@
--- `floats::step_of` meets its contract: past the two tests x is finite, and its step is nearest to the product.
+-- `floats::step_of` meets its contract: the step of a finite x is nearest to the product.
 use mathlib.Core.Path.{◌≡◌, refl, sym, ap, subst, ◌∙◌}
 use Prim.Native.Nat.{ℕ, ◌^◌}
-use mathlib.Core.Bool.{Bool, true, false, not, true≢false, false≢true}
+use mathlib.Core.Bool.{Bool, true, not, false≢true}
 use lib.Dec.{T}
-use native.Mathlib.Nat.{mul-zero}
-use lib.IntN.{ℤ, pos, ◌*ℤ◌}
-use lib.Ieee.{Float, nan, inf, fin, binary32, fits, is_nan, lt, mul, div, neg, of_bits}
+use lib.IntN.{ℤ}
+use lib.Ieee.{Float, nan, inf, fin, binary32, fits, is_nan, mul}
 use lib.Ieee.Scale.{finite}
 use mir.Syntax.{w32}
 use mir.Facts.{to_z-of_z}
 use borrow.Author.Rules.{sfits_of}
-use Rattle.arith.specs.Int.{round_half_up}
+use Rattle.std.specs.Prelude.{Some}
+use Rattle.std.specs.Float.{float_is_finite}
+use Rattle.arith.proofs.Choices.{pick_true, pick-false}
 use Rattle.floats.specs.Step.{step, power_of, clamped}
 use Rattle.floats.specs.Bits.{nearest_held}
 use Rattle.floats.proofs.Scaled.{scale, scaled, scaled-not-nan}
 use Rattle.floats.proofs.step_of.Goals as goal
-use Rattle.floats.proofs.step_of.Goals.{Then-x-infinity-2}
+use Rattle.floats.proofs.step_of.Goals.{Then-is_finite}
 
--- what the two tests tell
+-- the library's test is that of the definitions
+same_test : (x : Float) → float_is_finite x ≡ finite x
+unfolding float_is_finite
+same_test nan = refl
+same_test (inf s) = refl
+same_test (fin s m e) = refl
+
+pub returns-else-is_finite : goal.returns-else-is_finite
+returns-else-is_finite c =
+    sym (pick-false _ _ _ (sym (same_test c.args.x) ∙ sym c.if-is_finite.ensures.value))
+
+-- what the test tells
 passed : (P : Float → Type 0) → ((s : Bool) (m : ℕ) (e : ℤ) → T (fits binary32 (fin s m e)) → P (fin s m e)) → (x : Float)
-    → T (fits binary32 x) → lt x (inf false) ≡ true → lt (inf true) x ≡ true → P x
-unfolding lt
-passed P k nan f h l = absurd (false≢true h)
-passed P k (inf true) f h l = absurd (false≢true l)
-passed P k (inf false) f h l = absurd (false≢true h)
-passed P k (fin s m e) f h l = k s m e f
+    → T (fits binary32 x) → finite x ≡ true → P x
+passed P k nan f h = absurd (false≢true h)
+passed P k (inf s) f h = absurd (false≢true h)
+passed P k (fin s m e) f h = k s m e f
 
-abbrev NotFinite : ℕ → Float → Type 0
-NotFinite N x = (false ≡ finite x) × (pos 0 ≡ clamped (step N x))
+is_finite : (c : Then-is_finite) → finite c.args.x ≡ true
+is_finite c = sym (same_test c.args.x) ∙ sym c.if-is_finite.ensures.value
 
--- 0 steps
-none : (N : ℕ) → pos 0 ≡ clamped (round_half_up (pos N *ℤ pos 0) 1)
-unfolding clamped round_half_up
-none N = ap (λ (k : ℕ). clamped (round_half_up (pos k) 1)) (sym (mul-zero N))
-
-not-below : (N : ℕ) (x : Float) → lt x (inf false) ≡ false → NotFinite N x
-unfolding lt step
-not-below N nan h = (refl, none N)
-not-below N (inf s) h = (refl, none N)
-not-below N (fin s m e) h = absurd (true≢false h)
-
-not-above : (N : ℕ) (x : Float) → lt (inf true) x ≡ false → NotFinite N x
-unfolding lt step
-not-above N nan h = (refl, none N)
-not-above N (inf s) h = (refl, none N)
-not-above N (fin s m e) h = absurd (true≢false h)
-
-pub returns-else-x-infinity-2 : goal.returns-else-x-infinity-2
-unfolding div neg of_bits
-returns-else-x-infinity-2 c = not-above _ c.args.x c.if-x-infinity-2.false
-
-pub returns-else-x-infinity : goal.returns-else-x-infinity
-unfolding div of_bits
-returns-else-x-infinity c = not-below _ c.args.x c.if-x-infinity.false
-
--- 1.0 / 0.0 and its negative compute to the infinities
-finite-at : (P : Float → Type 0) → ((s : Bool) (m : ℕ) (e : ℤ) → T (fits binary32 (fin s m e)) → P (fin s m e)) → (c : Then-x-infinity-2)
+finite-at : (P : Float → Type 0) → ((s : Bool) (m : ℕ) (e : ℤ) → T (fits binary32 (fin s m e)) → P (fin s m e)) → (c : Then-is_finite)
     → P c.args.x
-unfolding div neg of_bits
-finite-at P k c = passed P k c.args.x (subst T (sym c.well_formed.1.0.1) tt) c.if-x-infinity.true
-    c.if-x-infinity-2.true
+finite-at P k c = passed P k c.args.x (subst T (sym c.well_formed.1.0.1) tt) (is_finite c)
 
-pub returns-then-x-infinity-2 : goal.returns-then-x-infinity-2
-returns-then-x-infinity-2 c =
-    let d = c.before in
-    let p = power_of d.args.steps in
-    let f = finite-at (λ x. (true ≡ finite x) × (nearest_held (mul binary32 x (scale p)) ≡ clamped (step (2 ^ p) x)))
-    (λ s m e t. (refl, scaled s m e p t)) d.before in (
-      f.0,
-      to_z-of_z {w = w32} (sfits_of c.nearest.type_inv) ∙ c.nearest.ensures
-          ∙ ap (λ (v : Float). nearest_held (mul binary32 d.args.x v)) d.scale_of.ensures ∙ f.1,
-    )
+pub returns-then-is_finite : goal.returns-then-is_finite
+returns-then-is_finite c =
+    let d = c.before.before in
+    let p = power_of c.args.steps in
+    ap Some
+    (to_z-of_z {w = w32} (sfits_of c.nearest.type_inv) ∙ c.nearest.ensures
+    ∙ ap (λ (v : Float). nearest_held (mul binary32 c.args.x v)) c.scale_of.ensures
+    ∙ finite-at (λ x. nearest_held (mul binary32 x (scale p)) ≡ clamped (step (2 ^ p) x)) (λ s m e t. scaled s m e p t) d)
+    ∙ sym (pick_true _ _ _ (is_finite d))
 
 -- the product is a number
 pub nearest-requires : goal.nearest-requires
@@ -78,6 +59,3 @@ nearest-requires c =
     let p = power_of c.args.steps in
     subst (λ (v : Float). T (not (is_nan (mul binary32 c.args.x v)))) (sym c.scale_of.ensures)
     (finite-at (λ x. T (not (is_nan (mul binary32 x (scale p))))) (λ s m e t. scaled-not-nan s m e p t) c.before)
-
-pub scale_of-requires : goal.scale_of-requires
-scale_of-requires c = tt

@@ -23,27 +23,26 @@ of-dose k m n e f = ap₂ taken e f
 pub returns-then-order-ne0 : goal.returns-then-order-ne0
 unfolding taken
 returns-then-order-ne0 c =
-    let a = c.args in
-    let r = c.requires in (
-      λ u h. both-values a.order a.m steps u r.0 r.1 r.2 h ∙ of-derivative a.order a.m c.if-order-ne0.true,
+    let a = c.args in (
+      λ u h. both-values a.order a.m.count steps u c.requires a.m.bounds.0 a.m.bounds.1 h ∙ of-derivative a.order a.m.count
+          c.if-order-ne0.true,
       lit≤ tt,
     )
 
 pub returns-then-m-eq2 : goal.returns-then-m-eq2
 unfolding taken unit_of
 returns-then-m-eq2 c =
-    let a = c.args in
-    let r = c.requires in (
-      λ u h. both-values a.order a.m steps u r.0 r.1 r.2 h ∙ of-dose a.order a.m 2 c.if-order-ne0.false c.if-m-eq2.true,
+    let a = c.args in (
+      λ u h. both-values a.order a.m.count steps u c.requires a.m.bounds.0 a.m.bounds.1 h ∙ of-dose a.order a.m.count 2
+          c.if-order-ne0.false c.if-m-eq2.true,
       lit≤ tt,
     )
 
 pub returns-else-m-eq2 : goal.returns-else-m-eq2
 unfolding taken unit_of
 returns-else-m-eq2 c =
-    let a = c.args in
-    let r = c.requires in (
-      λ u h. both-values a.order a.m steps u r.0 r.1 r.2 h
-          ∙ of-dose a.order a.m 3 c.if-order-ne0.false (omega (arith, r.1, r.2, c.if-m-eq2.false)),
+    let a = c.args in (
+      λ u h. both-values a.order a.m.count steps u c.requires a.m.bounds.0 a.m.bounds.1 h
+          ∙ of-dose a.order a.m.count 3 c.if-order-ne0.false (omega (arith, a.m.bounds.0, a.m.bounds.1, c.if-m-eq2.false)),
       lit≤ tt,
     )

@@ -11,9 +11,7 @@ use Rattle.hermite.proofs.column.Goals as goal
 
 pub returns : goal.returns
 returns c =
-    let r = c.before.before.before in
-    let s = r.before.before.before in
-    let one : (k : ℕ) → k < 3 → (z : ℤ) → z ≡ multiplier s.args.m k s.args.o → held z ≡ multiplier s.args.m k s.args.o =
-    λ k l z e. multiplier-read s.args.m s.requires.0 s.requires.1 k l s.args.o s.requires.2 z e in
-    by-3 _ (one 0 (lit< tt) _ (r.row-a.ensures s.args.o)) (one 1 (lit< tt) _ (r.row-b.ensures s.args.o))
-    (one 2 (lit< tt) _ (r.row-c.ensures s.args.o))
+    let a = c.args in
+    let one : (k : ℕ) → k < 3 → (z : ℤ) → z ≡ multiplier a.m.count k a.o → held z ≡ multiplier a.m.count k a.o =
+    λ k l z e. multiplier-read a.m.count a.m.bounds.0 a.m.bounds.1 k l a.o c.requires z e in
+    by-3 _ (one 0 (lit< tt) _ (c.row.ensures a.o)) (one 1 (lit< tt) _ (c.row-2.ensures a.o)) (one 2 (lit< tt) _ (c.row-3.ensures a.o))

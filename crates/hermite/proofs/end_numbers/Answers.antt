@@ -19,16 +19,16 @@ row2-before c = c.before.before.before.before.before.before
 module _ (s : Start) where
   -- a coefficient, and a multiplier, as read
   size : (i : ℕ) → i < 3 → nat_abs (held (at s.args.y i)) ≤ 2 ^ 50
-  size i l = kept_low (at s.args.y i) (2 ^ 50) (s.requires.2 i l) (lit< tt)
+  size i l = kept_low (at s.args.y i) (2 ^ 50) (s.requires i l) (lit< tt)
 
   read : (i : ℕ) → i < 3 → held (at s.args.y i) ≡ at s.args.y i
-  read i l = kept (at s.args.y i) (2 ^ 50) (s.requires.2 i l) (lit< tt)
+  read i l = kept (at s.args.y i) (2 ^ 50) (s.requires i l) (lit< tt)
 
-  factor : (k : ℕ) → k < 3 → (o : ℕ) → o < 3 → (z : ℤ) → z ≡ multiplier s.args.m k o → held z ≡ multiplier s.args.m k o
-  factor k lk o lo z e = multiplier-read s.args.m s.requires.0 s.requires.1 k lk o lo z e
+  factor : (k : ℕ) → k < 3 → (o : ℕ) → o < 3 → (z : ℤ) → z ≡ multiplier s.args.m.count k o → held z ≡ multiplier s.args.m.count k o
+  factor k lk o lo z e = multiplier-read s.args.m.count s.args.m.bounds.0 s.args.m.bounds.1 k lk o lo z e
 
-  small : (k : ℕ) → k < 3 → (o : ℕ) → o < 3 → (z : ℤ) → z ≡ multiplier s.args.m k o → nat_abs (held z) ≤ 20
-  small k lk o lo z e = rw (factor k lk o lo z e) (multiplier-size s.args.m s.requires.0 s.requires.1 k lk o lo)
+  small : (k : ℕ) → k < 3 → (o : ℕ) → o < 3 → (z : ℤ) → z ≡ multiplier s.args.m.count k o → nat_abs (held z) ≤ 20
+  small k lk o lo z e = rw (factor k lk o lo z e) (multiplier-size s.args.m.count s.args.m.bounds.0 s.args.m.bounds.1 k lk o lo)
 
 module _ (q : After-row-c) where
   abbrev start : Start

@@ -9,10 +9,10 @@ use Rattle.hermite.proofs.products.Goals as goal
 use Rattle.hermite.proofs.products.Goals.{Start}
 
 abbrev k-a : (c : Start) → Size (to_z w64 (of_z w64 c.args.a))
-k-a c = held w64 c.args.a 256 c.ranges.a c.requires.2
+k-a c = held w64 c.args.a 256 c.ranges.a c.requires.0
 
 abbrev k-b : (c : Start) → Size (to_z w64 (of_z w64 c.args.b))
-k-b c = held w64 c.args.b 256 c.ranges.b c.requires.3
+k-b c = held w64 c.args.b 256 c.ranges.b c.requires.1
 
 ruleset known = (k-a, k-b, sizes)
 
@@ -20,7 +20,7 @@ pub returns-then-m-eq2 : goal.returns-then-m-eq2
 returns-then-m-eq2 c =
     let s = c.before in
     let w = cubic-products s.args.a s.args.b in
-    products-row s.args.a s.args.b s.args.m 2 c.if-m-eq2.true _ _ _
+    products-row s.args.a s.args.b s.args.m.count 2 c.if-m-eq2.true _ _ _
     (value? (search known depth 40 fits 3000) (omega arith) ∙ w.0) (value? (search known depth 40 fits 3000) (omega arith) ∙ w.1)
     (value? (search known depth 40 fits 3000) (omega arith) ∙ w.2)
 
@@ -28,8 +28,8 @@ pub returns : goal.returns
 returns c =
     let s = c.before in
     let w = quintic-products s.args.a s.args.b in
-    let e : s.args.m ≡ 3 = omega arith in
-    products-row s.args.a s.args.b s.args.m 3 e _ _ _ (value? (search known depth 40 fits 3000) (omega arith) ∙ w.0)
+    let e : s.args.m.count ≡ 3 = omega arith in
+    products-row s.args.a s.args.b s.args.m.count 3 e _ _ _ (value? (search known depth 40 fits 3000) (omega arith) ∙ w.0)
     (value? (search known depth 40 fits 3000) (omega arith) ∙ w.1) (value? (search known depth 40 fits 3000) (omega arith) ∙ w.2)
 
 pub overflow_mul-c : goal.overflow_mul-c

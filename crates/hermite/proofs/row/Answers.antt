@@ -12,12 +12,12 @@ pub returns-then-m-eq2 : goal.returns-then-m-eq2
 unfolding multiplier
 returns-then-m-eq2 c o =
     let s = c.before.before in
-    let e : s.args.k ≡ 3 * (s.args.m - 2) + s.args.k = omega (arith, c.if-m-eq2.true) in
+    let e : s.args.k ≡ 3 * (s.args.m.count - 2) + s.args.k = omega (arith, c.if-m-eq2.true) in
     ap (λ (i : ℕ). at (get_or rows i []) o) e
 
 pub returns : goal.returns
 unfolding multiplier
 returns c o =
     let s = c.before.before in
-    let e : 3 + s.args.k ≡ 3 * (s.args.m - 2) + s.args.k = omega (arith, c.if-m-eq2.false) in
+    let e : 3 + s.args.k ≡ 3 * (s.args.m.count - 2) + s.args.k = omega (arith, c.if-m-eq2.false) in
     ap (λ (i : ℕ). at (get_or rows i []) o) e

@@ -1,42 +1,21 @@
 -- `hermite::shift` meets its contract: eighths are three powers of 2.
 use mathlib.Core.Path.{◌≡◌, sym, ap₂, ◌∙◌}
-use mathlib.Core.Bool.{Bool, true, false}
-use Prim.Native.Nat.{◌+◌, ◌*◌, ◌-◌}
-use native.Mathlib.Omega.{arith}
+use Prim.Native.Nat.{ℕ, ◌+◌, ◌-◌}
 use Rattle.arith.specs.Choice.{pick}
+use Rattle.arith.proofs.Choices.{pick_true, pick-false}
 use Rattle.hermite.specs.Stage.{shift_of}
 use Rattle.hermite.proofs.shift.Goals as goal
-use Rattle.hermite.proofs.shift.Goals.{Start}
-
--- where from and to are known
-module _ (s : Start) (f t : Bool) (ef : s.args.from ≡ f) (et : s.args.to ≡ t) where
-  is : 8 * (2 * s.args.m - 1 - s.args.order) + pick f 3 0 - pick t 3 0 ≡ shift_of s.args.order s.args.m s.args.from
-      s.args.to
-  unfolding shift_of
-  is = ap₂ (λ (f t : Bool). 8 * (2 * s.args.m - 1 - s.args.order) + pick f 3 0 - pick t 3 0) (sym ef) (sym et)
-
-pub returns-then-to : goal.returns-then-to
-unfolding pick
-returns-then-to c = let d = c.before.before in d.exponent-k.ensures ∙ omega arith
-    ∙ is d.before true true c.if-from.true c.if-to.true
-
-pub overflow_add-result : goal.overflow_add-result
-overflow_add-result c = let d = c.before.before in let h = d.requires in let e = d.exponent-k.ensures in omega arith
-
-pub returns-then-from : goal.returns-then-from
-unfolding pick
-returns-then-from c = let d = c.before.before in let e = d.exponent-k.ensures in omega arith
-    ∙ is d.before true false c.if-from.true c.if-to.false
-
-pub overflow_sub-result : goal.overflow_sub-result
-overflow_sub-result c = let d = c.before.before in let h = d.requires in let e = d.exponent-k.ensures in omega arith
-
-pub returns-then-to-2 : goal.returns-then-to-2
-unfolding pick
-returns-then-to-2 c = let d = c.before.before in let e = d.exponent-k.ensures in omega arith
-    ∙ is d.before false true c.if-from.false c.if-to-2.true
+use Rattle.hermite.proofs.shift.Goals.{then-from, else-from, then-to, else-to}
 
 pub returns : goal.returns
-unfolding pick
-returns c = let d = c.before.before in let e = d.exponent-k.ensures in omega arith
-    ∙ is d.before false false c.if-from.false c.if-to-2.false
+unfolding shift_of
+returns c =
+    let down : c.if-from.down ≡ pick c.args.from 3 0 = elim c.if-from.branch [
+      | then-from w ↦ w.down-is ∙ sym (pick_true _ _ _ w.if-from.true)
+      | else-from w ↦ w.down-is ∙ sym (pick-false _ _ _ w.if-from.false)
+    ] in
+    let up : c.if-to.up ≡ pick c.args.to 3 0 = elim c.if-to.branch [
+      | then-to w ↦ w.up-is ∙ sym (pick_true _ _ _ w.if-to.true)
+      | else-to w ↦ w.up-is ∙ sym (pick-false _ _ _ w.if-to.false)
+    ] in
+    ap₂ (λ (i j : ℕ). i - j) (ap₂ ◌+◌ c.exponent.ensures down) up

@@ -1,57 +1,47 @@
 -- `check_import` meets its contract: the refusals in their order.
-use mathlib.Core.Path.{◌≡◌, sym, ap, ap₂, ◌∙◌}
-use mathlib.Core.List.{List}
+use mathlib.Core.Path.{sym, ap, ap₂, ◌∙◌}
 use Prim.Native.Nat.{ℕ}
 use lib.Dec.{leb, eqb}
-use Rattle.lattice.specs.Answers.{outcome_of}
-use Rattle.lattice.specs.Outcome.{Check, refuse_unless}
-use Rattle.lattice.specs.declared.Shape.{Shape}
-use Rattle.lattice.specs.Shape.{nodes}
-use Rattle.import.specs.Tokens.{token_count}
-use Rattle.lattice.proofs.OutcomeLaws.{first-passed, refused-first}
+use Rattle.lattice.specs.Outcome.{refuse_unless}
+use Rattle.lattice.specs.Shape.{full_outcome}
+use Rattle.lattice.proofs.OutcomeLaws.{stopped, went-on}
 use Rattle.lattice.proofs.ShapeLaws.{shaped}
 use Rattle.lattice.proofs.StepLaws.{full-shape}
 use Rattle.import.proofs.ImportLaws.{import-is, counted, roomy}
 use Rattle.import.proofs.check_import.Goals as goal
 
-pub returns-in-Refused : goal.returns-in-Refused
-returns-in-Refused c =
-    let g = ap outcome_of c.in-Refused.is in
-    g ∙ sym (import-is _ _ _ ∙ refused-first _ (sym c.check_full-shape.ensures ∙ g))
+pub returns-in_err-check_full : goal.returns-in_err-check_full
+returns-in_err-check_full c =
+    stopped _ _ (full_outcome c.args.t) _ c.from_residual.ensures c.in_err-check_full.ensures
+    ∙ sym (import-is c.args.t c.args.text.now c.args.room)
 
--- the test of 4, and that of 9
-four : (s : Shape) (text : List ℕ) {x : Check} {m n : ℕ} → x ≡ refuse_unless (eqb m n) 4 0 → m ≡ token_count text → n ≡ nodes s
-    → x ≡ counted s text
-four s text e f g = e ∙ ap₂ (λ (x y : ℕ). refuse_unless (eqb x y) 4 0) f g
+pub node_count-nodes-requires : goal.node_count-nodes-requires
+node_count-nodes-requires c = shaped _ (full-shape c.args.t (sym c.in_ok-check_full.ensures))
 
-nine : (s : Shape) (room : ℕ) {x : Check} {n : ℕ} → x ≡ refuse_unless (leb n room) 9 0 → n ≡ nodes s → x ≡ roomy s room
-nine s room e g = e ∙ ap (λ (x : ℕ). refuse_unless (leb x room) 9 0) g
+pub returns-in_err-refuse_unless : goal.returns-in_err-refuse_unless
+returns-in_err-refuse_unless c =
+    let a = c.args in
+    let four = ap₂ (λ (x y : ℕ). refuse_unless (eqb x y) 4 0) c.count_tokens.ensures c.node_count-nodes.ensures in
+    went-on (full_outcome a.t) _ _ c.in_ok-check_full.ensures
+    (stopped _ _ (counted a.t.shape a.text.now) _ c.from_residual-in_err-refuse_unless.ensures (c.in_err-refuse_unless.ensures ∙ four))
+    ∙ sym (import-is a.t a.text.now a.room)
 
-pub returns-in-Refused-counted : goal.returns-in-Refused-counted
-returns-in-Refused-counted c =
-    let shape = sym c.check_full-shape.ensures ∙ ap outcome_of c.in_default.is in
-    let g = ap outcome_of c.in-Refused-counted.is in
-    let f = four _ _ c.refuse_unless-counted.ensures c.count_tokens.ensures c.node_count-nodes.ensures in
-    g ∙ sym (import-is _ _ _ ∙ first-passed _ _ shape ∙ refused-first _ (sym f ∙ g))
-
-pub returns-in-Refused-roomy : goal.returns-in-Refused-roomy
-returns-in-Refused-roomy c =
-    let shape = sym c.check_full-shape.ensures ∙ ap outcome_of c.in_default.is in
-    let g = ap outcome_of c.in-Refused-roomy.is in
-    let f = four _ _ c.refuse_unless-counted.ensures c.count_tokens.ensures c.node_count-nodes.ensures in
-    let n = nine _ _ c.refuse_unless-roomy.ensures c.node_count-nodes.ensures in
-    g ∙ sym (import-is _ _ _ ∙ first-passed _ _ shape
-    ∙ first-passed _ _ (sym f ∙ ap outcome_of c.in_default-counted.is)
-    ∙ refused-first _ (sym n ∙ g))
+pub returns-in_err-refuse_unless-2 : goal.returns-in_err-refuse_unless-2
+returns-in_err-refuse_unless-2 c =
+    let a = c.args in
+    let four = ap₂ (λ (x y : ℕ). refuse_unless (eqb x y) 4 0) c.count_tokens.ensures c.node_count-nodes.ensures in
+    let nine = ap (λ (x : ℕ). refuse_unless (leb x a.room) 9 0) c.node_count-nodes.ensures in
+    went-on (full_outcome a.t) _ _ c.in_ok-check_full.ensures
+    (went-on (counted a.t.shape a.text.now) _ _ (c.in_ok-refuse_unless.ensures ∙ four)
+    (stopped _ _ (roomy a.t.shape a.room) _ c.from_residual-in_err-refuse_unless-2.ensures (c.in_err-refuse_unless-2.ensures ∙ nine)))
+    ∙ sym (import-is a.t a.text.now a.room)
 
 pub returns : goal.returns
 returns c =
-    let shape = sym c.check_full-shape.ensures ∙ ap outcome_of c.in_default.is in
-    let f = four _ _ c.refuse_unless-counted.ensures c.count_tokens.ensures c.node_count-nodes.ensures in
-    let n = nine _ _ c.refuse_unless-roomy.ensures c.node_count-nodes.ensures in
-    c.check_tokens.ensures
-    ∙ sym (import-is _ _ _ ∙ first-passed _ _ shape ∙ first-passed _ _ (sym f ∙ ap outcome_of c.in_default-counted.is)
-    ∙ first-passed _ _ (sym n ∙ ap outcome_of c.in_default-roomy.is))
-
-pub node_count-nodes-requires : goal.node_count-nodes-requires
-node_count-nodes-requires c = shaped _ (full-shape _ (sym c.check_full-shape.ensures ∙ ap outcome_of c.in_default.is))
+    let a = c.args in
+    let four = ap₂ (λ (x y : ℕ). refuse_unless (eqb x y) 4 0) c.count_tokens.ensures c.node_count-nodes.ensures in
+    let nine = ap (λ (x : ℕ). refuse_unless (leb x a.room) 9 0) c.node_count-nodes.ensures in
+    went-on (full_outcome a.t) _ _ c.in_ok-check_full.ensures
+    (went-on (counted a.t.shape a.text.now) _ _ (c.in_ok-refuse_unless.ensures ∙ four)
+    (went-on (roomy a.t.shape a.room) _ _ (c.in_ok-refuse_unless-2.ensures ∙ nine) c.check_tokens.ensures))
+    ∙ sym (import-is a.t a.text.now a.room)

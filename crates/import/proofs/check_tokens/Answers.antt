@@ -1,80 +1,61 @@
--- `check_tokens` meets its contract. The invariant: no token that starts before i is refused.
-use mathlib.Core.Path.{◌≡◌, refl, sym, ap, ◌∙◌}
-use mathlib.Core.Bool.{true}
-use mathlib.Core.List.{List}
-use Prim.Native.Nat.{ℕ, ◌<◌}
+-- `check_tokens` meets its contract. The invariant: none of the tokens so far is refused.
+use mathlib.Core.Path.{◌≡◌, sym, ap, ap₂, ◌∙◌}
+use mathlib.Core.Logic.{inl}
+use Prim.Native.Nat.{ℕ}
 use native.Mathlib.Omega.{arith}
-use lib.ListN.{length}
-use Rattle.lattice.specs.Answers.{outcome_of}
-use Rattle.lattice.specs.Outcome.{Check, first_of}
-use Rattle.lattice.proofs.OutcomeLaws.{first_of-stops, first_of-more}
-use Rattle.import.specs.Tokens.{starts_token, token_at}
-use Rattle.import.specs.Import.{token_outcome, sample_outcome}
-use Rattle.import.proofs.TokensLaws.{before, before-none, before-start, before-other, before-few, before-all, start-counted}
-use Rattle.import.proofs.ImportLaws.{tested_at}
+use lib.ListN.{length, drop}
+use Rattle.lattice.specs.Outcome.{first_of}
+use Rattle.lattice.proofs.OutcomeLaws.{handed_on, first_of-stops, first_of-more}
+use Rattle.import.specs.Tokens.{tokens_from}
+use Rattle.import.specs.Import.{sample_outcome}
+use Rattle.import.proofs.ScanLaws.{count-bytes, turn, ended}
+use Rattle.import.proofs.ImportLaws.{tested}
 use Rattle.import.proofs.check_tokens.Goals as goal
-use Rattle.import.proofs.check_tokens.Goals.{then-starts_token+in_default, else-starts_token}
 
-pub loop-i-init : goal.loop-i-init
+pub loop-k-init : goal.loop-k-init
 unfolding first_of
-loop-i-init c = (omega arith, sym (before-none c.args.text.now), refl)
-
--- the token that was tested is token k
-tested : (text : List ℕ) (i k : ℕ) {x : Check} → i < length text → k ≡ before text i → starts_token text i ≡ true
-    → x ≡ token_outcome (token_at text i) i k → sample_outcome text k ≡ x
-tested text i k h e s f =
-    ap (sample_outcome text) e ∙ tested_at text i h s ∙ ap (token_outcome (token_at text i) i) (sym e) ∙ sym f
-
-pub returns-in-Refused : goal.returns-in-Refused
-returns-in-Refused c =
+loop-k-init c =
     let text = c.args.text.now in
-    let k = c.loop-i.k in
-    let g = ap outcome_of c.in-Refused.is in
-    let here : c.loop-i.i < length text = omega arith in
-    let s = sym c.starts_token.ensures ∙ c.if-starts_token.true in
-    let n = start-counted text c.loop-i.i here s in
-    g ∙ sym (first_of-stops _ k (sample_outcome text) _ _ (omega (arith, n, c.loop-i.invariant.1)) c.loop-i.invariant.2
-    (tested text c.loop-i.i k here c.loop-i.invariant.1 s c.check_token-one.ensures ∙ g))
+    let count : c.into_iter-k-iterator.result.count ≡ 0
+    = ap (λ s. s.count) c.into_iter-k-iterator.ensures.into_iter_gives ∙ c.enumerate-k-items.ensures.count in
+    let source = ap (λ s. s.iter) c.into_iter-k-iterator.ensures.into_iter_gives ∙ c.enumerate-k-items.ensures.source in
+    let all = ap (λ s. tokens_from s.text.now s.at) source ∙ ap₂ tokens_from c.of.ensures.0 c.of.ensures.1 in (
+      (tt, tt, inl (omega (arith, count, ap length all, count-bytes text))),
+      tt,
+      omega (arith, count),
+      all ∙ ap (λ (n : ℕ). drop n (tokens_from text 0)) (sym count),
+      ap (λ (n : ℕ). first_of n (sample_outcome text)) count,
+    )
 
-pub overflow_add-k : goal.overflow_add-k
-overflow_add-k c = omega (arith, before-few c.args.text.now c.loop-i.i, c.loop-i.invariant.1)
-
-pub loop-i-preserved : goal.loop-i-preserved
-loop-i-preserved c =
+pub loop-k-preserved : goal.loop-k-preserved
+loop-k-preserved c =
     let text = c.args.text.now in
-    let i = c.loop-i.i in
-    let k = c.loop-i.k in
-    let here : i < length text = omega arith in
-    elim c.if-starts_token.branch [
-      | then-starts_token+in_default w ↦
-          let s = sym c.starts_token.ensures ∙ w.if-starts_token.true in (
-            omega arith,
-            omega (arith, w.k-is, c.loop-i.invariant.1, before-start text i s),
-            ap (λ (n : ℕ). first_of n (sample_outcome text)) w.k-is
-                ∙ first_of-more k (sample_outcome text) c.loop-i.invariant.2
-                (tested text i k here c.loop-i.invariant.1 s w.check_token-one.ensures ∙ ap outcome_of w.in_default.is),
-          )
-      | else-starts_token w ↦ (
-        omega arith,
-        omega (arith, w.k-is, c.loop-i.invariant.1, before-other text i (sym c.starts_token.ensures ∙ w.if-starts_token.false)),
-        ap (λ (n : ℕ). first_of n (sample_outcome text)) w.k-is ∙ c.loop-i.invariant.2,
-      )
-    ]
+    let i = c.loop-k.invariant in
+    let k = c.loop-k.k-iterator.count in
+    let s = c.in-Some.ensures.steps in
+    let t = turn text k i.3 s.0 in (
+      c.in-Some.ensures.goes.keeps,
+      tt,
+      omega (arith, s.2, t.counted),
+      t.left ∙ ap (λ (n : ℕ). drop n (tokens_from text 0)) (sym s.2),
+      ap (λ (n : ℕ). first_of n (sample_outcome text)) s.2
+          ∙ first_of-more k (sample_outcome text) i.4 (sym (tested text k t.here s.1) ∙ sym c.in_ok-check_token.ensures),
+    )
+
+pub returns-in_err-check_token : goal.returns-in_err-check_token
+returns-in_err-check_token c =
+    let text = c.args.text.now in
+    let i = c.loop-k.invariant in
+    let k = c.loop-k.k-iterator.count in
+    let s = c.in-Some.ensures.steps in
+    let t = turn text k i.3 s.0 in
+    handed_on _ _ c.from_residual.ensures
+    ∙ sym (first_of-stops _ k (sample_outcome text) _ _ t.counted i.4
+    (sym (tested text k t.here s.1) ∙ sym c.in_err-check_token.ensures))
 
 pub returns : goal.returns
 returns c =
     let text = c.args.text.now in
-    sym (ap (λ (n : ℕ). first_of n (sample_outcome text)) (sym (c.loop-i.invariant.1 ∙ before-all text c.loop-i.i (omega arith)))
-    ∙ c.loop-i.invariant.2)
-
-pub starts_token-requires : goal.starts_token-requires
-starts_token-requires c = omega arith
-
-pub check_token-one-requires : goal.check_token-one-requires
-check_token-one-requires c = omega arith
-
-pub overflow_add-i : goal.overflow_add-i
-overflow_add-i c = omega arith
-
-pub loop-i-smaller : goal.loop-i-smaller
-loop-i-smaller c = omega arith
+    let i = c.loop-k.invariant in
+    let l = ended text c.loop-k.k-iterator.count i.3 c.in-None.ensures.steps.0.0 in
+    sym (ap (λ (n : ℕ). first_of n (sample_outcome text)) (omega arith) ∙ i.4)

@@ -18,7 +18,7 @@ digits_kept-requires c =
     let t = c.args.token.now in
     omega (
       arith,
-      ap length (c.digits_of-whole.ensures ∙ ap digits c.skipped-number.ensures),
+      ap length (c.split_digits.ensures.0 ∙ ap digits c.skipped.ensures),
       (leading-front is_digit (skip 45 45 t)).0,
       skip-short 45 45 t,
     )
@@ -27,13 +27,13 @@ pub returns : goal.returns
 returns c =
     let token = c.args.token.now in
     -- the digits of int
-    let int = c.digits_of-whole.ensures ∙ ap digits c.skipped-number.ensures in
-    let part = c.skipped-part.ensures ∙ ap (skip 46 46) (c.after_digits.ensures ∙ ap after_digits c.skipped-number.ensures) in
-    let fraction = c.digits_of-fraction.ensures ∙ ap digits part in
-    let rest = c.after_digits-2.ensures ∙ ap after_digits part in
+    let int = c.split_digits.ensures.0 ∙ ap digits c.skipped.ensures in
+    let part = c.skipped-2.ensures ∙ ap (skip 46 46) (c.split_digits.ensures.1 ∙ ap after_digits c.skipped.ensures) in
+    let fraction = c.split_digits-2.ensures.0 ∙ ap digits part in
+    let rest = c.split_digits-2.ensures.1 ∙ ap after_digits part in
     let left = c.digits_kept.ensures ∙ ap₂ (λ (w x : List ℕ). kept_of (length w) x) int rest in
-    measured token c.requires c.add_digits.result
-    (c.add_digits.ensures.0
+    measured token c.requires c.add_digits-3.result
+    (c.add_digits-3.ensures
     ∙ ap (λ (x : Sum). add_digits x zeros)
-    (c.add_digits-all.ensures.0
-    ∙ ap₂ add_digits (c.add_digits-int.ensures.0 ∙ ap₂ (λ (j : ℕ) (w : List ℕ). add_digits (sum 0 j true) w) left int) fraction))
+    (c.add_digits-2.ensures
+    ∙ ap₂ add_digits (c.add_digits.ensures ∙ ap₂ add_digits (c.of.ensures ∙ ap (λ (j : ℕ). sum 0 j true) left) int) fraction))

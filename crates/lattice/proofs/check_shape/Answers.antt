@@ -1,16 +1,12 @@
--- `lattice::check_shape` meets its contract: 1, then the tests of the table.
-use mathlib.Core.Path.{sym, ap, ◌∙◌}
-use Rattle.lattice.specs.Answers.{outcome_of}
+-- `lattice::check_shape` meets its contract: 1, then 2 and 3.
 use Rattle.lattice.specs.Shape.{shape_outcome}
-use Rattle.lattice.proofs.OutcomeLaws.{first-passed, refused-first}
+use Rattle.lattice.proofs.OutcomeLaws.{stopped, went-on}
 use Rattle.lattice.proofs.check_shape.Goals as goal
 
-pub returns-in-Refused : goal.returns-in-Refused
+pub returns-in_err-check_axes : goal.returns-in_err-check_axes
 unfolding shape_outcome
-returns-in-Refused c = let g = ap outcome_of c.in-Refused.is in g ∙ sym (refused-first _ (sym c.check_axes-axes.ensures ∙ g))
+returns-in_err-check_axes c = stopped _ _ _ _ c.from_residual.ensures c.in_err-check_axes.ensures
 
 pub returns : goal.returns
 unfolding shape_outcome
-returns c =
-    let d = c.before in
-    c.check_table.ensures ∙ sym (first-passed _ _ (sym d.check_axes-axes.ensures ∙ ap outcome_of d.in_default.is))
+returns c = went-on _ _ _ c.in_ok-check_axes.ensures c.check_table.ensures

@@ -1,18 +1,11 @@
--- `lattice::check_step_numbers` meets its contract: the tests of three axes, of which the first refusal stands.
-use mathlib.Core.List.{[], ◌∷◌}
-use Prim.Native.Nat.{ℕ}
-use lib.ListN.{get_or}
-use Rattle.lattice.specs.Shape.{steps_allowed, step_numbers_outcome}
-use Rattle.lattice.proofs.OutcomeLaws.{scanned}
+-- `lattice::check_step_numbers` meets its contract: the tests of three axes.
+use Rattle.lattice.specs.Shape.{step_numbers_outcome, steps_allowed}
+use Rattle.lattice.proofs.OutcomeLaws.{axis-by-axis}
 use Rattle.lattice.proofs.check_step_numbers.Goals as goal
+use mathlib.Core.Path.{◌∙◌}
+use lib.ListN.{get_or}
 
 pub returns : goal.returns
 unfolding step_numbers_outcome
-returns c =
-    let z = c.before in
-    let y = z.before.before in
-    let x = y.before.before in
-    let a = x.args in
-    scanned 26 (λ (i : ℕ). steps_allowed a.n (get_or (a.x ∷ a.y ∷ a.z ∷ []) i 0) i) x.steps_allowed.ensures
-    y.steps_allowed-2.ensures z.steps_allowed-3.ensures
-    y.refuse_unless-on_x.ensures z.refuse_after-on_y.ensures c.refuse_after.ensures
+returns c = c.check_on_axes.ensures ∙ axis-by-axis 26 _ (λ a. steps_allowed c.args.n (get_or c.args.steps a 0) a)
+    c.steps_allowed-on_x.ensures c.steps_allowed-on_y.ensures c.steps_allowed-on_z.ensures

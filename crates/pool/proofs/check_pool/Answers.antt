@@ -1,40 +1,81 @@
--- `check_pool` meets its contract: the refusals in three groups, each after the one before.
-use mathlib.Core.Path.{sym, ap, ap₂, ◌∙◌}
-use Rattle.lattice.specs.Answers.{outcome_of}
-use Rattle.lattice.specs.Outcome.{first}
-use Rattle.lattice.proofs.OutcomeLaws.{first-passed, refused-first}
-use Rattle.pool.specs.Pool.{measured}
-use Rattle.pool.proofs.GateLaws.{pool-is, pair-shaped}
+-- `check_pool` meets its contract: the refusals in their order.
+use Rattle.std.proofs.Common.{rules}
+use Rattle.lattice.specs.Records.{sample_limit, limit_outcome}
+use Rattle.lattice.proofs.OutcomeLaws.{stopped, went-on}
+use Rattle.pool.specs.Pool.{measurement_of, length_outcome, pool_outcome}
+use Rattle.pool.proofs.GateLaws.{shapes-pass}
 use Rattle.pool.proofs.check_pool.Goals as goal
+use mathlib.Core.Path.{◌≡◌, ap, sym, ◌∙◌}
+use mathlib.Core.Bool.{Bool}
+use Prim.Native.Nat.{ℕ}
+use lib.Dec.{leb}
+use Rattle.lattice.specs.Outcome.{refuse_unless}
 
-pub returns-in-Refused : goal.returns-in-Refused
-returns-in-Refused c =
-    let a = c.args in
-    let one = measured a.a a.xs.now a.v in
-    let other = measured a.b a.ys.now a.w in
-    let g = ap outcome_of c.in-Refused.is in
-    g ∙ sym (refused-first _ (sym c.check_pair-pair.ensures ∙ g)) ∙ pool-is one other a.room
+-- what is tested, for the test's answer
+same : {p q : Bool} → p ≡ q → refuse_unless p 27 0 ≡ refuse_unless q 27 0
+same e = ap (λ (t : Bool). refuse_unless t 27 0) e
 
-pub check_lengths-lengths-requires : goal.check_lengths-lengths-requires
-check_lengths-lengths-requires c =
-    let a = c.args in
-    pair-shaped (measured a.a a.xs.now a.v) (measured a.b a.ys.now a.w) a.room
-    (sym c.check_pair-pair.ensures ∙ ap outcome_of c.in_default.is)
+weighed : {p q : Bool} → p ≡ q → refuse_unless p 28 0 ≡ refuse_unless q 28 0
+weighed e = ap (λ (t : Bool). refuse_unless t 28 0) e
 
-pub returns-in-Refused-lengths : goal.returns-in-Refused-lengths
-returns-in-Refused-lengths c =
-    let a = c.args in
-    let one = measured a.a a.xs.now a.v in
-    let other = measured a.b a.ys.now a.w in
-    let g = ap outcome_of c.in-Refused-lengths.is in
-    g ∙ sym (refused-first _ (sym c.check_lengths-lengths.ensures ∙ g))
-    ∙ sym (first-passed _ _ (sym c.check_pair-pair.ensures ∙ ap outcome_of c.in_default.is)) ∙ pool-is one other a.room
+roomy : (room : ℕ) {n k : ℕ} → n ≡ k → refuse_unless (leb n room) 9 0 ≡ refuse_unless (leb k room) 9 0
+roomy room e = ap (λ (n : ℕ). refuse_unless (leb n room) 9 0) e
+
+pub returns-in_err-check_shapes : goal.returns-in_err-check_shapes
+unfolding pool_outcome
+returns-in_err-check_shapes c = stopped _ _ _ _ c.from_residual.ensures c.in_err-check_shapes.ensures
+
+pub returns-in_err-refuse_unless : goal.returns-in_err-refuse_unless
+unfolding pool_outcome
+returns-in_err-refuse_unless c =
+    went-on _ _ _ c.in_ok-check_shapes.ensures
+    (stopped _ _ _ _ c.from_residual-in_err-refuse_unless.ensures (c.in_err-refuse_unless.ensures ∙ same c.same_shape.ensures))
+
+pub returns-in_err-refuse_unless-2 : goal.returns-in_err-refuse_unless-2
+unfolding pool_outcome
+returns-in_err-refuse_unless-2 c =
+    went-on _ _ _ c.in_ok-check_shapes.ensures
+    (went-on _ _ _ (c.in_ok-refuse_unless.ensures ∙ same c.same_shape.ensures)
+    (stopped _ _ _ _ c.from_residual-in_err-refuse_unless-2.ensures (c.in_err-refuse_unless-2.ensures ∙ weighed c.weights_allowed.ensures)))
+
+pub in_turn-requires : goal.in_turn-requires
+in_turn-requires c = let s = shapes-pass c.args.a.shape c.args.b.shape (sym c.in_ok-check_shapes.ensures) in search rules
+
+pub node_count-nodes-requires : goal.node_count-nodes-requires
+node_count-nodes-requires c = (shapes-pass c.args.a.shape c.args.b.shape (sym c.in_ok-check_shapes.ensures)).0
+
+pub returns-in_err-in_turn : goal.returns-in_err-in_turn
+unfolding pool_outcome
+returns-in_err-in_turn c =
+    let a = measurement_of c.args.a in
+    let b = measurement_of c.args.b in
+    went-on _ _ _ c.in_ok-check_shapes.ensures
+    (went-on _ _ _ (c.in_ok-refuse_unless.ensures ∙ same c.same_shape.ensures)
+    (went-on _ _ _ (c.in_ok-refuse_unless-2.ensures ∙ weighed c.weights_allowed.ensures)
+    (stopped _ _ _ _ c.from_residual-in_err-in_turn.ensures
+    (c.in_err-in_turn.ensures (length_outcome a) (length_outcome b) (λ r h. search rules) (λ r h. search rules)))))
+
+pub returns-in_err-refuse_unless-3 : goal.returns-in_err-refuse_unless-3
+unfolding pool_outcome
+returns-in_err-refuse_unless-3 c =
+    let a = measurement_of c.args.a in
+    let b = measurement_of c.args.b in
+    went-on _ _ _ c.in_ok-check_shapes.ensures
+    (went-on _ _ _ (c.in_ok-refuse_unless.ensures ∙ same c.same_shape.ensures)
+    (went-on _ _ _ (c.in_ok-refuse_unless-2.ensures ∙ weighed c.weights_allowed.ensures)
+    (went-on _ _ _ (c.in_ok-in_turn.ensures (length_outcome a) (length_outcome b) (λ r h. search rules) (λ r h. search rules))
+    (stopped _ _ _ _ c.from_residual-in_err-refuse_unless-3.ensures (c.in_err-refuse_unless-3.ensures
+    ∙ roomy c.args.room c.node_count-nodes.ensures)))))
 
 pub returns : goal.returns
+unfolding pool_outcome
 returns c =
-    let a = c.args in
-    let one = measured a.a a.xs.now a.v in
-    let other = measured a.b a.ys.now a.w in
-    c.earlier.ensures ∙ ap₂ first c.check_limit.ensures c.check_limit-2.ensures
-    ∙ sym (first-passed _ _ (sym c.check_lengths-lengths.ensures ∙ ap outcome_of c.in_default-lengths.is))
-    ∙ sym (first-passed _ _ (sym c.check_pair-pair.ensures ∙ ap outcome_of c.in_default.is)) ∙ pool-is one other a.room
+    let a = measurement_of c.args.a in
+    let b = measurement_of c.args.b in
+    went-on _ _ _ c.in_ok-check_shapes.ensures
+    (went-on _ _ _ (c.in_ok-refuse_unless.ensures ∙ same c.same_shape.ensures)
+    (went-on _ _ _ (c.in_ok-refuse_unless-2.ensures ∙ weighed c.weights_allowed.ensures)
+    (went-on _ _ _ (c.in_ok-in_turn.ensures (length_outcome a) (length_outcome b) (λ r h. search rules) (λ r h. search rules))
+    (went-on _ _ _ (c.in_ok-refuse_unless-3.ensures ∙ roomy c.args.room c.node_count-nodes.ensures)
+    (c.in_turn-2.ensures (limit_outcome 5 sample_limit a.samples) (limit_outcome 5 sample_limit b.samples) (λ r h. search rules)
+    (λ r h. search rules))))))

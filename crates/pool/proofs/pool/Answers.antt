@@ -1,50 +1,33 @@
 -- `pool` meets its contract: where the gate passes, its facts are what the body asks for; where it refuses, nothing is written.
-use mathlib.Core.Path.{◌≡◌, sym, ap, ◌∙◌}
+use mathlib.Core.Path.{sym, ap, ◌∙◌}
 use Prim.Native.Nat.{ℕ}
 use lib.ListN.{length}
-use Rattle.lattice.specs.Answers.{outcome_of}
-use Rattle.lattice.specs.Outcome.{done}
 use Rattle.lattice.specs.Buffer.{tabulate, overwrite}
-use Rattle.lattice.proofs.OutcomeLaws.{when-done, when-refused}
-use Rattle.pool.specs.Pool.{Measurement, measured, pool_outcome, pooled_at, pooled_samples, pool_writes}
+use Rattle.lattice.proofs.OutcomeLaws.{at_once, when-done, when-refused}
+use Rattle.pool.specs.Pool.{measurement_of, pooled_at, pooled_samples, pool_writes}
 use Rattle.pool.proofs.GateLaws.{pool-length, poolable}
 use Rattle.pool.proofs.pool.Goals as goal
-use Rattle.pool.proofs.pool.Goals.{In-Done, Start}
 
--- the two lattices
-abbrev one : Start → Measurement
-one s = measured s.args.a s.args.xs.now s.args.v
-
-abbrev other : Start → Measurement
-other s = measured s.args.b s.args.ys.now s.args.w
-
-passes : (c : In-Done)
-    → let s = c.before.before in
-    pool_outcome (one s) (other s) (length s.args.out.now) ≡ done tt
-passes c = sym c.check_pool-answer.ensures ∙ ap outcome_of c.in-Done.is
+pub returns-in_err-check_pool : goal.returns-in_err-check_pool
+unfolding pool_writes
+returns-in_err-check_pool c = record {
+  answer = at_once _ _ _ c.from_residual.ensures c.in_err-check_pool.ensures;
+  written = when-refused _ c.args.out.now (sym c.in_err-check_pool.ensures);
+}
 
 pub fill-requires : goal.fill-requires
-fill-requires c =
-    let s = c.before.before.before in
-    poolable (one s) (other s) (length s.args.out.now) (passes c.before)
+fill-requires c = poolable (measurement_of c.args.a) (measurement_of c.args.b) (length c.args.out.now) (sym c.in_ok-check_pool.ensures)
 
-pub returns-in-Done : goal.returns-in-Done
+pub returns : goal.returns
 unfolding pool_writes pooled_samples
-returns-in-Done c =
-    let f = c.before in
-    let t = f.before.before in
-    let s = t.before.before in
-    let old = s.args.out.now in record {
-      answer = t.check_pool-answer.ensures;
-      written = f.fill.ensures
-          ∙ ap (λ (k : ℕ). overwrite (tabulate k (pooled_at s.args.xs.now s.args.v s.args.ys.now s.args.w)) old)
-          (pool-length (one s) (other s) (length old) (passes t))
-          ∙ when-done _ old (passes t);
+returns c =
+    let a = measurement_of c.args.a in
+    let b = measurement_of c.args.b in
+    let old = c.args.out.now in
+    let passes = sym c.in_ok-check_pool.ensures in record {
+      answer = c.in_ok-check_pool.ensures;
+      written = c.fill.ensures
+          ∙ ap (λ (k : ℕ). overwrite (tabulate k (pooled_at a.samples a.weight b.samples b.weight)) old) (pool-length a b
+          (length old) passes)
+          ∙ when-done _ old passes;
     }
-
-pub returns-in_default : goal.returns-in_default
-unfolding pool_writes
-returns-in_default c =
-    let d = c.before in
-    let e = d.check_pool-answer.ensures in
-    record { answer = e; written = when-refused _ d.args.out.now (sym e ∙ ap outcome_of c.in_default.is) }

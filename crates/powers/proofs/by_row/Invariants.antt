@@ -1,13 +1,10 @@
--- `powers::by_row` meets its contract. The invariant: the sum of the first k products.
+-- `powers::by_row` meets its contract. The invariant: the sum of the first products.
 use mathlib.Core.Path.{◌≡◌}
-use Prim.Native.Nat.{◌+◌, ◌*◌, ◌-◌, ◌≤◌}
 use lib.IntN.{◌*ℤ◌}
+use lib.ListN.{length}
 use Rattle.arith.specs.Sum.{sum}
 use Rattle.lattice.specs.Buffer.{at}
 use Rattle.powers.proofs.by_row.Given as goal
 
-abbrev pub invariant-loop-k : goal.invariant-loop-k
-invariant-loop-k l = (l.k ≤ 16) × (l.sum ≡ sum l.k (λ K. at l.matrix (16 * l.r + K) *ℤ at l.xs K))
-
-abbrev pub decreases-loop-k : goal.decreases-loop-k
-decreases-loop-k l = 16 - l.k
+abbrev pub invariant-loop-a : goal.invariant-loop-a
+invariant-loop-a l = l.sum ≡ sum (length l.yielded) (λ K. at l.row K *ℤ at l.xs K)

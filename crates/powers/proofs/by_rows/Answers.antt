@@ -1,59 +1,49 @@
 -- `powers::by_rows` meets its contract: the slice is filled from the front, row by row.
-use mathlib.Core.Path.{◌≡◌, subst, ◌∙◌}
-use Prim.Native.Nat.{ℕ, zero-le}
+use mathlib.Core.Path.{◌≡◌, ap, ◌∙◌}
+use mathlib.Core.List.{List}
+use Prim.Native.Nat.{ℕ, ◌+◌, ◌-◌, ◌*◌, ◌<◌}
 use native.Mathlib.Omega.{arith}
-use lib.IntN.{pos}
+use lib.IntN.{ℤ, pos, nat_abs, ◌*ℤ◌}
+use lib.ListN.{length, take, drop}
 use mir.Facts.{to_z-of_z}
 use mir.Syntax.{w32}
 use borrow.Author.Rules.{sfits_of}
-use Rattle.lattice.proofs.BufferLaws.{Filled, filled_none, filled_more, filled-length, filled-all}
-use Rattle.powers.specs.Parts.{row_sum}
+use Rattle.std.proofs.lemmas.List.{get_or-take, get_or-drop, length-take, length-drop}
+use Rattle.arith.proofs.Sums.{sum-ext, total_ext}
+use Rattle.lattice.specs.Buffer.{at}
+use Rattle.lattice.proofs.BufferLaws.{filled_none, filled_more}
+use Rattle.powers.specs.Parts.{row_sum, row_load}
 use Rattle.powers.proofs.by_rows.Goals as goal
 
-pub by_row-requires : goal.by_row-requires
-by_row-requires c = (c.loop-r-test.true, c.requires.1 c.loop-r.r c.loop-r-test.true)
+-- number k of a row
+row-at : (m : List ℤ) (r k : ℕ) → k < 16 → at (take (16 * r + 16 - 16 * r) (drop (16 * r) m)) k ≡ at m (16 * r + k)
+row-at m r k l = get_or-take (16 * r + 16 - 16 * r) (drop (16 * r) m) k (pos 0) (omega arith) ∙ get_or-drop (16 * r) m k (pos 0)
 
-pub bounds-out-r : goal.bounds-out-r
-bounds-out-r c =
-    let a = c.args in
-    let w = c.loop-r in
-    let h = c.requires.0 in
-    let e = filled-length (row_sum a.matrix.now a.xs.now) a.out.now w.r w.out (omega arith) w.invariant.1 in
-    omega arith
+pub loop-r-init : goal.loop-r-init
+loop-r-init c = filled_none (row_sum c.args.matrix.now c.args.xs.now) c.args.out.now
+
+-- a row of the matrix
+row-long : (m : List ℤ) (r : ℕ) → length m ≡ 256 → r < 16 → length (take (16 * r + 16 - 16 * r) (drop (16 * r) m)) ≡ 16
+row-long m r e l = omega (arith, length-take {A = ℤ}, length-drop {A = ℤ})
+
+pub by_row-requires : goal.by_row-requires
+unfolding row_load
+by_row-requires c =
+    let m = c.args.matrix.now in
+    let r = c.loop-r.r in (
+      row-long m r (omega arith) c.loop-r-test.true,
+      rw (total_ext 16 _ (λ K. nat_abs (at m (16 * r + K)) * nat_abs (at c.args.xs.now K))
+          (λ K l. ap (λ z. nat_abs z * nat_abs (at c.args.xs.now K)) (row-at m r K l)))
+          (c.requires.1 r c.loop-r-test.true),
+    )
 
 pub loop-r-preserved : goal.loop-r-preserved
+unfolding row_sum
 loop-r-preserved c =
     let a = c.args in
     let w = c.loop-r in
-    let h = c.requires.0 in (
-      omega arith,
-      filled_more (row_sum a.matrix.now a.xs.now) a.out.now w.r w.out _ (pos 0) (omega arith) w.invariant.1
-          (to_z-of_z {w = w32} (sfits_of c.by_row.type_inv) ∙ c.by_row.ensures),
-    )
-
-pub shape_of-out : goal.shape_of-out
-shape_of-out c =
-    let a = c.args in
-    let w = c.loop-r in
     let h = c.requires.0 in
-    filled-length (row_sum a.matrix.now a.xs.now) a.out.now w.r w.out (omega arith) w.invariant.1
-
-pub returns : goal.returns
-returns c =
-    let s = c.args in
-    let w = c.loop-r in
-    let e : w.r ≡ 16 = omega arith in
-    filled-all (row_sum s.matrix.now s.xs.now) s.out.now 16 w.out
-    (subst (λ (r : ℕ). Filled (row_sum s.matrix.now s.xs.now) s.out.now r w.out) e w.invariant.1)
-
-pub loop-r-init : goal.loop-r-init
-loop-r-init c = (zero-le, filled_none (row_sum c.args.matrix.now c.args.xs.now) c.args.out.now)
-
-pub offset_bounds-out-r : goal.offset_bounds-out-r
-offset_bounds-out-r c = omega arith
-
-pub overflow_add-r : goal.overflow_add-r
-overflow_add-r c = omega arith
-
-pub loop-r-smaller : goal.loop-r-smaller
-loop-r-smaller c = omega arith
+    filled_more (row_sum a.matrix.now a.xs.now) a.out.now w.r w.out _ (pos 0) (omega arith) w.invariant
+    (to_z-of_z {w = w32} (sfits_of c.by_row.type_inv) ∙ c.by_row.ensures
+    ∙ sum-ext 16 _ (λ K. at a.matrix.now (16 * w.r + K) *ℤ at a.xs.now K)
+    (λ K l. ap (λ z. z *ℤ at a.xs.now K) (row-at a.matrix.now w.r K l)))

@@ -9,10 +9,7 @@ use Rattle.query.proofs.check_by_axes.Goals as goal
 
 pub returns : goal.returns
 unfolding asked_outcome tested_outcome full_outcome shape_outcome
-returns c =
-    let d = c in
-    let b = d in
-    λ even rs e. c.refuse_unless.ensures
+returns c = λ even rs e. c.refuse_unless.ensures
     ∙ sym (refused-first _ (refused-first _
     (refused-first _ (refused-first _
-    (no-axes b.args.s.axes (omega (arith, d.if-n-eq1.false, d.if-n-eq2.false, d.if-n-eq3.false)))))))
+    (no-axes c.args.s.axes (omega (arith, c.if-n-eq1.false, c.if-n-eq2.false, c.if-n-eq3.false)))))))

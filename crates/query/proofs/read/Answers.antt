@@ -1,137 +1,78 @@
--- `query::read` meets its contract: the tests, and then what is read of the cell.
-use mathlib.Core.Path.{◌≡◌, refl, sym, ap, ◌∙◌}
-use mathlib.Core.Bool.{true, false}
+-- `query::read` meets its contract: the numbers of steps are themselves or scaled.
+use mathlib.Core.Path.{◌≡◌, sym, ap, subst, ◌∙◌}
+use mathlib.Core.Bool.{true}
 use mathlib.Core.List.{List, [], ◌∷◌}
-use Prim.Native.Nat.{ℕ, ◌≤◌}
+use Prim.Native.Nat.{ℕ}
 use native.Mathlib.Omega.{arith}
-use lib.IntN.{ℤ}
-use lib.ListN.{length}
-use lib.Seq.{take-length}
-use Rattle.arith.proofs.Choices.{clash}
+use lib.ListN.{get_or}
+use Rattle.arith.proofs.Choices.{by-3, clash}
+use Rattle.std.specs.Prelude.{Ok, Err, IsErr}
+use Rattle.std.specs.Result.{IsErrAnd}
 use Rattle.lattice.specs.declared.FullShape.{FullShape}
-use Rattle.lattice.specs.Answers.{outcome_of}
-use Rattle.lattice.specs.Axes.{Place}
-use Rattle.lattice.specs.Outcome.{done, refused}
+use Rattle.lattice.specs.declared.refusal.Refusal.{Refusal}
+use Rattle.lattice.specs.Answers.{number_of}
+use Rattle.lattice.specs.Outcome.{refused, passed}
 use Rattle.cell.specs.Cell.{place_at}
-use Rattle.evaluate.specs.Evaluate.{Want}
 use Rattle.evaluate.specs.Wants.{wanted}
-use Rattle.query.specs.declared.Reading.{Reading}
-use Rattle.query.specs.declared.Reading.TheVariants.{Refused}
-use Rattle.query.specs.Answers.{outcome_of_reading, Marks}
-use Rattle.query.specs.Parts.{renumbered, number_by, finest, Stand}
-use Rattle.query.specs.Queries.{tested_outcome, reading, by_cell, position_at, by_position, cell_mark, position_mark}
-use Rattle.query.proofs.QueryLaws.{lent, lent-long, near, by-cell-reads, by-cell-stops}
-use Rattle.query.proofs.Renumbered.{kept-reading, number-keeps}
-use Rattle.query.proofs.Locate.{spot-told}
+use Rattle.query.specs.Answers.{Reading, outcome_of_reading}
+use Rattle.query.specs.Parts.{scaled, Finest}
+use Rattle.query.specs.Queries.{position_at}
+use Rattle.query.proofs.CoarseCalls.{itself, in-cell-told, position-told, by-cell-stopped, by-position-stopped}
 use Rattle.query.proofs.read.Goals as goal
-use Rattle.query.proofs.read.Goals.{After-spot_of-p, Else-s-eq1, In-Done, Start}
+use Rattle.query.proofs.read.Goals.{then-is_finest, else-is_finest+in_ok-step}
 
--- the query as the tests have it
-module _ (c : After-spot_of-p) where
-  abbrev b : Start
-  b = c.before.before.before.before
+-- what is handed on of a refusal
+refused_on : (r : Reading) (e : Refusal) → IsErr r × IsErrAnd r (λ x. x ≡ e)
+    → outcome_of_reading r ≡ refused (number_of e.reason) e.place
+refused_on (Ok a) e h = let f = h.0 in cc
+refused_on (Err x) e h = ap (λ (y : Refusal). refused (number_of y.reason) y.place) h.1
 
-  abbrev t : FullShape
-  t = finest b.args.t.shape b.args.t.second_edition
+unmarked : {A : Type 0} (r : Reading) {n p : ℕ} → outcome_of_reading r ≡ refused n p → passed (outcome_of_reading r) ≡ true → A
+unmarked r e given = let f = ap passed e in clash (cc)
 
-  abbrev want : Want
-  want = wanted b.args.q.derivative
+pub returns-in_err-step : goal.returns-in_err-step
+returns-in_err-step c =
+    let a = c.args in
+    let stops = refused_on c.from_residual.result _ c.from_residual.ensures in
+    record {
+      by_cell = λ g. (
+        stops ∙ sym (by-cell-stopped a.t a.records.now (wanted a.q.derivative) c.in_err-step.ensures (place_at a.q.cell)
+            (place_at a.q.step)),
+        λ given. unmarked c.from_residual.result stops given,
+      );
+      by_position = λ g p st. (
+        stops ∙ sym (by-position-stopped a.t a.records.now (wanted a.q.derivative) c.in_err-step.ensures (position_at p)),
+        λ given. unmarked c.from_residual.result stops given,
+      );
+    }
 
-  abbrev rs : List ℤ
-  rs = b.args.records.now
+-- and are the same taken one by one
+one_by_one : (t : FullShape) (xs ys : List ℕ) → Finest t xs ys → Finest t xs (get_or ys 0 0 ∷ get_or ys 1 0 ∷ get_or ys 2 0 ∷ [])
+one_by_one t xs ys f = record {
+  same = f.same;
+  factor = f.factor;
+  small = f.small;
+  each = by-3 (λ a. get_or (get_or ys 0 0 ∷ get_or ys 1 0 ∷ get_or ys 2 0 ∷ []) a 0 ≡ scaled (f.factor a) (get_or xs a 0))
+      (f.each 0 (omega arith)) (f.each 1 (omega arith)) (f.each 2 (omega arith));
+  right = f.right;
+}
 
-  abbrev cell : Place
-  cell = place_at (c.spot_of-p.result.i ∷ c.spot_of-p.result.j ∷ c.spot_of-p.result.k ∷ [])
-
-  abbrev step : Place
-  step = place_at (c.spot_of-p.result.u ∷ c.spot_of-p.result.v ∷ c.spot_of-p.result.w ∷ [])
-
-  abbrev number : ℕ → ℕ → ℕ
-  number = number_by b.args.cellwise cell step
-
-  -- what is told of the cell and step is told of the query
-  told : (r : Reading) → (outcome_of_reading r ≡ renumbered number (by_cell t rs want cell step)) × Marks r (cell_mark t rs want cell step)
-      → (b.args.cellwise ≡ true → (outcome_of_reading r ≡ by_cell t rs want (place_at b.args.q.cell) (place_at b.args.q.step))
-      × Marks r (cell_mark t rs want (place_at b.args.q.cell) (place_at b.args.q.step)))
-      × (b.args.cellwise ≡ false → (p : List ℤ) → Stand p b.args.q.step → (outcome_of_reading r ≡ by_position t rs want (position_at p))
-      × Marks r (position_mark t rs want (position_at p)))
-  told r h = spot-told b.args.cellwise b.args.t.shape b.args.t.second_edition rs want b.args.q.cell b.args.q.step
-      c.spot_of-p.result.i c.spot_of-p.result.u c.spot_of-p.result.j c.spot_of-p.result.v c.spot_of-p.result.k
-      c.spot_of-p.result.w c.spot_of-p.ensures.i_value c.spot_of-p.ensures.i_value_2 r h
-
--- not refused before 5
-module _ (c : In-Done) where
-  abbrev sp : After-spot_of-p
-  sp = c.before.before
-
-  passes : (rs : List ℤ) → length rs ≡ length (b sp).args.records.now → tested_outcome (t sp) rs (want sp) (cell sp) (step sp) ≡ done tt
-  passes rs e = sym (c.check_by_axes-tested.ensures (b sp).args.t.second_edition rs e)
-      ∙ ap outcome_of c.in-Done.is
-
-  -- what is read of the slice made anew
-  gives : reading (t sp) (lent (rs sp)) (want sp) (cell sp) (step sp)
-      ≡ renumbered (number sp) (by_cell (t sp) (rs sp) (want sp) (cell sp) (step sp))
-  gives = rw (take-length (rs sp))
-      (sym (ap (renumbered (number sp)) (by-cell-reads (t sp) (rs sp) (want sp) _ _ (passes (rs sp) refl))
-      ∙ kept-reading (number sp) (number-keeps _ _ (b sp).args.cellwise) (t sp) (rs sp) (want sp) _ _))
-
-  -- and its mark
-  told-by : (r : Reading)
-      → (outcome_of_reading r ≡ reading (t sp) (lent (rs sp)) (want sp) (cell sp) (step sp))
-      × Marks r (cell_mark (t sp) (lent (rs sp)) (want sp) (cell sp) (step sp))
-      → (outcome_of_reading r ≡ renumbered (number sp) (by_cell (t sp) (rs sp) (want sp) (cell sp) (step sp)))
-      × Marks r (cell_mark (t sp) (rs sp) (want sp) (cell sp) (step sp))
-  told-by r h = (
-    h.0 ∙ gives,
-    λ given. h.1 given ∙ ap (λ (rs : List ℤ). cell_mark (t sp) rs (want sp) (cell sp) (step sp)) (take-length (rs sp)),
-  )
-
-never : {A : Type 0} → false ≡ true → A
-never e = clash (cc)
-
-pub returns-in-Refused : goal.returns-in-Refused
-returns-in-Refused c =
-    let k = c in
-    let d = k in
-    let s = d.before.before.before in let both = told s (Refused (record { number = c.number_by.result; place = k.in-Refused.r.place })) (
-      ap (λ (n : ℕ). refused n k.in-Refused.r.place) c.number_by.ensures
-          ∙ sym (ap (renumbered (number s)) (by-cell-stops (t s) (rs s) (want s) (cell s) (step s)
-          (sym (d.check_by_axes-tested.ensures (b s).args.t.second_edition (rs s) refl) ∙ ap outcome_of k.in-Refused.is))),
-      λ given. never given,
-    ) in
-    record { result_value = both.0; result_value_2 = both.1 }
-
--- more than one axis
-two : (c : Else-s-eq1) → 2 ≤ (b (sp c.before.before)).args.t.shape.axes
-two c =
-    let d = c.before.before in
-    let s = sp d in
-    let h = (near (t s) (rs s) (want s) (s.spot_of-p.result.i ∷ s.spot_of-p.result.j ∷ s.spot_of-p.result.k ∷ []) (step s)
-    (passes d (rs s) refl)).shape.axes-low in
-    omega (arith, c.if-s-eq1.false)
-
-pub slice_bounds-read_line-end : goal.slice_bounds-read_line-end
-slice_bounds-read_line-end c = sym (lent-long (rs (sp c.before.before)))
-
-pub read_line-requires : goal.read_line-requires
-read_line-requires c = let d = c.before.before in
-    record { step_value = passes d (lent (rs (sp d))) (lent-long (rs (sp d))); axes_value = c.if-s-eq1.true }
-
-pub returns-then-s-eq1 : goal.returns-then-s-eq1
-returns-then-s-eq1 c =
-    let d = c.before.before.before in let both = told (sp d) c.read_line.result
-    (told-by d c.read_line.result (c.read_line.ensures.result_value, c.read_line.ensures.marks)) in
-    record { result_value = both.0; result_value_2 = both.1 }
-
-pub slice_bounds-read_lattice-end : goal.slice_bounds-read_lattice-end
-slice_bounds-read_lattice-end c = sym (lent-long (rs (sp c.before.before)))
-
-pub read_lattice-requires : goal.read_lattice-requires
-read_lattice-requires c = let d = c.before.before in
-    record { step_value = passes d (lent (rs (sp d))) (lent-long (rs (sp d))); le_axes = two c }
-
-pub returns-else-s-eq1 : goal.returns-else-s-eq1
-returns-else-s-eq1 c =
-    let d = c.before.before.before in let both = told (sp d) c.read_lattice.result
-    (told-by d c.read_lattice.result (c.read_lattice.ensures.result_value, c.read_lattice.ensures.marks)) in
-    record { result_value = both.0; result_value_2 = both.1 }
+pub returns : goal.returns
+returns c =
+    let a = c.args in
+    let xs = a.q.step in
+    let step = c.if-is_finest.step in
+    let ys = get_or step 0 0 ∷ get_or step 1 0 ∷ get_or step 2 0 ∷ [] in
+    let fine : Finest a.t xs ys =
+    one_by_one a.t xs step (
+    elim c.if-is_finest.branch [
+      | then-is_finest w ↦ itself a.t (c.is_finest.ensures w.if-is_finest.true) xs step
+          (λ b l. ap (λ (zs : List ℕ). get_or zs b 0) w.step-is)
+      | else-is_finest+in_ok-step w ↦ subst (Finest a.t xs) (sym w.step-is) w.in_ok-step.ensures
+    ]) in
+    record {
+      by_cell = λ g. in-cell-told a.t a.records.now (wanted a.q.derivative) (place_at a.q.cell) xs ys fine c.read_finest.result
+          (c.read_finest.ensures.by_cell g);
+      by_position = λ g p st. position-told a.t a.records.now (wanted a.q.derivative) p xs ys st fine c.read_finest.result
+          (c.read_finest.ensures.by_position g);
+    }

@@ -1,42 +1,41 @@
 -- `ramp::check_list` meets its contract: 1, 2, 3 and 26 from the shape, then 20, 4 and 9.
-use mathlib.Core.Path.{◌≡◌, sym, ap, ap₂, ◌∙◌}
-use mathlib.Core.Bool.{Bool, ◌&&◌}
-use Prim.Native.Nat.{ℕ, ◌/◌, ◌%◌}
-use lib.Dec.{leb, eqb}
-use Rattle.lattice.specs.Answers.{outcome_of}
-use Rattle.lattice.specs.Outcome.{Check, done, refuse_unless, first}
-use Rattle.lattice.specs.Shape.{size, full_outcome}
-use Rattle.lattice.proofs.OutcomeLaws.{refused-first, first-passed, first-assoc}
+use mathlib.Core.Path.{sym, ap, ◌∙◌}
+use mathlib.Core.Bool.{Bool}
+use Prim.Native.Nat.{ℕ}
+use lib.Dec.{eqb}
+use Rattle.lattice.specs.Outcome.{refuse_unless}
+use Rattle.lattice.proofs.OutcomeLaws.{stopped, went-on}
 use Rattle.lattice.proofs.ShapeLaws.{shaped}
 use Rattle.lattice.proofs.StepLaws.{full-shape}
 use Rattle.ramp.specs.Ramp.{list_outcome}
 use Rattle.ramp.proofs.check_list.Goals as goal
-use Rattle.ramp.proofs.check_list.Goals.{In_default}
 
-full-passes : (c : In_default) → full_outcome c.args.t ≡ done tt
-full-passes c = sym c.check_full-full.ensures ∙ ap outcome_of c.in_default.is
-
-pub returns-in-Refused : goal.returns-in-Refused
+pub returns-in_err-check_full : goal.returns-in_err-check_full
 unfolding list_outcome
-returns-in-Refused c = let g = ap outcome_of c.in-Refused.is in g ∙ sym (refused-first _ (sym c.check_full-full.ensures ∙ g))
+returns-in_err-check_full c = stopped _ _ _ _ c.from_residual.ensures c.in_err-check_full.ensures
 
 pub table_entries-requires : goal.table_entries-requires
-table_entries-requires c = shaped _ (full-shape _ (full-passes c.before.before.before))
+table_entries-requires c = shaped c.args.t.shape (full-shape c.args.t (sym c.in_ok-check_full.ensures))
+
+pub returns-in_err-refuse_unless : goal.returns-in_err-refuse_unless
+unfolding list_outcome
+returns-in_err-refuse_unless c =
+    went-on _ _ _ c.in_ok-check_full.ensures
+    (stopped _ _ _ _ c.from_residual-in_err-refuse_unless.ensures
+    (c.in_err-refuse_unless.ensures ∙ ap (λ (b : Bool). refuse_unless b 20 0) c.is_list.ensures))
+
+pub returns-in_err-refuse_unless-2 : goal.returns-in_err-refuse_unless-2
+unfolding list_outcome
+returns-in_err-refuse_unless-2 c =
+    went-on _ _ _ c.in_ok-check_full.ensures
+    (went-on _ _ _ (c.in_ok-refuse_unless.ensures ∙ ap (λ (b : Bool). refuse_unless b 20 0) c.is_list.ensures)
+    (stopped _ _ _ _ c.from_residual-in_err-refuse_unless-2.ensures
+    (c.in_err-refuse_unless-2.ensures ∙ ap (λ (n : ℕ). refuse_unless (eqb c.args.given n) 4 0) c.table_entries.ensures)))
 
 pub returns : goal.returns
 unfolding list_outcome
 returns c =
-    let long = c in
-    let entries = long in
-    let listed = entries in
-    let whole = listed in
-    let a = whole.args in
-    let twenty : Check = refuse_unless (leb a.asked 768 && eqb (a.asked % 3) 0) 20 0 in
-    let four : Check = refuse_unless (eqb a.given (size a.t.shape)) 4 0 in
-    let nine : Check = refuse_unless (leb (a.asked / 3) a.room) 9 0 in
-    c.refuse_after.ensures
-    ∙ ap (λ (x : Check). first x nine)
-    (long.refuse_after-long.ensures ∙ ap₂ first
-    (listed.refuse_unless-listed.ensures ∙ ap (λ (b : Bool). refuse_unless b 20 0) whole.is_list.ensures)
-    (ap (λ (k : ℕ). refuse_unless (eqb a.given k) 4 0) entries.table_entries.ensures))
-    ∙ first-assoc twenty four nine ∙ sym (first-passed _ _ (full-passes whole.before.before.before.before.before.before))
+    went-on _ _ _ c.in_ok-check_full.ensures
+    (went-on _ _ _ (c.in_ok-refuse_unless.ensures ∙ ap (λ (b : Bool). refuse_unless b 20 0) c.is_list.ensures)
+    (went-on _ _ _ (c.in_ok-refuse_unless-2.ensures ∙ ap (λ (n : ℕ). refuse_unless (eqb c.args.given n) 4 0) c.table_entries.ensures)
+    c.refuse_unless-3.ensures))

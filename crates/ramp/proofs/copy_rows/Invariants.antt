@@ -1,10 +1,7 @@
 -- `ramp::copy_rows` meets its contract. The invariant: the rows before the one at hand stand in front.
-use Prim.Native.Nat.{◌*◌, ◌-◌, ◌≤◌}
+use Prim.Native.Nat.{◌*◌}
 use Rattle.ramp.specs.Parts.{Copied}
 use Rattle.ramp.proofs.copy_rows.Given as goal
 
 abbrev pub invariant-loop-r : goal.invariant-loop-r
-invariant-loop-r q = (q.r ≤ q.rows) × Copied q.l q.records q.e (2 * q.e * q.r) q.held
-
-abbrev pub decreases-loop-r : goal.decreases-loop-r
-decreases-loop-r q = q.rows - q.r
+invariant-loop-r q = Copied q.l q.records q.e (2 * q.e * q.r) q.held

@@ -5,16 +5,16 @@ use Rattle.ramp.proofs.dose_in.Goals as goal
 
 pub overflow_cast-result : goal.overflow_cast-result
 overflow_cast-result c =
-    let r = c.stages_in-r in
+    let r = c.stages_in in
     let s = c in
     let a = s.args in
-    dose-fits (edition-sound a.even) a.s a.held.now a.step s.requires r.result.number c.struct_told-1.given.0.1
+    dose-fits (edition-sound a.even) a.s a.held.now a.step s.requires r.result r.type_inv
     r.ensures
 
 pub returns : goal.returns
 returns c =
-    let r = c.stages_in-r in
+    let r = c.stages_in in
     let s = c in
     let a = s.args in
-    dose-cast (edition-sound a.even) a.s a.held.now a.step s.requires r.result.number c.struct_told-1.given.0.1
+    dose-cast (edition-sound a.even) a.s a.held.now a.step s.requires r.result r.type_inv
     r.ensures

@@ -1,60 +1,79 @@
 -- `ramp::in_space` meets its contract: the stages of three axes, one above the other.
-use mathlib.Core.Path.{refl, ap, ◌∙◌}
-use mathlib.Core.Bool.{true}
-use mathlib.Core.List.{[], ◌∷◌}
-use Prim.Native.Nat.{ℕ, ◌*◌, ◌≤◌}
+use mathlib.Core.Path.{refl, ◌∙◌}
+use mathlib.Core.Bool.{Bool, true, false}
+use mathlib.Core.List.{List, [], ◌∷◌}
+use Prim.Native.Nat.{ℕ, ◌*◌, ◌≤◌, ◌<◌}
+use native.Mathlib.Omega.{arith}
+use borrow.Author.Rules.{rules, sfits_of}
+use mir.Facts.{to_z-of_z}
+use mir.Syntax.{w64}
+use lib.IntN.{ℤ}
 use lib.ListN.{length}
 use Rattle.arith.specs.Int.{rounding_of}
 use Rattle.lattice.specs.Buffer.{at}
-use Rattle.evaluate.specs.Stages.{strides_of, AllPrepared, Safe}
-use Rattle.evaluate.proofs.EndLaws.{stage-asks, stage-gives}
+use Rattle.lattice.specs.declared.order_count.Orders.{Orders}
+use Rattle.evaluate.specs.declared.Axis.{Axis}
+use Rattle.evaluate.specs.Stages.{strides_of, after, clean_after, Made, Workable, AllPrepared, Safe}
+use Rattle.evaluate.proofs.EndLaws.{stage-asks, stage-gives, safe-index}
 use Rattle.evaluate.proofs.StageOrder.{three-ask, three-give}
 use Rattle.ramp.proofs.in_space.Goals as goal
-use Rattle.ramp.proofs.in_space.Goals.{After-axis_of-y, After-axis_of-z, Start}
 
--- what the stages ask for
-module _ (c : After-axis_of-y) where
-  abbrev z : After-axis_of-z
-  z = c.before.before
+module _ (even : Bool) (m : Orders) (u v w : ℕ) (held : List ℤ) where
+  abbrev e : ℕ
+  e = m.count * m.count * m.count
 
-  abbrev s : Start
-  s = z.before
+  abbrev Asked : Type 0
+  Asked = Workable (rounding_of even) m.count 0 (strides_of w (4 * e) (m.count * m.count))
+      (strides_of v (2 * e) m.count ∷ strides_of u e 1 ∷ []) (length held) (at held) 0
 
-  asks : (AllPrepared s.args.m (z.axis_of-z.result ∷ c.axis_of-y.result ∷ c.axis_of-x.result ∷ [])
-      × (z.axis_of-z.result.shift ≤ 44))
-      × Safe (rounding_of s.args.even) s.args.m (length s.args.held.now)
-      (z.axis_of-z.result ∷ c.axis_of-y.result ∷ c.axis_of-x.result ∷ []) (at s.args.held.now) 0
-  asks =
-      three-ask (strides_of s.args.v (2 * s.args.e) s.args.m) c.axis_of-x.ensures z.axis_of-z.ensures
-      c.axis_of-y.ensures true refl s.requires.workable
+  -- what the stages ask for
+  module _ (asked : Asked) (z y x : Axis) (made-z : Made m.count 0 true false (strides_of w (4 * e) (m.count * m.count)) z)
+      (made-y : Made m.count 0 true true (strides_of v (2 * e) m.count) y) (made-x : Made m.count 0 false true (strides_of u e 1) x) where
+    asks : (AllPrepared m.count (z ∷ y ∷ x ∷ []) × (z.shift ≤ 44)) × Safe (rounding_of even) m.count (length held) (z ∷ y ∷ x ∷ [])
+        (at held) 0
+    asks = three-ask (strides_of v (2 * e) m.count) made-x made-z made-y true refl asked
 
-pub ends-both-requires : goal.ends-both-requires
-ends-both-requires c =
-    let a = asks c in
-    let e = (s c).requires.e_bound.1 in
-    let x = c.axis_of-x.ensures in
-    let y = c.axis_of-y.ensures in record {
-      all_prepared = (
-        a.0.0.1,
-        record { node-is = y.node-is ∙ ap (λ (i : ℕ). 2 * i) e; order_is = y.order_is },
-        record { node-is = x.node-is ∙ e; order_is = x.order_is },
-      );
-      at_both = a.1.0;
+    -- what is safe stands in what is held
+    fits : (i : ℕ) → Safe (rounding_of even) m.count (length held) (y ∷ x ∷ []) (at held) i → i < length held
+    fits i h = safe-index (rounding_of even) m.count (length held) (y ∷ x ∷ []) (at held) i (omega (arith, m.bounds.0)) h
+
+pub two_ends-both-requires : goal.two_ends-both-requires
+two_ends-both-requires c =
+    let a = c.args in
+    let asked = asks a.even a.m a.u a.v a.w a.held.now c.requires c.axis_of-z.result c.axis_of-y.result c.axis_of-x.result
+    c.axis_of-z.ensures c.axis_of-y.ensures c.axis_of-x.ensures in
+    record {
+      fits = λ o l. let h = asked.1.0 o l in
+          let low = fits a.even a.m a.u a.v a.w a.held.now c.requires c.axis_of-z.result c.axis_of-y.result c.axis_of-x.result
+          c.axis_of-z.ensures c.axis_of-y.ensures c.axis_of-x.ensures _ h.0 in
+          let high = fits a.even a.m a.u a.v a.w a.held.now c.requires c.axis_of-z.result c.axis_of-y.result c.axis_of-x.result
+          c.axis_of-z.ensures c.axis_of-y.ensures c.axis_of-x.ensures _ h.1 in
+          (search rules, search rules);
+      callable = λ o l. let h = asked.1.0 o l in let k = asked.0.0.1 in (search rules, search rules);
     }
 
-pub stage-requires : goal.stage-requires
-stage-requires c =
-    let d = c in
-    let a = asks d.before.before in let both = stage-asks a.0.0.0 d.ends-both.ensures (z d.before.before).axis_of-z.result.shift a.0.1 a.1.1
-    in
+pub stage-r-requires : goal.stage-r-requires
+unfolding after clean_after
+stage-r-requires c =
+    let a = c.args in
+    let asked = asks a.even a.m a.u a.v a.w a.held.now c.requires c.axis_of-z.result c.axis_of-y.result c.axis_of-x.result
+    c.axis_of-z.ensures c.axis_of-y.ensures c.axis_of-x.ensures in
+    let t = c.two_ends-both.ensures (after (rounding_of a.even) a.m.count (c.axis_of-y.result ∷ c.axis_of-x.result ∷ []) (at a.held.now))
+    (clean_after (rounding_of a.even) a.m.count (c.axis_of-y.result ∷ c.axis_of-x.result ∷ []) (at a.held.now))
+    (λ o l. (λ r e. search rules, λ r e. search rules)) in
+    let both = stage-asks asked.0.0.0 t.0 c.axis_of-z.result.shift asked.0.1 asked.1.1 in
     record { k_bound = both.0; low_value = both.1 }
 
 pub returns : goal.returns
+unfolding after clean_after
 returns c =
-    let d = c in
-    let h = d.before.before.before in
-    let a = asks h in
-    three-give (strides_of (s h).args.v (2 * (s h).args.e) (s h).args.m) h.axis_of-x.ensures (z h).axis_of-z.ensures
-    h.axis_of-y.ensures true refl
-    (c.stage.ensures.number_value
-    ∙ stage-gives a.0.0.0 d.ends-both.ensures (rounding_of (s h).args.even) (z h).axis_of-z.result.shift)
+    let a = c.args in
+    let asked = asks a.even a.m a.u a.v a.w a.held.now c.requires c.axis_of-z.result c.axis_of-y.result c.axis_of-x.result
+    c.axis_of-z.ensures c.axis_of-y.ensures c.axis_of-x.ensures in
+    let t = c.two_ends-both.ensures (after (rounding_of a.even) a.m.count (c.axis_of-y.result ∷ c.axis_of-x.result ∷ []) (at a.held.now))
+    (clean_after (rounding_of a.even) a.m.count (c.axis_of-y.result ∷ c.axis_of-x.result ∷ []) (at a.held.now))
+    (λ o l. (λ r e. search rules, λ r e. search rules)) in
+    three-give (strides_of a.v (2 * (a.m.count * a.m.count * a.m.count)) a.m.count) c.axis_of-x.ensures c.axis_of-z.ensures
+    c.axis_of-y.ensures true refl
+    (to_z-of_z {w = w64} (sfits_of c.struct_told-1.given.0.1) ∙ c.stage-r.ensures.number_value
+    ∙ stage-gives asked.0.0.0 t.0 (rounding_of a.even) c.axis_of-z.result.shift)

@@ -3,4 +3,4 @@ use mathlib.Core.Path.{refl}
 use Rattle.report.proofs.table_with.Goals as goal
 
 pub returns : goal.returns
-returns c = rw (c.finest_steps.ensures, c.shape_of.ensures) refl
+returns c = rw (c.finest_steps.ensures, c.shape.ensures) refl

@@ -1,13 +1,9 @@
 -- `totals::check_row` meets its contract: no record before the one at hand has an entry beyond its limit.
 use mathlib.Core.Path.{◌≡◌}
-use Prim.Native.Nat.{◌≤◌, ◌+◌, ◌*◌, ◌-◌}
+use Prim.Native.Nat.{◌+◌, ◌*◌}
 use Rattle.lattice.specs.Outcome.{done, first_of}
 use Rattle.cell.specs.Cell.{limit_in, record_outcome}
 use Rattle.totals.proofs.check_row.Given as goal
 
 abbrev pub invariant-loop-i : goal.invariant-loop-i
-invariant-loop-i l =
-    (l.i ≤ l.nodes) × (first_of l.i (λ j. record_outcome (limit_in l.limits) l.n l.records (l.start + l.n * j)) ≡ done tt)
-
-abbrev pub decreases-loop-i : goal.decreases-loop-i
-decreases-loop-i l = l.nodes - l.i
+invariant-loop-i l = first_of l.i (λ j. record_outcome (limit_in l.limits.limits) l.n l.records (l.start + l.n * j)) ≡ done tt

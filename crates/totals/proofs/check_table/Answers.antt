@@ -2,30 +2,21 @@
 use mathlib.Core.Path.{sym, ap, ◌∙◌}
 use Prim.Native.Nat.{ℕ}
 use lib.Dec.{eqb}
-use Rattle.lattice.specs.Answers.{outcome_of}
 use Rattle.lattice.specs.Outcome.{refuse_unless}
-use Rattle.lattice.specs.Shape.{size, full_outcome}
-use Rattle.lattice.proofs.OutcomeLaws.{refused-first, first-passed}
+use Rattle.lattice.proofs.OutcomeLaws.{stopped, went-on}
 use Rattle.lattice.proofs.ShapeLaws.{shaped}
 use Rattle.lattice.proofs.StepLaws.{full-shape}
 use Rattle.totals.specs.Totals.{table_outcome}
 use Rattle.totals.proofs.check_table.Goals as goal
 
-pub returns-in-Refused : goal.returns-in-Refused
+pub returns-in_err-check_full : goal.returns-in_err-check_full
 unfolding table_outcome
-returns-in-Refused c =
-    let a = c.args in
-    let e = ap outcome_of c.in-Refused.is in
-    e ∙ sym (refused-first (refuse_unless (eqb a.given (size a.t.shape)) 4 0) (sym c.check_full-shape.ensures ∙ e))
+returns-in_err-check_full c = stopped _ _ _ _ c.from_residual.ensures c.in_err-check_full.ensures
+
+pub table_entries-requires : goal.table_entries-requires
+table_entries-requires c = shaped c.args.t.shape (full-shape c.args.t (sym c.in_ok-check_full.ensures))
 
 pub returns : goal.returns
 unfolding table_outcome
-returns c =
-    let a = c.args in
-    let passes = sym c.check_full-shape.ensures ∙ ap outcome_of c.in_default.is in
-    c.refuse_unless.ensures ∙ ap (λ (n : ℕ). refuse_unless (eqb a.given n) 4 0) c.table_entries.ensures
-    ∙ sym (first-passed (full_outcome a.t) (refuse_unless (eqb a.given (size a.t.shape)) 4 0) passes)
-
-pub table_entries-requires : goal.table_entries-requires
-table_entries-requires c = let t = c.args.t in shaped t.shape (full-shape t
-    (sym c.check_full-shape.ensures ∙ ap outcome_of c.in_default.is))
+returns c = went-on _ _ _ c.in_ok-check_full.ensures
+    (c.refuse_unless.ensures ∙ ap (λ (n : ℕ). refuse_unless (eqb c.args.given n) 4 0) c.table_entries.ensures)

@@ -1,86 +1,68 @@
--- `totals::group_sum` meets its contract: two or three products, none of which is large.
-use mathlib.Core.Path.{◌≡◌, sym, ap, ◌∙◌}
-use Prim.Native.Nat.{ℕ, ◌+◌, ◌≤◌, ◌^◌}
-use native.Mathlib.Nat.{le_trans}
+-- `totals::group_sum` meets its contract. The invariant: the sum of the first orders.
+use mathlib.Core.Path.{◌≡◌, refl, ap, ◌∙◌}
+use Prim.Native.Nat.{ℕ, ◌+◌, ◌^◌, ◌<◌}
+use native.Mathlib.Nat.{not-suc-le-zero}
 use native.Mathlib.Omega.{arith}
-use lib.Dec.{lit<}
-use lib.IntN.{nat_abs}
-use Rattle.arith.specs.Sum.{total}
-use Rattle.arith.proofs.Machine.{widen-fits, kept}
-use Rattle.arith.proofs.Sums.{total-part}
+use lib.IntN.{ℤ, pos}
+use lib.ListN.{length, get_or}
+use mir.Syntax.{w64}
+use mir.Val.{to_z}
+use Rattle.arith.specs.Sum.{sum}
 use Rattle.lattice.specs.Buffer.{at}
+use Rattle.std.proofs.lemmas.List.{length_push}
+use Rattle.std.proofs.lemmas.Slice.Zip.{zip_turn, zip_end}
 use Rattle.totals.specs.Parts.{group_sum}
-use Rattle.totals.proofs.SumLaws.{Two, term-low, one-asks, two-asks, two, three-asks, three-is}
+use Rattle.totals.proofs.SumLaws.{order-asks, order-more, entries-low, weighted-low}
 use Rattle.totals.proofs.group_sum.Goals as goal
-use Rattle.totals.proofs.group_sum.Goals.{After-added-two, Start}
+use Rattle.totals.proofs.group_sum.Goals.{In-Some}
 
-light-two : (s : Start) → total 2 (λ o. nat_abs (at s.args.x o)) ≤ 128
-light-two s = le_trans (total-part 2 s.args.m (λ o. nat_abs (at s.args.x o)) s.requires.0) s.requires.3
+pub loop-factor-init : goal.loop-factor-init
+unfolding group_sum sum
+loop-factor-init c = (refl, λ j h. absurd (not-suc-le-zero h))
 
-pub overflow_cast-records : goal.overflow_cast-records
-overflow_cast-records c = let a = c.args in widen-fits (at a.records.now a.p) c.added-arg-2-1.given
+-- the factor and the entry at hand
+Turn : In-Some → Type 0
+Turn c = let k = length c.loop-factor.yielded in
+    (k < length c.args.x) × (k < length c.args.group.now) × ((d : ℤ) → c.in-Some.field-0-0.now ≡ get_or c.args.x k d)
+    × ((d : ℤ) → c.in-Some.field-0-1.now ≡ get_or c.args.group.now k d)
 
-pub added-value-requires : goal.added-value-requires
-added-value-requires c =
-    let s = c.before.before in
-    one-asks s.args.x s.args.records.now s.args.p (light-two s) c.added-arg-2-1.given
+turn : (c : In-Some) → Turn c
+unfolding Turn
+turn c = zip_turn c.args.x c.args.group.now c.loop-factor.yielded c.into_iter-factor-iterator.result _ c.next.new.self _ (cc) (cc)
+    c.loop-factor.yielded_by _ c.in-Some.is c.next.ensures.steps
 
-pub overflow_cast-records-2 : goal.overflow_cast-records-2
-overflow_cast-records-2 c =
-    let a = c.args in
-    widen-fits (at a.records.now (a.p + 1)) c.added-arg-4-1.given
+pub added-sum-requires : goal.added-sum-requires
+unfolding Turn
+added-sum-requires c =
+    let t = turn c.before.before in
+    let w = c.loop-factor in
+    order-asks c.args.x c.args.group.now (length c.args.group.now) (length w.yielded) c.requires.1 t.1 w.invariant.1
+    c.in-Some.field-0-0.now c.in-Some.field-0-1.now (to_z w64 w.sum-bits) (t.2 (pos 0)) (t.3 (pos 0)) c.entry-1.given w.invariant.0
 
-pub added-two-requires : goal.added-two-requires
-added-two-requires c =
-    let f = c in
-    let s = f.before.before.before.before.before in
-    two-asks s.args.x s.args.records.now s.args.p (light-two s) f.added-arg-2-1.given c.added-arg-4-1.given
-    f.added-value.result f.added-value.ensures
-
--- two products
-both : (c : After-added-two)
-    → Two c.args.x
-    c.args.records.now
-    c.args.p c.added-value.result c.added-two.result
-both c =
-    let f = c in
-    let s = f.before.before.before.before.before.before in
-    two s.args.x s.args.records.now s.args.p (light-two s) f.added-arg-2-1.given c.added-arg-4-1.given
-    f.added-value.result f.added-value.ensures c.added-two.result c.added-two.ensures
-
-pub returns-then-m-eq2 : goal.returns-then-m-eq2
-returns-then-m-eq2 c =
-    let t = both c.before in
-    let a = c.args in
-    kept c.added-two.result (2 ^ 40) t.two-low (lit< tt) ∙ t.two_is
-    ∙ ap (λ (m : ℕ). group_sum m (at a.x) a.records.now a.p) (sym c.if-m-eq2.true)
-
-pub overflow_cast-records-3 : goal.overflow_cast-records-3
-overflow_cast-records-3 c =
-    let a = c.args in
-    widen-fits (at a.records.now (a.p + 2)) c.added-arg-6-1.given
-
--- a third factor
-third : (s : Start) → 3 ≤ s.args.m → nat_abs (at s.args.x 2) ≤ 128
-third s h = le_trans (term-low s.args.m (λ o. nat_abs (at s.args.x o)) 2 h) s.requires.3
-
-pub added-requires : goal.added-requires
-added-requires c =
-    let i = c in
-    let d = i.before.before.before in
-    let s = d.before.before.before.before.before.before in
-    let h = s.requires in
-    three-asks s.args.x s.args.records.now s.args.p (third s (omega arith)) c.added-arg-6-1.given
-    d.added-value.result d.added-two.result (both d)
+pub loop-factor-preserved : goal.loop-factor-preserved
+unfolding Turn
+loop-factor-preserved c =
+    let t = turn c.before.before.before in
+    let w = c.loop-factor in
+    let e = length_push w.yielded (c.in-Some.field-0-0, c.in-Some.field-0-1) in
+    rw e (
+      order-more c.args.x c.args.group.now (length c.args.group.now) (length w.yielded) c.requires.1 t.1 w.invariant.1
+          c.in-Some.field-0-0.now c.in-Some.field-0-1.now (to_z w64 w.sum-bits) (t.2 (pos 0)) (t.3 (pos 0)) c.entry-1.given w.invariant.0
+          c.added-sum.result c.added-sum.ensures,
+      entries-low c.args.x c.args.group.now (length c.args.group.now) (length w.yielded) c.requires.1 t.1 w.invariant.1
+          c.in-Some.field-0-0.now c.in-Some.field-0-1.now (to_z w64 w.sum-bits) (t.2 (pos 0)) (t.3 (pos 0)) c.entry-1.given w.invariant.0,
+    )
 
 pub returns : goal.returns
+unfolding group_sum
 returns c =
-    let g = c in
-    let i = g in
-    let d = i.before.before.before.before in
-    let s = d.before.before.before.before.before.before in
-    let h = s.requires in
-    let e : s.args.m ≡ 3 = omega arith in
-    three-is s.args.x s.args.records.now s.args.p (third s (omega arith)) g.added-arg-6-1.given
-    d.added-value.result d.added-two.result (both d) c.added.result c.added.ensures
-    ∙ ap (λ (m : ℕ). group_sum m (at s.args.x) s.args.records.now s.args.p) (sym e)
+    let w = c.loop-factor in
+    let n = length c.args.group.now in
+    let t = zip_end c.args.x c.args.group.now w.yielded c.into_iter-factor-iterator.result _ c.next.new.self _ (cc) (cc) w.yielded_by
+    c.in-None.is c.next.ensures.steps in
+    let e : length w.yielded ≡ n = omega arith in
+    let v = w.invariant.0 ∙ ap (λ (k : ℕ). group_sum k (at c.args.x) c.args.group.now 0) e in
+    record {
+      value = v;
+      low = rw v (weighted-low n (at c.args.x) (λ j. at c.args.group.now (0 + j)) 128 (2 ^ 31) c.requires.1 (rw e at w.invariant.1));
+    }

@@ -2,20 +2,19 @@
 -- call.
 use mathlib.Core.Path.{◌∙◌, ap, refl}
 use Rattle.arith.specs.Choice.{pick}
-use Rattle.lukhtari.proofs.KeyLaws.{as-tested}
+use Rattle.lukhtari.proofs.KeyLaws.{allowed, forbidden, told}
 use Rattle.lukhtari.specs.Host.{done_of}
 use Rattle.lukhtari.specs.declared.keys.Right.TheVariants.{Coefficients}
 use Rattle.lukhtari.proofs.conversion.lukhtari_coefficients.Goals as goal
 
-pub returns-then-may : goal.returns-then-may
+pub returns-in-Ok : goal.returns-in-Ok
 unfolding pick
-returns-then-may c =
-    let b = c in
-    let i = b in rw (as-tested i.args.key Coefficients i.may.ensures i.if-may.true)
-    (record { value = c.done_of.ensures ∙ ap done_of b.coefficients.ensures.result_value; out_after = b.coefficients.ensures.out_after })
+returns-in-Ok c =
+    rw (allowed c.args.key Coefficients c.in-Ok.ensures)
+    (record { value = c.from.ensures ∙ ap done_of c.coefficients.ensures.result_value; out_after = c.coefficients.ensures.out_after })
 
-pub returns-else-may : goal.returns-else-may
+pub returns-in-Err : goal.returns-in-Err
 unfolding pick
-returns-else-may c =
-    let i = c in rw (as-tested i.args.key Coefficients i.may.ensures i.if-may.false)
-    (record { value = c.done_of-else-may.ensures; out_after = refl })
+returns-in-Err c =
+    rw (forbidden c.args.key Coefficients c.in-Err.ensures)
+    (record { value = (c.from-in-Err.ensures ∙ ap done_of (told c.args.key Coefficients c.in-Err.ensures)); out_after = refl })

@@ -1,20 +1,19 @@
 -- `lukhtari::conversion::lukhtari_corners` meets its contract: the struct says what the answer says, and the slice is that of the call.
 use mathlib.Core.Path.{◌∙◌, ap, refl}
 use Rattle.arith.specs.Choice.{pick}
-use Rattle.lukhtari.proofs.KeyLaws.{as-tested}
+use Rattle.lukhtari.proofs.KeyLaws.{allowed, forbidden, told}
 use Rattle.lukhtari.specs.Host.{done_of}
 use Rattle.lukhtari.specs.declared.keys.Right.TheVariants.{Corners}
 use Rattle.lukhtari.proofs.conversion.lukhtari_corners.Goals as goal
 
-pub returns-then-may : goal.returns-then-may
+pub returns-in-Ok : goal.returns-in-Ok
 unfolding pick
-returns-then-may c =
-    let b = c in
-    let i = b in rw (as-tested i.args.key Corners i.may.ensures i.if-may.true)
-    (record { value = c.done_of.ensures ∙ ap done_of b.corners.ensures.result_value; out_after = b.corners.ensures.out_after })
+returns-in-Ok c =
+    rw (allowed c.args.key Corners c.in-Ok.ensures)
+    (record { value = c.from.ensures ∙ ap done_of c.corners.ensures.result_value; out_after = c.corners.ensures.out_after })
 
-pub returns-else-may : goal.returns-else-may
+pub returns-in-Err : goal.returns-in-Err
 unfolding pick
-returns-else-may c =
-    let i = c in rw (as-tested i.args.key Corners i.may.ensures i.if-may.false)
-    (record { value = c.done_of-else-may.ensures; out_after = refl })
+returns-in-Err c =
+    rw (forbidden c.args.key Corners c.in-Err.ensures)
+    (record { value = (c.from-in-Err.ensures ∙ ap done_of (told c.args.key Corners c.in-Err.ensures)); out_after = refl })

@@ -1,20 +1,19 @@
 -- `lukhtari::files::lukhtari_read` meets its contract: the struct says what the answer says, and the slice is that of the call.
 use mathlib.Core.Path.{◌∙◌, ap, refl}
 use Rattle.arith.specs.Choice.{pick}
-use Rattle.lukhtari.proofs.KeyLaws.{as-tested}
+use Rattle.lukhtari.proofs.KeyLaws.{allowed, forbidden, told}
 use Rattle.lukhtari.specs.Host.{table_from}
 use Rattle.lukhtari.specs.declared.keys.Right.TheVariants.{Read}
 use Rattle.lukhtari.proofs.files.lukhtari_read.Goals as goal
 
-pub returns-then-may : goal.returns-then-may
+pub returns-in-Ok : goal.returns-in-Ok
 unfolding pick
-returns-then-may c =
-    let b = c in
-    let i = b in rw (as-tested i.args.key Read i.may.ensures i.if-may.true)
-    (record { value = c.table_of.ensures ∙ ap table_from b.read.ensures.result_value; samples_after = b.read.ensures.samples_after })
+returns-in-Ok c =
+    rw (allowed c.args.key Read c.in-Ok.ensures)
+    (record { value = c.from.ensures ∙ ap table_from c.read.ensures.result_value; samples_after = c.read.ensures.samples_after })
 
-pub returns-else-may : goal.returns-else-may
+pub returns-in-Err : goal.returns-in-Err
 unfolding pick
-returns-else-may c =
-    let i = c in rw (as-tested i.args.key Read i.may.ensures i.if-may.false)
-    (record { value = c.table_of-else-may.ensures; samples_after = refl })
+returns-in-Err c =
+    rw (forbidden c.args.key Read c.in-Err.ensures)
+    (record { value = (c.from-in-Err.ensures ∙ ap table_from (told c.args.key Read c.in-Err.ensures)); samples_after = refl })

@@ -3,24 +3,21 @@ use mathlib.Core.Path.{◌∙◌, ap}
 use Rattle.arith.specs.Choice.{pick}
 use Rattle.evaluate.specs.Evaluate.{slope_along}
 use Rattle.float_query.specs.Floats.{floats_at, by_float}
-use Rattle.lukhtari.proofs.KeyLaws.{as-tested}
+use Rattle.lukhtari.proofs.KeyLaws.{allowed, forbidden, told}
 use Rattle.lukhtari.proofs.RealLaws.{real-held}
 use Rattle.lukhtari.specs.Host.{real_of}
 use Rattle.lukhtari.specs.declared.keys.Right.TheVariants.{SlopeFloat}
 use Rattle.lukhtari.proofs.float_queries.lukhtari_slope_float.Goals as goal
 
-pub returns-then-may : goal.returns-then-may
+pub returns-in-Ok : goal.returns-in-Ok
 unfolding pick
-returns-then-may c =
-    let b = c in
-    let i = b in
-    let a = i.args in
-    rw (as-tested i.args.key SlopeFloat i.may.ensures i.if-may.true)
-    (c.real_of.ensures ∙ ap real_of b.at_float.ensures
+returns-in-Ok c =
+    let a = c.args in
+    rw (allowed c.args.key SlopeFloat c.in-Ok.ensures)
+    (c.from.ensures ∙ ap real_of c.at_float.ensures
     ∙ real-held (slope_along a.axis) (by_float a.shape a.records.now (slope_along a.axis) (floats_at a.position)))
 
-pub returns-else-may : goal.returns-else-may
+pub returns-in-Err : goal.returns-in-Err
 unfolding pick
-returns-else-may c =
-    let i = c in
-    rw (as-tested i.args.key SlopeFloat i.may.ensures i.if-may.false) c.real_of-else-may.ensures
+returns-in-Err c =
+    rw (forbidden c.args.key SlopeFloat c.in-Err.ensures) (c.from-in-Err.ensures ∙ ap real_of (told c.args.key SlopeFloat c.in-Err.ensures))

@@ -1,20 +1,19 @@
 -- `lukhtari::text::lukhtari_import` meets its contract: the struct says what the answer says, and the slice is that of the call.
 use mathlib.Core.Path.{◌∙◌, ap, refl}
 use Rattle.arith.specs.Choice.{pick}
-use Rattle.lukhtari.proofs.KeyLaws.{as-tested}
+use Rattle.lukhtari.proofs.KeyLaws.{allowed, forbidden, told}
 use Rattle.lukhtari.specs.Host.{done_of}
 use Rattle.lukhtari.specs.declared.keys.Right.TheVariants.{Import}
 use Rattle.lukhtari.proofs.text.lukhtari_import.Goals as goal
 
-pub returns-then-may : goal.returns-then-may
+pub returns-in-Ok : goal.returns-in-Ok
 unfolding pick
-returns-then-may c =
-    let b = c in
-    let i = b in rw (as-tested i.args.key Import i.may.ensures i.if-may.true)
-    (record { value = c.done_of.ensures ∙ ap done_of b.import.ensures.answer; samples_after = b.import.ensures.written })
+returns-in-Ok c =
+    rw (allowed c.args.key Import c.in-Ok.ensures)
+    (record { value = c.from.ensures ∙ ap done_of c.import.ensures.answer; samples_after = c.import.ensures.written })
 
-pub returns-else-may : goal.returns-else-may
+pub returns-in-Err : goal.returns-in-Err
 unfolding pick
-returns-else-may c =
-    let i = c in rw (as-tested i.args.key Import i.may.ensures i.if-may.false)
-    (record { value = c.done_of-else-may.ensures; samples_after = refl })
+returns-in-Err c =
+    rw (forbidden c.args.key Import c.in-Err.ensures)
+    (record { value = (c.from-in-Err.ensures ∙ ap done_of (told c.args.key Import c.in-Err.ensures)); samples_after = refl })

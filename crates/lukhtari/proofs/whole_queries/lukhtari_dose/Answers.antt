@@ -1,21 +1,21 @@
 -- `lukhtari::whole_queries::lukhtari_dose` meets its contract: the struct says what the query for a dose says, and its mark.
-use mathlib.Core.Path.{◌∙◌}
+use mathlib.Core.Path.{ap, ◌∙◌}
 use Rattle.arith.specs.Choice.{pick}
-use Rattle.lukhtari.proofs.KeyLaws.{as-tested}
+use Rattle.lukhtari.proofs.KeyLaws.{allowed, forbidden, told}
 use Rattle.lukhtari.proofs.MarkedLaws.{marked-same}
+use mathlib.Core.Bool.{false}
+use Rattle.lukhtari.specs.Host.{marked_from}
 use Rattle.lukhtari.specs.declared.keys.Right.TheVariants.{Dose}
 use Rattle.lukhtari.proofs.whole_queries.lukhtari_dose.Goals as goal
 
-pub returns-then-may : goal.returns-then-may
+pub returns-in-Ok : goal.returns-in-Ok
 unfolding pick
-returns-then-may c =
-    let b = c in
-    let i = b in
-    rw (as-tested i.args.key Dose i.may.ensures i.if-may.true)
-    (c.marked_of.ensures ∙ marked-same b.at_position.result b.at_position.ensures.result_value b.at_position.ensures.marks)
+returns-in-Ok c =
+    rw (allowed c.args.key Dose c.in-Ok.ensures)
+    (c.from.ensures ∙ marked-same c.at_position.result c.at_position.ensures.result_value c.at_position.ensures.marks)
 
-pub returns-else-may : goal.returns-else-may
+pub returns-in-Err : goal.returns-in-Err
 unfolding pick
-returns-else-may c =
-    let i = c in
-    rw (as-tested i.args.key Dose i.may.ensures i.if-may.false) c.marked_of-else-may.ensures
+returns-in-Err c =
+    rw (forbidden c.args.key Dose c.in-Err.ensures) (c.from-in-Err.ensures ∙ ap (λ o. marked_from o false)
+    (told c.args.key Dose c.in-Err.ensures))

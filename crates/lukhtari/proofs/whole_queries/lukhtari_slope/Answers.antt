@@ -1,21 +1,18 @@
 -- `lukhtari::whole_queries::lukhtari_slope` meets its contract: the struct says what the query along the axis says.
 use mathlib.Core.Path.{◌∙◌, ap}
 use Rattle.arith.specs.Choice.{pick}
-use Rattle.lukhtari.proofs.KeyLaws.{as-tested}
+use Rattle.lukhtari.proofs.KeyLaws.{allowed, forbidden, told}
 use Rattle.lukhtari.specs.Host.{whole_from}
 use Rattle.lukhtari.specs.declared.keys.Right.TheVariants.{Slope}
 use Rattle.lukhtari.proofs.whole_queries.lukhtari_slope.Goals as goal
 
-pub returns-then-may : goal.returns-then-may
+pub returns-in-Ok : goal.returns-in-Ok
 unfolding pick
-returns-then-may c =
-    let b = c in
-    let i = b in
-    rw (as-tested i.args.key Slope i.may.ensures i.if-may.true)
-    (c.whole_of.ensures ∙ ap whole_from b.at_position.ensures.result_value)
+returns-in-Ok c =
+    rw (allowed c.args.key Slope c.in-Ok.ensures)
+    (c.from.ensures ∙ ap whole_from c.at_position.ensures.result_value)
 
-pub returns-else-may : goal.returns-else-may
+pub returns-in-Err : goal.returns-in-Err
 unfolding pick
-returns-else-may c =
-    let i = c in
-    rw (as-tested i.args.key Slope i.may.ensures i.if-may.false) c.whole_of-else-may.ensures
+returns-in-Err c =
+    rw (forbidden c.args.key Slope c.in-Err.ensures) (c.from-in-Err.ensures ∙ ap whole_from (told c.args.key Slope c.in-Err.ensures))
