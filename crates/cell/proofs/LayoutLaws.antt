@@ -31,7 +31,7 @@ start_is s cell l laid c = rw (laid.base-is, laid.stride-x, laid.stride-y, laid.
 
 module _ (s : Shape) (cell : List ℕ) (l : Layout) (rs : List ℤ) (limits : List ℤ) (ok : Shaped s) (long : length rs ≡ size s)
     (here : Accepted s (place_at cell)) (laid : Laid s (place_at cell) l)
-    (row : (e : ℕ) → e < l.orders.count ^ 3 → at limits e ≡ pos (limit_of l.orders.count e)) where
+    (row : (e : ℕ) → e < l.orders ^ 3 → at limits e ≡ pos (limit_of l.orders e)) where
   pub few : (c : ℕ) → c < 2 ^ s.axes → c < 8
   few c h = lt_of_lt_of_le h (pow_mono ok.axes-high)
 
@@ -89,17 +89,17 @@ neighbour l r = go l.base (get_or l.strides 0 0) (get_or l.strides 1 0) (get_or 
         sums k = omega arith
 
 -- the orders that are not 2
-pub quintic-orders : (s : Shape) (cell : List ℕ) (l : Layout) → Laid s (place_at cell) l → (l.orders.count ≡ 2 → ⊥) → l.orders.count ≡ 3
+pub quintic-orders : (s : Shape) (cell : List ℕ) (l : Layout) → Laid s (place_at cell) l → (l.orders ≡ 2 → ⊥) → l.orders ≡ 3
 quintic-orders s cell l laid n = let r = orders-range s.degree in let e = laid.orders-are in omega (arith, n)
 
 -- what a call of `all_within` needs and says, of E entries a record and 2·rows corners
 pub record Called (s : Shape) (cell : List ℕ) (l : Layout) (rs limits : List ℤ) (E rows : ℕ) : Type 0 where
-  pub asked : CornerRows l rs E rows
+  pub asked : CornerRows l rs E rows × Limits E limits
   pub same : passed (first_of (2 * rows) (corner_test limits E rs l)) ≡ passed (corners_outcome s rs (place_at cell))
 
 -- ---- a table of m orders and n axes: E entries a record, 2·rows corners
 
-module _ (s : Shape) (cell : List ℕ) (l : Layout) (laid : Laid s (place_at cell) l) (m n E rows : ℕ) (m-is : l.orders.count ≡ m)
+module _ (s : Shape) (cell : List ℕ) (l : Layout) (laid : Laid s (place_at cell) l) (m n E rows : ℕ) (m-is : l.orders ≡ m)
     (n-is : s.axes ≡ n) (E-is : m ^ n ≡ E) (rows_are : 2 ^ n ≡ 2 * rows) where
   pub E-in : entries s ≡ E
   unfolding entries
@@ -114,7 +114,7 @@ module _ (s : Shape) (cell : List ℕ) (l : Layout) (laid : Laid s (place_at cel
 
   module _ (rs limits : List ℤ) (ok : Shaped s) (long : length rs ≡ size s) (here : Accepted s (place_at cell))
       (k : ℕ) (k-is : k ≡ m) (row : (e : ℕ) → e < k ^ 3 → at limits e ≡ pos (limit_of k e)) where
-    row_in : (e : ℕ) → e < l.orders.count ^ 3 → at limits e ≡ pos (limit_of l.orders.count e)
+    row_in : (e : ℕ) → e < l.orders ^ 3 → at limits e ≡ pos (limit_of l.orders e)
     row_in = subst (λ (k : ℕ). (e : ℕ) → e < k ^ 3 → at limits e ≡ pos (limit_of k e)) (k-is ∙ sym m-is) row
 
     entries-are : l.entries ≡ E
@@ -150,4 +150,4 @@ module _ (s : Shape) (cell : List ℕ) (l : Layout) (laid : Laid s (place_at cel
         ∙ ap passed (all-is s cell l rs limits ok long here laid row_in)
 
     pub called : 1 ≤ E → E ≤ 27 → rows ≤ 4 → Called s cell l rs limits E rows
-    called some low few = record { asked = rows_in some low few; same = same }
+    called some low few = record { asked = (rows_in some low few, hold); same = same }

@@ -89,7 +89,7 @@ Limits n limits = (e : ℕ) → e < n → non_neg (at limits e) ≡ true
 
 -- what a layout holds
 pub record Laid (s : Shape) (cell : Place) (l : Layout) : Type 0 where
-  pub orders-are : l.orders.count ≡ orders s
+  pub orders-are : l.orders ≡ orders s
   pub entries-are : l.entries ≡ entries s
   pub base-is : l.base ≡ base s cell
   pub stride-x : get_or l.strides 0 0 ≡ node_stride s 0

@@ -21,7 +21,7 @@ pub use entries::{EntryLimits, entry_limits};
 // Where the corner records of a cell stand.
 #[derive(Clone, Copy)]
 pub struct Layout {
-    pub orders: Orders,
+    pub orders: usize,
     pub entries: usize,
     pub base: usize,
     pub strides: [usize; 3],
@@ -54,7 +54,7 @@ pub fn layout_of(s: Shape, cell: [u32; 3]) -> Layout
     let planes = s.counts[1] as usize;
     let node = cell[0] as usize + rows * (cell[1] as usize + planes * cell[2] as usize);
     Layout {
-        orders: lattice::orders(s.degree),
+        orders: lattice::orders(s.degree).count,
         entries: size,
         base: node * size,
         strides: [size, rows * size, planes * (rows * size)],
@@ -124,14 +124,14 @@ pub fn check_record(
 }
 
 // Not 0 where an entry of two records, one directly after the other from `start`, is beyond its limit.
-fn beyond_in(limits: &EntryLimits, n: usize, records: &[i32], start: usize) -> u32
-    requires { (n ≤ 27) × (start + 2 * n ≤ length records.now) }
-    ensures { eqb result 0 ≡ passed (first (record_outcome (limit_in limits.now.limits) n records.now start) (record_outcome (limit_in limits.now.limits) n records.now (start + n))) }
+fn beyond_in(limits: &[i32; 27], n: usize, records: &[i32], start: usize) -> u32
+    requires { (n ≤ 27) × (start + 2 * n ≤ length records.now) × Limits n limits.now }
+    ensures { eqb result 0 ≡ passed (first (record_outcome (limit_in limits.now) n records.now start) (record_outcome (limit_in limits.now) n records.now (start + n))) }
 {
     let mut over: u32 = 0;
     for e in 0..n {
-        let low = beyond(records[start + e], limits.limits[e]);
-        let high = beyond(records[start + n + e], limits.limits[e]);
+        let low = beyond(records[start + e], limits[e]);
+        let high = beyond(records[start + n + e], limits[e]);
         over = over | (low as u32) | (high as u32);
     }
     over
@@ -149,9 +149,9 @@ pub fn corner_start(l: Layout, c: usize) -> usize
 }
 
 // Whether the limit test of the first 2·rows corner records is passed, those of a row at once.
-pub fn all_within(limits: &EntryLimits, n: usize, rows: usize, records: &[i32], l: Layout) -> bool
-    requires { CornerRows l records.now n rows }
-    ensures { result ≡ passed (first_of (2 * rows) (λ c. record_outcome (limit_in limits.now.limits) n records.now (start_of l c))) }
+pub fn all_within(limits: &[i32; 27], n: usize, rows: usize, records: &[i32], l: Layout) -> bool
+    requires { CornerRows l records.now n rows × Limits n limits.now }
+    ensures { result ≡ passed (first_of (2 * rows) (λ c. record_outcome (limit_in limits.now) n records.now (start_of l c))) }
 {
     for row in 0..rows {
         let start = corner_start(l, 2 * row);
@@ -168,7 +168,7 @@ pub fn check_corners(s: Shape, records: &[i32], cell: [u32; 3], l: Layout) -> Re
     requires accepted { Accepted s (place_at cell) × Laid s (place_at cell) l }
     ensures { outcome_of result ≡ corners_outcome s records.now (place_at cell) }
 {
-    let limits = entry_limits(l.orders);
+    let limits = entry_limits(Orders { count: l.orders });
     let n = l.entries;
     let corners: usize = 1 << s.axes;
     for c in 0..corners {
@@ -186,10 +186,10 @@ pub fn line_within(s: Shape, records: &[i32], cell: [u32; 3], l: Layout) -> bool
     requires axes_value { s.axes ≡ 1 }
     ensures { result ≡ passed (corners_outcome s records.now (place_at cell)) }
 {
-    if l.orders.count == 2 {
-        return all_within(&entry_limits(Orders::cubic()), 2, 1, records, l);
+    if l.orders == 2 {
+        return all_within(&entry_limits(Orders::cubic()).limits, 2, 1, records, l);
     }
-    all_within(&entry_limits(Orders::quintic()), 3, 1, records, l)
+    all_within(&entry_limits(Orders::quintic()).limits, 3, 1, records, l)
 }
 
 // The same on two or three axes.
@@ -199,16 +199,16 @@ pub fn lattice_within(n: u32, s: Shape, records: &[i32], cell: [u32; 3], l: Layo
     requires n_value { (n ≡ s.axes) × (2 ≤ n) }
     ensures { result ≡ passed (corners_outcome s records.now (place_at cell)) }
 {
-    if l.orders.count == 2 {
+    if l.orders == 2 {
         let limits = entry_limits(Orders::cubic());
         if n == 2 {
-            return all_within(&limits, 4, 2, records, l);
+            return all_within(&limits.limits, 4, 2, records, l);
         }
-        return all_within(&limits, 8, 4, records, l);
+        return all_within(&limits.limits, 8, 4, records, l);
     }
     let limits = entry_limits(Orders::quintic());
     if n == 2 {
-        return all_within(&limits, 9, 2, records, l);
+        return all_within(&limits.limits, 9, 2, records, l);
     }
-    all_within(&limits, 27, 4, records, l)
+    all_within(&limits.limits, 27, 4, records, l)
 }

@@ -11,6 +11,7 @@ use lib.Dec.{lit<, lit≤}
 use lib.IntN.{ℤ}
 use lib.ListN.{length}
 use Rattle.arith.proofs.Choices.{by-m}
+use Rattle.lattice.specs.declared.order_count.Orders.{Orders}
 use Rattle.lattice.specs.Buffer.{at}
 use Rattle.lattice.specs.Flat.{pass}
 use Rattle.lattice.proofs.Local.{Depends}
@@ -54,10 +55,21 @@ module _ {m n r : ℕ} (ok : Sizes m n r) where
   pub in-groups : (k : ℕ) → k < m ^ n → k < m * r
   in-groups k l = rw ok.groups-are l
 
--- rows: their orders along y and z are below m
+-- rows: the first, and their orders along y and z are below m
+pub first-row : (m : ℕ) → 0 < m → RowOf m 0 (record { y = 0; z = 0 })
+first-row m some = record { number_is = (let e : 0 ≡ m * 0 + 0 = omega arith in e); low = some }
+
 pub row-orders : (m g : ℕ) (o : Row) → 2 ≤ m → m ≤ 3 → g < m * m → RowOf m g o → o.z < m
 row-orders m g o m2 m3 l row =
     by-m (λ m. g < m * m → g ≡ m * o.z + o.y → o.z < m) (λ a b. omega arith) (λ a b. omega arith) m m2 m3 l row.number_is
+
+pub row-low : (m : Orders) (g r : ℕ) (o : Row) → g < r → r ≤ m.count * m.count → RowOf m.count g o
+    → (o.y < 3) × (o.z < 3) × (o.z < m.count)
+row-low m g r o l few row =
+    let m3 = m.bounds.1 in
+    let y = row.low in
+    let z = row-orders m.count g o m.bounds.0 m3 (lt_of_lt_of_le l few) row in
+    (omega arith, omega arith, z)
 
 module _ {m n r : ℕ} (ok : Sizes m n r) where
   pub rows_few : r ≤ m * m

@@ -66,7 +66,7 @@ copied n xs out l =
 module _ (s : Shape) (ok : Shaped s) (cell : Place) (here : Accepted s cell) (rs : List ℤ) (many : length rs ≡ size s) (l : Layout)
     (laid : Laid s cell l) where
   pub list-is : (xs : List ℤ)
-      → ((K : ℕ) → K < coefficient_count l.orders.count s.axes → at xs K ≡ cell_coefficient l.orders.count s.axes l rs K)
+      → ((K : ℕ) → K < coefficient_count l.orders s.axes → at xs K ≡ cell_coefficient l.orders s.axes l rs K)
       → tabulate (coefficient_count (orders s) s.axes) (at xs) ≡ coefficient_list (orders s) s.axes cell (records_field s rs)
   unfolding coefficient_list entries
   list-is xs h =

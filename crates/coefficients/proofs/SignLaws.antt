@@ -1,5 +1,5 @@
 -- The signs of a corner: they change no size, and to sign a block as a whole is to sign along each axis where its rule is applied.
-use mathlib.Core.Path.{◌≡◌, refl, sym, ap, ◌∙◌}
+use mathlib.Core.Path.{◌≡◌, refl, sym, ap, ap₂, ◌∙◌}
 use mathlib.Core.List.{List, [], ◌∷◌}
 use Prim.Native.Nat.{ℕ, zero, suc, ◌+◌, ◌-◌, ◌*◌, ◌/◌, ◌%◌, ◌^◌, ◌≤◌, ◌<◌}
 use native.Mathlib.Nat.{zero-add, mod-eq_of_lt, mod-lt, le_trans, le_of_eq}
@@ -12,6 +12,7 @@ use mir.Facts.{to_z-of_z}
 use Rattle.arith.specs.Choice.{pick}
 use Rattle.arith.specs.Int.{◌^ℤ◌}
 use Rattle.arith.specs.Sum.{product}
+use Rattle.arith.proofs.Abs.{abs-mul}
 use Rattle.arith.proofs.Laws.{negℤ-*ℤ, *ℤ-assoc, *ℤ-pos-one, pos-one-*ℤ}
 use Rattle.arith.proofs.Choices.{by_2, by-3}
 use Rattle.arith.proofs.Machine.{sized, sizes, fits?, kept}
@@ -109,6 +110,9 @@ module _ (s x : ℤ) (hs : nat_abs s ≤ 1) (hx : nat_abs x ≤ 2 ^ 50) where
   fits : SFits w64 (s *ℤ x)
   fits = fits? (search (sizes, sized, hs, hx) depth 40) (omega arith)
 
+  pub sign_fits : SFits w64 (held s *ℤ held x)
+  sign_fits = rw (kept s 1 hs (lit< tt), kept x (2 ^ 50) hx (lit< tt)) fits
+
   pub sign_kept : held (held s *ℤ held x) ≡ s *ℤ x
   sign_kept = rw (kept s 1 hs (lit< tt), kept x (2 ^ 50) hx (lit< tt)) (to_z-of_z {w = w64} fits)
 
@@ -122,8 +126,17 @@ module _ (m c g : ℕ) (o : Row) (m3 : m ≤ 3) (few : c < 8) (of_row : RowOf m 
   row_kept : held row ≡ row
   row_kept = kept row 1 (le_of_eq row_is.1) (lit< tt)
 
+  pub row_one : nat_abs (held row) ≡ 1
+  row_one = ap nat_abs row_kept ∙ row_is.1
+
   both : held (held row *ℤ held along) ≡ row *ℤ along
   both = sign_kept row along (le_of_eq row_is.1) along-small
+
+  pub both_one : nat_abs (held (held row *ℤ held along)) ≡ 1
+  both_one = ap nat_abs both ∙ abs-mul row along ∙ ap₂ ◌*◌ row_is.1 along-is.1
+
+  pub both-fit : SFits w64 (held row *ℤ held along)
+  both-fit = sign_fits row along (le_of_eq row_is.1) along-small
 
   -- number t of the row
   pub row_number : (t : ℕ) → t < m → pick (eqb t 1) (held (held row *ℤ held along)) (held row) ≡ block_sign m c (m * g + t)

@@ -37,30 +37,29 @@ fn sign(b: usize, o: usize) -> i64
 }
 
 // The coefficient of order o of end b: d * b, (d - 2) * b + 1, (d - 4) * b + 2.
-fn place(m: Orders, b: usize, o: usize) -> usize
-    requires { (b < 2) × (o < m.count) }
-    ensures { (result ≡ coefficient_number m.count (m.count * b + o)) × (result < 2 * m.count) }
+pub fn place(m: usize, b: usize, o: usize) -> usize
+    requires { (m ≤ 3) × (b < 2) × (o < m) }
+    ensures { (result ≡ coefficient_number m (m * b + o)) × (result < 2 * m) }
 {
-    (2 * m.count - 1 - 2 * o) * b + o
+    (2 * m - 1 - 2 * o) * b + o
 }
 
 // The orders along y and z of a row of a block.
 #[derive(Clone, Copy)]
-struct Row {
-    y: usize,
-    z: usize,
+pub struct Row {
+    pub y: usize,
+    pub z: usize,
 }
 
-impl Row {
-    // Row g of a block.
-    fn of(m: Orders, g: usize) -> Self
-        ensures { RowOf m.count g result }
-    {
-        if m.count == 2 {
-            return Row { y: g % 2, z: g / 2 };
-        }
-        Row { y: g % 3, z: g / 3 }
+// The row after this one.
+pub fn next_row(m: usize, o: Row) -> Row
+    requires { (m ≤ 3) × (o.y < m) × (o.z < 3) }
+    ensures { RowOf m (m * o.z + o.y + 1) result }
+{
+    if o.y + 1 < m {
+        return Row { y: o.y + 1, z: o.z };
     }
+    Row { y: 0, z: o.z + 1 }
 }
 
 // The sign of a row of corner c, but for that of the order along x.
@@ -72,45 +71,60 @@ fn row_sign(c: usize, o: Row) -> i64
 }
 
 // Where a row of corner c stands: its coefficients' places but for their number along x.
-fn row_place(m: Orders, c: usize, o: Row) -> usize
-    requires { (c < 8) × (o.y < m.count) × (o.z < m.count) }
-    ensures { (result ≤ 210) × ((t : ℕ) → t < m.count → coefficient_index m.count c (m.count * (m.count * o.z + o.y) + t) ≡ result + coefficient_number m.count (m.count * (c % 2) + t)) }
+pub fn row_place(m: usize, c: usize, o: Row) -> usize
+    requires { (2 ≤ m) × (m ≤ 3) × (c < 8) × (o.y < m) × (o.z < m) }
+    ensures { (result ≤ 210) × ((t : ℕ) → t < m → coefficient_index m c (m * (m * o.z + o.y) + t) ≡ result + coefficient_number m (m * (c % 2) + t)) }
 {
-    2 * m.count * (place(m, c / 2 % 2, o.y) + 2 * m.count * place(m, c / 2 / 2, o.z))
+    2 * m * (place(m, c / 2 % 2, o.y) + 2 * m * place(m, c / 2 / 2, o.z))
 }
 
-// The places of a row's coefficients, from number i of the block on.
-fn place_row(m: Orders, c: usize, g: usize, ps: &mut [u8; 27])
-    requires { (c < 8) × (m.count * g + m.count ≤ 27) × (g < m.count * m.count) × Placed m.count c (m.count * g) ps.old }
+// The places of the coefficients of row g, whose orders are o.
+#[inline(always)]
+fn place_row(m: Orders, c: usize, g: usize, o: Row, ps: &mut [u8; 27])
+    requires { (c < 8) × (m.count * g + m.count ≤ 27) × (o.z < m.count) × RowOf m.count g o × Placed m.count c (m.count * g) ps.old }
     ensures { Placed m.count c (m.count * g + m.count) ps.new }
 {
-    let p = row_place(m, c, Row::of(m, g));
+    let p = row_place(m.count, c, o);
     for t in 0..m.count {
-        ps[m.count * g + t] = (p + place(m, c % 2, t)) as u8;
+        ps[m.count * g + t] = (p + place(m.count, c % 2, t)) as u8;
     }
 }
 
 // The places of the coefficients of r rows of corner c.
-fn place_rows(m: Orders, r: usize, c: usize) -> [u8; 27]
+#[inline(always)]
+fn place_rows(m: Orders, r: usize, c: usize, ps: &mut [u8; 27])
     requires { (c < 8) × (m.count * r ≤ 27) × (r ≤ m.count * m.count) }
-    ensures { Placed m.count c (m.count * r) result }
+    ensures { Placed m.count c (m.count * r) ps.new }
 {
-    let mut ps = [0u8; 27];
+    let mut o = Row { y: 0, z: 0 };
     for g in 0..r {
-        place_row(m, c, g, &mut ps);
+        place_row(m, c, g, o, ps);
+        o = next_row(m.count, o);
     }
-    ps
 }
 
-// The places of the coefficients of corner c, with the degree as a constant.
+// The places of the coefficients of corner c to the front of `ps`, with the degree as a constant.
+#[inline(always)]
+pub fn put_places(b: Block, c: usize, ps: &mut [u8; 27])
+    requires { c < 2 ^ b.axes }
+    ensures { Placed b.orders.count c (b.orders.count ^ b.axes) ps.new }
+{
+    if b.orders.count == 2 {
+        place_rows(Orders::cubic(), b.rows, c, ps);
+    } else {
+        place_rows(Orders::quintic(), b.rows, c, ps);
+    }
+}
+
+// The same by value. A copy waits for the bytes that were just written, so the conversions lend an array.
+#[inline(always)]
 pub fn places(b: Block, c: usize) -> [u8; 27]
     requires { c < 2 ^ b.axes }
     ensures { Placed b.orders.count c (b.orders.count ^ b.axes) result }
 {
-    if b.orders.count == 2 {
-        return place_rows(Orders::cubic(), b.rows, c);
-    }
-    place_rows(Orders::quintic(), b.rows, c)
+    let mut ps = [0u8; 27];
+    put_places(b, c, &mut ps);
+    ps
 }
 
 // s * x of a sign s.
@@ -144,9 +158,11 @@ pub fn signed(b: Block, c: usize, xs: &[i64; 27], zs: &mut [i64; 27])
     ensures { StartsWith (b.orders.count ^ b.axes) (λ k. block_sign b.orders.count c k *ℤ at xs.now k) zs.new }
 {
     let x = sign(c % 2, 1);
+    let mut o = Row { y: 0, z: 0 };
     for g in 0..b.rows {
-        let s = row_sign(c, Row::of(b.orders, g));
+        let s = row_sign(c, o);
         sign_row(b.orders, s, s * x, b.orders.count * g, xs, zs);
+        o = next_row(b.orders.count, o);
     }
 }
 
@@ -200,11 +216,18 @@ pub fn solve(back: bool, b: Block, xs: &mut [i64; 27], zs: &mut [i64; 27])
     ensures starts_with { StartsWith (b.orders.count ^ b.axes) (solved_block back b.orders.count b.axes (at xs.old)) zs.new }
     ensures within { AllWithin (2 ^ 50) (b.orders.count ^ b.axes) (at zs.new) }
 {
-    solve_axis(back, b.orders, b.rows, xs, zs);
-    for _ in 1..b.axes {
-        *xs = *zs;
-        solve_axis(back, b.orders, b.rows, xs, zs);
+    if b.axes == 2 {
+        let mut ws = [0i64; 27];
+        solve_axis(back, b.orders, b.rows, xs, &mut ws);
+        solve_axis(back, b.orders, b.rows, &ws, zs);
+        return;
     }
+    solve_axis(back, b.orders, b.rows, xs, zs);
+    if b.axes == 1 {
+        return;
+    }
+    solve_axis(back, b.orders, b.rows, zs, xs);
+    solve_axis(back, b.orders, b.rows, xs, zs);
 }
 
 // (d+1)^n.
@@ -216,13 +239,45 @@ pub fn coefficient_count(axes: u32, degree: u32) -> usize
     both.pow(axes)
 }
 
-// The numbers of a record to 64 bits.
-fn widen(numbers: &[i32], xs: &mut [i64; 27])
-    requires { length numbers.now ≤ 27 }
-    ensures { StartsWith (length numbers.now) (at numbers.now) xs.new × AllWithin (2 ^ 31) (length numbers.now) (at xs.new) }
+// The numbers of a record's row from i on, those of even order by s and that of order 1 by t; a third order that is not there is 0.
+fn row_at(m: Orders, s: i64, t: i64, i: usize, numbers: &[i32]) -> [i64; 3]
+    requires { (nat_abs s ≡ 1) × (nat_abs t ≡ 1) × (i + m.count ≤ length numbers.now) }
+    ensures { ((o : ℕ) → o < m.count → at result o ≡ pick (eqb o 1) t s *ℤ at numbers.now (i + o)) × AllWithin (2 ^ 31) 3 (at result) }
 {
-    for (k, &r) in numbers.iter().enumerate() {
-        xs[k] = r as i64;
+    let f = by_sign(s, numbers[i] as i64);
+    let d = by_sign(t, numbers[i + 1] as i64);
+    if m.count == 2 {
+        return [f, d, 0];
+    }
+    [f, d, by_sign(s, numbers[i + 2] as i64)]
+}
+
+// The pass along x over r rows of the record of corner c: each is signed, and converted.
+fn first_axis(m: Orders, r: usize, c: usize, numbers: &[i32], zs: &mut [i64; 27])
+    requires { (c < 8) × (m.count * r ≤ 27) × (r ≤ m.count * m.count) × (length numbers.now ≡ m.count * r) }
+    ensures starts_with { StartsWith (m.count * r) (pass m.count r (end_rule false m.count) (λ k. block_sign m.count c k *ℤ at numbers.now k)) zs.new }
+    ensures all_within { AllWithin (2 ^ 31) (m.count * r) (λ k. block_sign m.count c k *ℤ at numbers.now k) }
+{
+    let along_x = sign(c % 2, 1);
+    let mut o = Row { y: 0, z: 0 };
+    for g in 0..r {
+        let s = row_sign(c, o);
+        let z = hermite::convert_end(false, m, row_at(m, s, s * along_x, m.count * g, numbers));
+        put_group(m, r, g, z, zs);
+        o = next_row(m.count, o);
+    }
+}
+
+// The same with the degree as a constant.
+fn solve_first(b: Block, c: usize, numbers: &[i32], zs: &mut [i64; 27])
+    requires { (c < 2 ^ b.axes) × (length numbers.now ≡ b.orders.count ^ b.axes) }
+    ensures starts_with { StartsWith (b.orders.count * b.rows) (pass b.orders.count b.rows (end_rule false b.orders.count) (λ k. block_sign b.orders.count c k *ℤ at numbers.now k)) zs.new }
+    ensures all_within { AllWithin (2 ^ 31) (b.orders.count ^ b.axes) (λ k. block_sign b.orders.count c k *ℤ at numbers.now k) }
+{
+    if b.orders.count == 2 {
+        first_axis(Orders::cubic(), b.rows, c, numbers, zs);
+    } else {
+        first_axis(Orders::quintic(), b.rows, c, numbers, zs);
     }
 }
 
@@ -231,9 +286,17 @@ fn block_solve(b: Block, c: usize, numbers: &[i32], xs: &mut [i64; 27], zs: &mut
     requires { (c < 2 ^ b.axes) × (length numbers.now ≡ b.orders.count ^ b.axes) }
     ensures { StartsWith (b.orders.count ^ b.axes) (solved_block false b.orders.count b.axes (λ k. block_sign b.orders.count c k *ℤ at numbers.now k)) zs.new }
 {
-    widen(numbers, zs);
-    signed(b, c, zs, xs);
-    solve(false, b, xs, zs);
+    if b.axes == 2 {
+        solve_first(b, c, numbers, xs);
+        solve_axis(false, b.orders, b.rows, xs, zs);
+        return;
+    }
+    solve_first(b, c, numbers, zs);
+    if b.axes == 1 {
+        return;
+    }
+    solve_axis(false, b.orders, b.rows, zs, xs);
+    solve_axis(false, b.orders, b.rows, xs, zs);
 }
 
 // The coefficients of corner c, each to its place.
@@ -241,7 +304,8 @@ fn store(b: Block, c: usize, zs: &[i64; 27], out: &mut [i32; 216])
     requires { (c < 2 ^ b.axes) × AllWithin (2 ^ 30) (b.orders.count ^ b.axes) (at zs.now) }
     ensures { out.new ≡ scatter (b.orders.count ^ b.axes) (coefficient_index b.orders.count c) (at zs.now) out.old }
 {
-    let ps = places(b, c);
+    let mut ps = [0u8; 27];
+    put_places(b, c, &mut ps);
     for (k, &p) in ps[..b.size()].iter().enumerate() {
         out[p as usize] = zs[k] as i32;
     }
@@ -263,10 +327,10 @@ fn corner_at(n: usize, i: usize) -> usize
 
 // The coefficients of the first k corners of a cell of n axes in turn, each signed, solved and put to its places; all other numbers 0.
 pub fn filled(n: usize, k: usize, l: Layout, records: &[i32]) -> [i32; 216]
-    requires { (1 ≤ n) × (n ≤ 3) × (k ≤ 2 ^ n) × Gathered l.orders.count n l records.now }
-    ensures { Filled l.orders.count n (cell_coefficient l.orders.count n l records.now) k result }
+    requires { (2 ≤ l.orders) × (l.orders ≤ 3) × (1 ≤ n) × (n ≤ 3) × (k ≤ 2 ^ n) × Gathered l.orders n l records.now }
+    ensures { Filled l.orders n (cell_coefficient l.orders n l records.now) k result }
 {
-    let b = Block::of(l.orders, n);
+    let b = Block::of(Orders { count: l.orders }, n);
     let mut out = [0i32; 216];
     let mut xs = [0i64; 27];
     let mut zs = [0i64; 27];
@@ -303,7 +367,7 @@ pub fn check_request(t: FullShape, given: usize, cell: [u32; 3], room: usize) ->
 pub fn corners_layout(s: Shape, records: &[i32], cell: [u32; 3]) -> Result<Layout, Refusal>
     requires { Shaped s × (length records.now ≡ size s) × Accepted s (place_at cell) }
     ensures outcome { check_of result ≡ corners_outcome s records.now (place_at cell) }
-    ensures layout { IfOk result (λ l. Laid s (place_at cell) l × Gathered l.orders.count s.axes l records.now) }
+    ensures layout { IfOk result (λ l. Laid s (place_at cell) l × Gathered l.orders s.axes l records.now) }
 {
     let l = cell::layout_of(s, cell);
     cell::check_corners(s, records, cell, l)?;

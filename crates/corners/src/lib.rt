@@ -1,27 +1,27 @@
 // The corner records of a cell from its coefficients.
 #![tactic(auto)]
 
-ghost use Rattle.std.specs.Prelude.{◌≡◌, ℕ, ◌+◌, ◌*◌, ◌^◌, ◌<◌, ◌≤◌, nat_abs, length, IfOk};
+ghost use Rattle.std.specs.Prelude.{◌≡◌, ℕ, ◌+◌, ◌*◌, ◌^◌, ◌<◌, ◌≤◌, nat_abs, length};
 ghost use Rattle.arith.specs.Int.{floor_div};
 ghost use Rattle.lattice.specs.Outcome.{done, refuse_unless, first, first_of};
 ghost use Rattle.lattice.specs.Answers.{outcome_of};
 ghost use Rattle.lattice.specs.Buffer.{at};
 ghost use Rattle.cell.specs.Coefficients.{coefficient_count};
 ghost use Rattle.corners.specs.Corners.{whole_within, possible_outcome, numbers_outcome, back_outcome, back_writes};
-ghost use Rattle.coefficients.specs.Coefficients.{check_of};
 ghost use Rattle.coefficients.specs.Blocks.{AllWithin, scatter};
 ghost use Rattle.corners.specs.Back.{Gathers, block_test, entry_of};
 
 use cell::EntryLimits;
 use coefficients::Block;
-use lattice::{Reason, Refusal};
+use lattice::{Orders, Reason, Refusal};
 
 // The coefficients of corner c, counted from its ends.
 fn gather(b: Block, c: usize, cs: &[i32], xs: &mut [i64; 27])
     requires { (c < 2 ^ b.axes) × (length cs.now ≡ coefficient_count b.orders.count b.axes) }
     ensures { Gathers b.orders.count c (b.orders.count ^ b.axes) cs.now xs.new }
 {
-    let ps = coefficients::places(b, c);
+    let mut ps = [0u8; 27];
+    coefficients::put_places(b, c, &mut ps);
     for (k, &p) in ps[..b.size()].iter().enumerate() {
         xs[k] = cs[p as usize] as i64;
     }
@@ -66,24 +66,35 @@ fn store(
     Ok(())
 }
 
-// The corner records, corner by corner; 13 where there are none.
-fn corner_records(b: Block, cs: &[i32]) -> Result<[i32; 216], Refusal>
+// The corner records, filled corner by corner into the front of `out`; 13 where there are none.
+fn corner_records(b: Block, cs: &[i32], out: &mut [i32; 216]) -> Result<(), Refusal>
     requires { length cs.now ≡ coefficient_count b.orders.count b.axes }
-    ensures outcome { check_of result ≡ possible_outcome b.orders.count b.axes cs.now }
-    ensures entries { IfOk result (λ xs. (length xs ≡ 216) × ((i : ℕ) → i < coefficient_count b.orders.count b.axes → at xs i ≡ entry_of b.orders.count b.axes cs.now i)) }
+    ensures result_value { outcome_of result ≡ possible_outcome b.orders.count b.axes cs.now }
+    ensures i_after { outcome_of result ≡ done tt → (i : ℕ) → i < coefficient_count b.orders.count b.axes → at out.new i ≡ entry_of b.orders.count b.axes cs.now i }
 {
     let limits = cell::entry_limits(b.orders);
     let corners: usize = 1 << b.axes;
-    let mut out = [0i32; 216];
     let mut xs = [0i64; 27];
     let mut zs = [0i64; 27];
     for c in 0..corners {
         gather(b, c, cs, &mut xs);
         coefficients::solve(true, b, &mut xs, &mut zs);
         coefficients::signed(b, c, &zs, &mut xs);
-        store(b, c, &limits, &xs, &mut out)?;
+        store(b, c, &limits, &xs, out)?;
     }
-    Ok(out)
+    Ok(())
+}
+
+// The corner records of a cell of n axes, with the degree as a constant.
+fn records_of(m: Orders, n: usize, cs: &[i32], out: &mut [i32; 216]) -> Result<(), Refusal>
+    requires { (1 ≤ n) × (n ≤ 3) × (length cs.now ≡ coefficient_count m.count n) }
+    ensures result_value { outcome_of result ≡ possible_outcome m.count n cs.now }
+    ensures i_after { outcome_of result ≡ done tt → (i : ℕ) → i < coefficient_count m.count n → at out.new i ≡ entry_of m.count n cs.now i }
+{
+    if m.count == 2 {
+        return corner_records(Block::of(Orders::cubic(), n), cs, out);
+    }
+    corner_records(Block::of(Orders::quintic(), n), cs, out)
 }
 
 // 1, 2, 15, 9.
@@ -103,8 +114,9 @@ pub fn corners(axes: u32, degree: u32, coefficients: &[i32], out: &mut [i32]) ->
     ensures out_after { out.new ≡ back_writes axes degree coefficients.now out.old }
 {
     check_numbers(axes, degree, coefficients.len(), out.len())?;
-    let block = Block::of(lattice::orders(degree), axes as usize);
-    let xs = corner_records(block, coefficients)?;
+    let m = lattice::orders(degree);
+    let mut xs = [0i32; 216];
+    records_of(m, axes as usize, coefficients, &mut xs)?;
     let count = coefficients::coefficient_count(axes, degree);
     out[..count].copy_from_slice(&xs[..count]);
     Ok(())

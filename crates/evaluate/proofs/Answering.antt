@@ -315,7 +315,7 @@ module _ {round : Rounding} (sound : Sound round) (s : Shape) (rs : List ℤ) (c
     all-steps (a ∷ ls) [] h i = absurd i
     all-steps (a ∷ ls) (v ∷ ws) h i = (subst (λ (u : ℕ). u ≤ steps) (sym i.0.step_is) h.0.step, all-steps ls ws h.1 i.1)
 
-    pub workable : Workable round l.orders.count order b vs (length rs) (at rs) l.base
+    pub workable : Workable round l.orders order b vs (length rs) (at rs) l.base
     unfolding ask_at
     workable =
         subst (λ (m : ℕ). Workable round m order b vs (length rs) (at rs) l.base) (sym ready.laid.orders-are)
@@ -340,20 +340,20 @@ module _ {round : Rounding} (sound : Sound round) (s : Shape) (rs : List ℤ) (c
             (safe prior xs (others-held xs hx) (distinct-before q) plain)
 
     -- by the layout as by the shape and the cell
-    laid_out : (Is : ℕ → ℕ → Axis → List Axis → Type 0) → WorkedOff l.orders.count order b vs (Is l.orders.count l.base)
+    laid_out : (Is : ℕ → ℕ → Axis → List Axis → Type 0) → WorkedOff l.orders order b vs (Is l.orders l.base)
         → WorkedOff m order b vs (Is m (base s cell))
     laid_out Is w =
         subst (λ (m : ℕ). WorkedOff m order b vs (Is m (base s cell))) ready.laid.orders-are
-        (subst (λ (p : ℕ). WorkedOff l.orders.count order b vs (Is l.orders.count p)) ready.laid.base-is w)
+        (subst (λ (p : ℕ). WorkedOff l.orders order b vs (Is l.orders p)) ready.laid.base-is w)
 
-    pub worked-answer : (r : ℤ) → WorkedOff l.orders.count order b vs (Gives round l.orders.count (at rs) l.base r)
+    pub worked-answer : (r : ℤ) → WorkedOff l.orders order b vs (Gives round l.orders (at rs) l.base r)
         → r ≡ answer_by round (ask_at s want cell step) (records_field s rs)
     worked-answer r h =
         let w = laid_out (λ m p. Gives round m (at rs) p r) h in
         w.is ∙ sym (answer-is s ok cell here sound rs want step w.last w.others ready.last
         (last-held w.last w.made-last) (others-held w.others w.made))
 
-    pub worked-exact : (c : Bool) → WorkedOff l.orders.count order b vs (Cleans round l.orders.count (at rs) l.base c)
+    pub worked-exact : (c : Bool) → WorkedOff l.orders order b vs (Cleans round l.orders (at rs) l.base c)
         → c ≡ exact_by round (ask_at s want cell step) (records_field s rs)
     worked-exact c h =
         let w = laid_out (λ m p. Cleans round m (at rs) p c) h in
@@ -378,15 +378,15 @@ module _ {round : Rounding} (sound : Sound round) (s : Shape) (rs : List ℤ) (c
     unfolding before ask_at
     are-in = subst (λ (ls : List ℕ). AreAxes s step ls vs) (sym (ap₂ (λ (i j : ℕ). without i (axes j)) ea en)) are
 
-    pub workable-in : Workable round l.orders.count order b vs (length rs) (at rs) l.base
+    pub workable-in : Workable round l.orders order b vs (length rs) (at rs) l.base
     workable-in = workable order (order_is s.axes) b vs last-in are-in
 
-    pub answer-in : (r : ℤ) → WorkedOff l.orders.count order b vs (Gives round l.orders.count (at rs) l.base r)
+    pub answer-in : (r : ℤ) → WorkedOff l.orders order b vs (Gives round l.orders (at rs) l.base r)
         → r ≡ answer_by round (ask_at s want cell step) (records_field s rs)
     answer-in = worked-answer order (order_is s.axes) b vs last-in are-in
 
     -- what is reported is the answer and its mark
-    pub reported-in : (r : Rounded) → WorkedOff l.orders.count order b vs (Reports round l.orders.count (at rs) l.base r)
+    pub reported-in : (r : Rounded) → WorkedOff l.orders order b vs (Reports round l.orders (at rs) l.base r)
         → (r.number ≡ answer_by round (ask_at s want cell step) (records_field s rs))
         × (eqb r.rest 0 ≡ exact_by round (ask_at s want cell step) (records_field s rs))
     reported-in r w = (
@@ -396,7 +396,7 @@ module _ {round : Rounding} (sound : Sound round) (s : Shape) (rs : List ℤ) (c
 
 -- the axes of a layout
 module _ (s : Shape) (cell : Place) (xs : List ℕ) (l : Layout) (laid : Laid s cell l) where
-  pub is-axis : (a : ℕ) → a < 3 → IsAxis s (place_at xs) a (strides_of (get_or xs a 0) (get_or l.strides a 0) (l.orders.count ^ a))
+  pub is-axis : (a : ℕ) → a < 3 → IsAxis s (place_at xs) a (strides_of (get_or xs a 0) (get_or l.strides a 0) (l.orders ^ a))
   unfolding place_at order_stride
   is-axis a h = record {
     step_is = sym (pick_true (ltb a 3) (get_or xs a 0) 0 (lt-ltb a 3 h));
@@ -416,11 +416,11 @@ are-axes s step false i j a b h k = (h, tt)
 
 module _ {round : Rounding} (sound : Sound round) (s : Shape) (rs : List ℤ) (cell : Place) (xs : List ℕ) (order axis : ℕ) (l : Layout)
     (ready : Ready s rs cell (place_at xs) (want_of order axis) l) where
-  pub orders-low : l.orders.count ≤ 3
+  pub orders-low : l.orders ≤ 3
   orders-low = subst (λ (i : ℕ). i ≤ 3) (sym ready.laid.orders-are) (orders-range s.degree).1
 
   -- the strides that the code finds
-  pub found : (a : ℕ) → a < 3 → (v : Strides) → v ≡ strides_of (get_or xs a 0) (get_or l.strides a 0) (l.orders.count ^ a)
+  pub found : (a : ℕ) → a < 3 → (v : Strides) → v ≡ strides_of (get_or xs a 0) (get_or l.strides a 0) (l.orders ^ a)
       → IsAxis s (place_at xs) a v
   found a h v e = subst (IsAxis s (place_at xs) a) (sym e) (is-axis s cell xs l ready.laid a h)
 

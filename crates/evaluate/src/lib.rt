@@ -238,14 +238,14 @@ fn first_stages(even: bool, m: Orders, y: Axis, x: Axis, records: &[i32], p: usi
 }
 
 // Where number t of two ends stands: those of the low end first.
-pub fn place_at(m: Orders, order: usize, node: usize, t: usize) -> usize
-    requires { (t < 2 * m.count) × (place_of m.count order node t < 2 ^ 64) }
-    ensures { result ≡ place_of m.count order node t }
+pub fn place_at(m: usize, order: usize, node: usize, t: usize) -> usize
+    requires { (t < 2 * m) × (place_of m order node t < 2 ^ 64) }
+    ensures { result ≡ place_of m order node t }
 {
-    if t < m.count {
+    if t < m {
         return t * order;
     }
-    node + (t - m.count) * order
+    node + (t - m) * order
 }
 
 // The numbers of two ends, each what `number` gives at its index, and what was dropped of them.
@@ -263,7 +263,7 @@ pub fn two_ends<F: Fn(usize) -> Rounded>(
     let mut n = [0i64; 6];
     let mut rest: u64 = 0;
     for t in 0..2 * m.count {
-        let r = number(p + place_at(m, order, node, t));
+        let r = number(p + place_at(m.count, order, node, t));
         n[t] = r.number;
         rest = r.rest | rest;
     }
@@ -446,7 +446,7 @@ pub fn on_line(
     ensures number_value { result.number ≡ answer_by (rounding_of even) (ask_at s (wanted derivative) (place_at cell) (place_at step)) (records_field s records.now) }
     ensures exact_value { result.exact ≡ exact_by (rounding_of even) (ask_at s (wanted derivative) (place_at cell) (place_at step)) (records_field s records.now) }
 {
-    let m = l.orders;
+    let m = Orders { count: l.orders };
     let x = strides_of(m, step, l, 0);
     let r = one_axis_by_kind(even, m, derivative.order, x, records, l.base);
     Value {
@@ -470,7 +470,7 @@ pub fn on_lattice(
     ensures number_value { result.number ≡ answer_by (rounding_of even) (ask_at s (wanted derivative) (place_at cell) (place_at step)) (records_field s records.now) }
     ensures exact_value { result.exact ≡ exact_by (rounding_of even) (ask_at s (wanted derivative) (place_at cell) (place_at step)) (records_field s records.now) }
 {
-    let m = l.orders;
+    let m = Orders { count: l.orders };
     let n = s.axes;
     let last = last_axis(n, derivative);
     let x = strides_of(m, step, l, 0);

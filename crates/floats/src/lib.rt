@@ -1,7 +1,7 @@
 // Float positions as steps, and whole numbers as floats.
 #![tactic(auto)]
 
-ghost use Rattle.std.specs.Prelude.{◌≡◌, false, not, ◌<◌, ◌^◌, T, pos, nat_abs, Some, None};
+ghost use Rattle.std.specs.Prelude.{◌≡◌, false, not, ◌<◌, ◌^◌, T, pos, nat_abs, Some, None, is_some, unwrap_or};
 ghost use Rattle.std.proofs.Math.Option.{some};
 ghost use Rattle.std.specs.Float.{fin};
 ghost use Rattle.std.specs.Float.Ieee.{is_nan};
@@ -52,7 +52,9 @@ fn scale_of(steps: u32) -> f32
 
 // The step of an axis that x becomes, at most as far as an i32 goes; none where x is not finite.
 pub fn step_of(steps: u32, x: f32) -> Option<i32>
-    ensures { result ≡ pick (finite x) (Some (clamped (step (2 ^ power_of steps) x))) None }
+    ensures result_value { result ≡ pick (finite x) (Some (clamped (step (2 ^ power_of steps) x))) None }
+    ensures finite_value { is_some result ≡ finite x }
+    ensures step_value { unwrap_or result (pos 0) ≡ clamped (step (2 ^ power_of steps) x) }
 {
     if x.is_finite() {
         Some(nearest(x * scale_of(steps)))

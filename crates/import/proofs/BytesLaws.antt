@@ -7,7 +7,7 @@ use native.Mathlib.Numerals.{add-one}
 use native.Mathlib.Nat.{le_of_suc-le-suc}
 use native.Mathlib.Omega.{arith}
 use lib.Dec.{eqb}
-use lib.ListN.{length, get_or, take, drop, take-append-drop, length-drop}
+use lib.ListN.{length, get_or, take, drop, take-append-drop, drop_of_length-le, length-drop}
 use lib.Seq.{drop-cons}
 use borrow.Author.Tests.{ne_eqb}
 use Rattle.std.specs.List.{prefix_len}
@@ -65,6 +65,15 @@ module _ (kind : ℕ → Bool) where
   -- ---- from byte i on
 
   module _ (l : List ℕ) (i : ℕ) where
+    pub run_end : length l ≤ i → length (leading kind (drop i l)) ≡ 0
+    unfolding leading
+    run_end h = ap (λ (r : List ℕ). length (leading kind r)) (drop_of_length-le l h)
+
+    pub run-stops : i < length l → kind (get_or l i 0) ≡ false → length (leading kind (drop i l)) ≡ 0
+    unfolding leading
+    run-stops h e = rw (drop-cons l i 0 h) (ap length (pick-false (kind (get_or l i 0)) (get_or l i 0 ∷ leading kind (drop (suc i) l)) []
+        e))
+
     pub run_more : i < length l → kind (get_or l i 0) ≡ true → length (leading kind (drop i l)) ≡ suc
         (length (leading kind (drop (i + 1) l)))
     unfolding leading

@@ -41,6 +41,10 @@ module _ (part : List ℕ) where
   unfolding fits_frac
   frac-absent e = rw e
 
+  pub int-wrong : fits_int (digits (skip 45 45 part)) ≡ false → fits part ≡ false
+  unfolding fits
+  int-wrong e = rw e
+
   pub int-right : fits_int (digits (skip 45 45 part)) ≡ true → fits part ≡ fits_frac (frac_part part)
   unfolding fits
   int-right e = rw e

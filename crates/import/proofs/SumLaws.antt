@@ -32,6 +32,14 @@ capped-large v h = go (dec_le v most)
     go (yes l) = pick_true (leb v most) v most (le-leb v most l) ∙ omega arith
     go (no l) = pick-false (leb v most) v most (lt-leb v most (omega (arith, l)))
 
+pub capped-high : (v : ℕ) → capped v ≤ most
+unfolding capped
+capped-high v = go (dec_le v most)
+  where
+    go : Dec (v ≤ most) → pick (leb v most) v most ≤ most
+    go (yes l) = rw (pick_true (leb v most) v most (le-leb v most l)) l
+    go (no l) = rw (pick-false (leb v most) v most (lt-leb v most (omega (arith, l)))) (omega arith)
+
 -- it is v, or both are `most` or more
 pub capped-or : {P : Type 0} (v : ℕ) → (capped v ≡ v → P) → (capped v ≡ most → most ≤ v → P) → P
 capped-or {P} v f g = go (dec_le v most)

@@ -102,10 +102,10 @@ module _ (s : Shape) (cell : Place) (room : ℕ) (rs : List ℤ) (ok : Asked s (
         entry = nat_abs (records_field s rs (corner_place s cell (column_entry K)))
 
   module _ (l : Layout) (laid : Laid s cell l) where
-    pub pair-gathered : Gathered l.orders.count s.axes l rs → Gathered 2 2 l rs
+    pub pair-gathered : Gathered l.orders s.axes l rs → Gathered 2 2 l rs
     pair-gathered g =
         subst (λ (m : ℕ). Gathered m 2 l rs) (laid.orders-are ∙ ok.cubic)
-        (subst (λ (n : ℕ). Gathered l.orders.count n l rs) ok.two g)
+        (subst (λ (n : ℕ). Gathered l.orders n l rs) ok.two g)
 
     -- a column as the layout finds it
     column-is : (K : ℕ) → K < 16 → factor K *ℤ records_field s rs (λ a. 2 * cell a + column_numbers K a) ≡ column_at l rs K

@@ -345,7 +345,7 @@ module _ (s : Shape) (even : Bool) (rs : List â„¤) (want : Want) (cell : List â„
     where
       laid : Layout
       laid = record {
-        orders = record { count = orders s; bounds = orders-range s.degree };
+        orders = orders s;
         entries = entries s;
         base = base s (place_at cell);
         strides =

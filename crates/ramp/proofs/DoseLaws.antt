@@ -1,5 +1,5 @@
 -- The stages in the table of one cell: the strides of its axes, what the stages ask for, and that they give the dose.
-use mathlib.Core.Path.{◌≡◌, refl, sym, ap, ap₂, subst, ◌∙◌}
+use mathlib.Core.Path.{◌≡◌, refl, sym, ap, ap₂, ◌∙◌}
 use mathlib.Core.List.{List, [], ◌∷◌}
 use Prim.Native.Nat.{ℕ, ◌*◌, ◌^◌, ◌≤◌, ◌<◌}
 use native.Mathlib.Nat.{pow-zero}
@@ -44,7 +44,7 @@ module _ (s : Shape) (held : List ℤ) (xs : List ℕ) (f : Readable s held (pla
     (E-is : m ^ n ≡ E) where
   layout : Layout
   layout = record {
-    orders = record { count = m; bounds = subst (λ (k : ℕ). (2 ≤ k) × (k ≤ 3)) m-is (orders-range s.degree) };
+    orders = m;
     entries = E;
     base = 0;
     strides = node_stride (one s) 0 ∷ node_stride (one s) 1 ∷ node_stride (one s) 2 ∷ [];

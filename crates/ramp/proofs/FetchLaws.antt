@@ -32,7 +32,7 @@ use Rattle.ramp.proofs.RowLaws.{rows_fit}
 -- ---- by themselves
 
 -- the record of corner c stands behind c records
-pub alone-start : (m : Orders) (e c : ℕ) → c < 8 → start_of (layout_alone m e) c ≡ e * c
+pub alone-start : (m e c : ℕ) → c < 8 → start_of (layout_alone m e) c ≡ e * c
 alone-start m e c h =
     let k : c % 2 + 2 * (c / 2 % 2) + 4 * (c / 2 / 2) ≡ c = omega arith in
     digits (c % 2) (c / 2 % 2) (c / 2 / 2) ∙ ap (λ (i : ℕ). e * i) k
@@ -41,7 +41,7 @@ alone-start m e c h =
     digits x y z = omega arith
 
 -- all of them fit the array
-pub alone-rows : (m : Orders) (e rows : ℕ) (held : List ℤ) → 1 ≤ e → e ≤ 27 → rows ≤ 4 → length held ≡ 216
+pub alone-rows : (m e rows : ℕ) (held : List ℤ) → 1 ≤ e → e ≤ 27 → rows ≤ 4 → length held ≡ 216
     → CornerRows (layout_alone m e) held e rows
 alone-rows m e rows held some low few long =
     record {
@@ -59,7 +59,7 @@ alone-rows m e rows held some low few long =
     alone-small : Small (layout_alone m e)
     alone-small = record { base-low = omega arith; x-low = omega arith; y-low = omega arith; z-low = omega arith }
 
-module _ (l : Layout) (rs held limits : List ℤ) (m : Orders) (e corners : ℕ) (some : 1 ≤ e) (few : corners ≤ 8)
+module _ (l : Layout) (rs held limits : List ℤ) (m e corners : ℕ) (some : 1 ≤ e) (few : corners ≤ 8)
     (c : Copied l rs e (e * corners) held) where
   entry-same : (i j : ℕ) → i < corners → j < e → at held (start_of (layout_alone m e) i + j) ≡ at rs (start_of l i + j)
   entry-same i j h k =
@@ -85,7 +85,7 @@ module _ (l : Layout) (rs held limits : List ℤ) (m : Orders) (e corners : ℕ)
 -- ---- those of a cell of a table of m orders and n axes: E entries a record, 2·rows records
 
 module _ (s : Shape) (cell : List ℕ) (l : Layout) (rs : List ℤ) (ok : Shaped s) (here : Accepted s (place_at cell))
-    (laid : Laid s (place_at cell) l) (m n E rows : ℕ) (m-is : l.orders.count ≡ m) (n-is : s.axes ≡ n) (E-is : m ^ n ≡ E)
+    (laid : Laid s (place_at cell) l) (m n E rows : ℕ) (m-is : l.orders ≡ m) (n-is : s.axes ≡ n) (E-is : m ^ n ≡ E)
     (rows_are : 2 ^ n ≡ 2 * rows) where
   E-here : entries s ≡ E
   E-here = E-in s cell l laid m n E rows m-is n-is E-is rows_are
@@ -145,7 +145,7 @@ module _ (s : Shape) (rs : List ℤ) (cell : List ℕ) (ok : Shaped s) (long : l
       let same = laid.orders-are ∙ sym m-is in
       let tested = called s cell l laid m.count n E rows same n-is E-is rows_are rs limits ok long here m.count refl row some low few in
       record {
-        asked = tested.asked;
+        asked = tested.asked.0;
         is_held = held-is s cell l rs ok here laid m.count n E rows same n-is E-is rows_are fit;
         is = tested.same;
       }

@@ -53,6 +53,10 @@ module _ (cell : ℕ → Place) where
   unfolding fetches changes
   fetches-more n = omega arith
 
+  pub fetches-some : (n : ℕ) → fetches cell (suc n) ≡ 0 → ⊥
+  unfolding fetches
+  fetches-some n h = omega arith
+
   -- there are at most as many as queries
   pub fetches-few : (n : ℕ) → fetches cell n ≤ n
   unfolding fetches changes pick

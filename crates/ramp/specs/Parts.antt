@@ -7,7 +7,6 @@ use Rattle.lattice.specs.Buffer.{at}
 use Rattle.lattice.specs.Shape.{size, shape_outcome, Shaped}
 use Rattle.lattice.specs.Axes.{Place, origin}
 use Rattle.hermite.specs.Hermite.{steps}
-use Rattle.lattice.specs.declared.order_count.Orders.{Orders}
 use Rattle.cell.specs.declared.Layout.{Layout}
 use Rattle.cell.specs.Cell.{place_at, corners_outcome, Accepted, start_of}
 use Rattle.cell.specs.Corners.{corner_records, one_cell}
@@ -53,7 +52,7 @@ abbrev pub corner_entry_at : Layout → List ℤ → ℕ → ℕ → ℤ
 corner_entry_at l rs e i = at rs (start_of l (i / e) + i % e)
 
 -- where they stand by themselves
-abbrev pub layout_alone : Orders → ℕ → Layout
+abbrev pub layout_alone : ℕ → ℕ → Layout
 layout_alone m e = record { orders = m; entries = e; base = 0; strides = e ∷ 2 * e ∷ 4 * e ∷ [] }
 
 -- the first k of them stand in front of an array

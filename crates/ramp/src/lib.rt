@@ -11,7 +11,7 @@ ghost use Rattle.lattice.specs.Axes.{origin};
 ghost use Rattle.lattice.specs.Records.{records_field};
 ghost use Rattle.cell.specs.Cell.{place_at, corners_outcome, Accepted, limit_in, record_outcome, start_of, CornerRows};
 ghost use Rattle.evaluate.specs.Evaluate.{dose, ask_at, answer_by};
-ghost use Rattle.evaluate.specs.Stages.{strides_of, Workable, WorkedOff, Gives, AllPrepared, Safe, Reported};
+ghost use Rattle.evaluate.specs.Stages.{strides_of, after, Workable, WorkedOff, Gives, AllPrepared, Safe, Reported};
 ghost use Rattle.hermite.specs.Stage.{shift_of};
 ghost use Rattle.query.specs.Parts.{finest};
 ghost use Rattle.query.specs.Queries.{position_at};
@@ -121,7 +121,7 @@ fn copy_rows(e: usize, rows: usize, records: &[i32], l: Layout, held: &mut [i32;
 }
 
 // Where the corner records of a cell stand by themselves, e entries each.
-fn layout_alone(m: Orders, e: usize) -> Layout
+fn layout_alone(m: usize, e: usize) -> Layout
     requires { e ≤ 27 }
     ensures { result ≡ layout_alone m e }
 {
@@ -148,7 +148,7 @@ fn copy_within(
     ensures value { result ≡ passed (first_of (2 * rows) (λ c. record_outcome (limit_in limits.now.limits) e records.now (start_of l c))) }
 {
     copy_rows(e, rows, records, l, held);
-    cell::all_within(limits, e, rows, held, layout_alone(l.orders, e))
+    cell::all_within(&limits.limits, e, rows, held, layout_alone(l.orders, e))
 }
 
 // Fetches the corner records of a cell, and says whether they are within their limits; m is a constant of the call.
@@ -313,6 +313,19 @@ fn first_stages(even: bool, m: Orders, y: Axis, x: Axis, held: &[i32], p: usize)
     evaluate::by_kind(even, m, |even, m| middle_by(even, m, y, x, held, p))
 }
 
+// The number after the first two stages; a ramp carries no mark, so what was dropped is not kept.
+fn unmarked(even: bool, m: Orders, y: Axis, x: Axis, held: &[i32], p: usize) -> Rounded
+    requires all_prepared { AllPrepared m.count (y ∷ x ∷ []) × AlongY m.count y × AlongX m.count x }
+    requires safe { Safe (rounding_of even) m.count (length held.now) (y ∷ x ∷ []) (at held.now) p }
+    ensures { (result.number ≡ after (rounding_of even) m.count (y ∷ x ∷ []) (at held.now) p) × (result.rest ≡ 0) }
+{
+    let r = first_stages(even, m, y, x, held, p);
+    Rounded {
+        number: r.number,
+        rest: 0,
+    }
+}
+
 // The stages of three axes.
 fn in_space(even: bool, m: Orders, u: u32, v: u32, w: u32, held: &[i32]) -> i64
     requires { Workable (rounding_of even) m.count 0 (strides_of w (4 * (m.count * m.count * m.count)) (m.count * m.count)) (strides_of v (2 * (m.count * m.count * m.count)) m.count ∷ strides_of u (m.count * m.count * m.count) 1 ∷ []) (length held.now) (at held.now) 0 }
@@ -337,13 +350,7 @@ fn in_space(even: bool, m: Orders, u: u32, v: u32, w: u32, held: &[i32]) -> i64
     let z = evaluate::axis_of(m, 0, true, false, along_z);
     let x = evaluate::axis_of(m, 0, false, true, along_x);
     let y = evaluate::axis_of(m, 0, true, true, along_y);
-    let both = evaluate::two_ends(
-        m,
-        0,
-        z.order,
-        z.node,
-        |p| first_stages(even, m, y, x, held, p),
-    );
+    let both = evaluate::two_ends(m, 0, z.order, z.node, |p| unmarked(even, m, y, x, held, p));
     let r = hermite::stage(even, m.count, z.basis, z.shift, both);
     r.number
 }

@@ -8,7 +8,7 @@ use lib.Dec.{lit<}
 use mir.Syntax.{w32}
 use Rattle.std.specs.Int.{from_le_bytes}
 use Rattle.std.specs.Simd.{first_chunks}
-use lib.ListN.{length, get_or, take, drop, length-append, length-drop, get_or-eq_default}
+use lib.ListN.{length, get_or, set, take, drop, length-append, length-drop, get_or-eq_default}
 use borrow.Rule.Slice.PartMut.{put_mid}
 use Rattle.std.proofs.lemmas.List.{drop-drop}
 use lib.Seq.{sets, sets-eq, take-add, length-take-le, get_or-append-add, get_or-take, get_or-drop}
@@ -35,6 +35,16 @@ bytes-are v =
 
 pub length-bytes : (v : ℕ) → length (bytes_of v) ≡ 4
 length-bytes v = ap length (bytes-are v)
+
+-- 4 stores
+pub stores-are : (l : List ℕ) (at v : ℕ)
+    → set (set (set (set l at (v % 256)) (at + 1) (v / 256 % 256)) (at + 2) (v / 65536 % 256)) (at + 3) (v / 16777216 % 256) ≡ sets l at
+    (bytes_of v)
+stores-are l at v =
+    let e₁ : at + 1 ≡ suc at = omega arith in
+    let e₂ : at + 2 ≡ suc (suc at) = omega arith in
+    let e₃ : at + 3 ≡ suc (suc (suc at)) = omega arith in
+    rw (e₁, e₂, e₃, bytes-are v) refl
 
 -- the bytes of a number put over four others
 pub four-put : (l new : List ℕ) (at k v : ℕ) → at + 4 ≤ length l → k ≡ 4 → new ≡ bytes_of v → put_mid at k l new ≡ sets l at (bytes_of v)

@@ -144,7 +144,7 @@ module _ (s : Shape) (ok : Shaped s) (from to : Place) (box : Boxed s from to) (
             next e k = omega arith
 
     -- the limits that the code holds
-    module _ (limits : List ℤ) (are : (e : ℕ) → e < l.orders.count ^ 3 → at limits e ≡ pos (limit_of l.orders.count e)) where
+    module _ (limits : List ℤ) (are : (e : ℕ) → e < l.orders ^ 3 → at limits e ≡ pos (limit_of l.orders e)) where
       limit-at : (e : ℕ) → e < entries s → at limits e ≡ pos (limit_of (orders s) e)
       limit-at e h = are e (rw laid.orders-are (entry-below e h))
           ∙ ap (λ (m : ℕ). pos (limit_of m e)) laid.orders-are

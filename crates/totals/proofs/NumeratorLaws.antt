@@ -251,7 +251,7 @@ module _ (s : Shape) (ok : Shaped s) (from to : Place) (boxed : Boxed s from to)
   -- ---- row by row
 
   module _ (l : Layout) (laid : Laid s from l) (Ks : List ℕ) (cells : (a : ℕ) → a < 3 → get_or Ks a 0 ≡ K a) where
-    pub groups-are : l.entries / l.orders.count ≡ M 1 * M 2
+    pub groups-are : l.entries / l.orders ≡ M 1 * M 2
     groups-are =
         rw (laid.entries-are, laid.orders-are, entries-are)
         (ap (λ (x : ℕ). x / m) (sym (add-zero (m * (M 1 * M 2)))) ∙ high_digit m (M 1 * M 2) 0 (let h = some in omega arith))
@@ -314,7 +314,7 @@ module _ (s : Shape) (ok : Shaped s) (from to : Place) (boxed : Boxed s from to)
                 cells 2 (lit< tt),
               ) refl
 
-    pub numerator-rows : rows_sum l.orders.count (l.entries / l.orders.count) l Ks rs ≡ box_numerator m n from to g
+    pub numerator-rows : rows_sum l.orders (l.entries / l.orders) l Ks rs ≡ box_numerator m n from to g
     unfolding rows_sum row_sum row_count node_sum
     numerator-rows =
         ap₂ (λ (p q : ℕ). rows_sum p q l Ks rs) laid.orders-are groups-are

@@ -110,6 +110,10 @@ module _ (limits : ℕ → ℕ) (l : Layout) (K : List ℕ) (rs : List ℤ) wher
       → first_of (get_or K 0 0 + 1) (λ i. record_outcome limits l.entries rs (p + l.entries * i)) ≡ row-test r
   tested-at p r e = ap (λ (q : ℕ). first_of (get_or K 0 0 + 1) (λ i. record_outcome limits l.entries rs (q + l.entries * i))) e
 
+-- the record of node i of a row of its own
+abbrev pub record-of : ℕ → ℕ → ℕ → List ℤ → List ℤ → ℕ → ℤ
+record-of m k K ys row i = record_sum m k (taken_at m K i) (at ys) row (0 + m * k * i)
+
 -- a row
 module _ (m k K : ℕ) (y : ℕ → ℤ) (rs : List ℤ) (p : ℕ) (m2 : 2 ≤ m) (m3 : m ≤ 3) (few : K ≤ 63)
     (light : total k (λ g. nat_abs (y g)) ≤ 2 ^ 14) (within : EntriesWithin (2 ^ 21) rs p (m * k * (K + 1))) where

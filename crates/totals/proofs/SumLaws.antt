@@ -1,18 +1,19 @@
 -- Sums of the code: one product more of a factor and an entry; how large groups, records and rows are.
-use mathlib.Core.Path.{◌≡◌, sym, ap, ap₂, subst, ◌∙◌}
+use mathlib.Core.Path.{◌≡◌, refl, sym, ap, ap₂, subst, ◌∙◌}
 use mathlib.Core.List.{List}
 use mathlib.Core.Logic.{⊎_elim}
 use Prim.Native.Nat.{ℕ, zero, suc, ◌+◌, ◌*◌, ◌^◌, ◌≤◌, ◌<◌}
-use native.Mathlib.Nat.{le_trans, le_of_eq, le-add_left, mul-le-mul, mul-le-mul_left, mul-le-mul_right, zero-add, eq-or-lt_of_le}
+use native.Mathlib.Nat.{le_trans, le_of_eq, le-add_left, mul-le-mul, mul-le-mul_left, mul-le-mul_right, zero-add, add-zero, eq-or-lt_of_le}
 use native.Mathlib.Omega.{arith}
 use lib.Dec.{lit<, lit≤}
-use lib.IntN.{ℤ, nat_abs, ◌+ℤ◌, ◌*ℤ◌}
+use lib.IntN.{ℤ, pos, nat_abs, ◌+ℤ◌, ◌*ℤ◌}
 use lib.Signed.{mag}
 use mir.Syntax.{w32, w64}
 use mir.Val.{SFits, to_z, of_z}
 use Rattle.arith.specs.Sum.{sum, total}
-use Rattle.arith.proofs.Abs.{abs-add, abs-mul-le, sfits-abs}
-use Rattle.arith.proofs.Machine.{element, near, kept}
+use Rattle.arith.proofs.Abs.{abs-add, abs-mul, abs-mul-le, sfits-abs}
+use Rattle.arith.proofs.Machine.{element, widened, near, kept, kept_low}
+use Rattle.arith.proofs.Choices.{by_2, by-3}
 use Rattle.arith.proofs.Sums.{sum-ext, total-part, abs-weighted}
 use Rattle.lattice.specs.Buffer.{at}
 use Rattle.lattice.proofs.DigitsLaws.{group-room}
@@ -102,23 +103,117 @@ weighted-low n k f A B small within = le_trans (abs-weighted n k f B within) (mu
 
 -- a product of two factors
 module _ (f k : ℤ) (hf : nat_abs f ≤ 128) (hk : nat_abs k ≤ 128) where
-  product_is : factor_read f *ℤ factor_read k ≡ f *ℤ k
-  product_is = ap₂ ◌*ℤ◌ (kept f 128 hf (lit< tt)) (kept k 128 hk (lit< tt))
+  factors_product : factor_read f *ℤ factor_read k ≡ f *ℤ k
+  factors_product = ap₂ ◌*ℤ◌ (kept f 128 hf (lit< tt)) (kept k 128 hk (lit< tt))
 
   pub pair-fits : SFits w64 (factor_read f *ℤ factor_read k)
-  pair-fits = rw product_is (sfits-abs (f *ℤ k) (let h = abs-mul-le f k hf hk in omega arith))
+  pair-fits = rw factors_product (sfits-abs (f *ℤ k) (let h = abs-mul-le f k hf hk in omega arith))
 
   pub pair_is : factor_read (factor_read f *ℤ factor_read k) ≡ f *ℤ k
-  pair_is = rw product_is (kept (f *ℤ k) (128 * 128) (abs-mul-le f k hf hk) (lit< tt))
+  pair_is = rw factors_product (kept (f *ℤ k) (128 * 128) (abs-mul-le f k hf hk) (lit< tt))
 
 -- at most nine groups
 pub nine : (m g : ℕ) → m ≤ 3 → g < m * m → g < 9
 nine m g h l = let k = mul-le-mul h h in omega arith
 
--- ---- an order more of a group, as the code reads its factor and its entry
+-- ---- a factor and an entry, as the code reads them
 
 abbrev pub entry_read : ℤ → ℤ
 entry_read r = to_z w64 (of_z w64 (to_z w32 (of_z w32 r)))
+
+module _ (f r : ℤ) (hf : nat_abs f ≤ 128) (hr : mag r < 2 ^ 31) where
+  pub product-low : nat_abs (factor_read f) * nat_abs (entry_read r) ≤ 2 ^ 38
+  product-low = rw (kept f 128 hf (lit< tt), widened r hr) (mul-le-mul hf (near r hr))
+
+  pub product_is : factor_read f *ℤ entry_read r ≡ f *ℤ r
+  product_is = rw (kept f 128 hf (lit< tt), widened r hr) refl
+
+  -- one more
+  pub more-low : (y z : ℤ) (B : ℕ) → nat_abs y ≤ B → z ≡ y +ℤ factor_read f *ℤ entry_read r → nat_abs z ≤ B + 2 ^ 38
+  more-low y z B h e =
+      let a = abs-add y (factor_read f *ℤ entry_read r) in
+      let b = abs-mul (factor_read f) (entry_read r) in
+      let d = product-low in
+      let k = ap nat_abs e in
+      omega arith
+
+-- ---- groups, in a straight line
+
+group-two : (x rs : List ℤ) (p : ℕ) → (pos 0 +ℤ at x 0 *ℤ at rs p) +ℤ at x 1 *ℤ at rs (p + 1) ≡ group_sum 2 (at x) rs p
+unfolding group_sum sum
+group-two x rs p = ap (λ (k : ℕ). (pos 0 +ℤ at x 0 *ℤ at rs k) +ℤ at x 1 *ℤ at rs (p + 1)) (sym (add-zero p))
+
+-- the sums on the way
+pub record Two (x rs : List ℤ) (p : ℕ) (y z : ℤ) : Type 0 where
+  pub one-low : nat_abs y ≤ 2 ^ 40
+  pub two-low : nat_abs z ≤ 2 ^ 40
+  pub two_is : z ≡ group_sum 2 (at x) rs p
+
+module _ (x rs : List ℤ) (p : ℕ) (light : total 2 (λ o. nat_abs (at x o)) ≤ 128) (a : mag (at rs p) < 2 ^ 31) where
+  first-low : nat_abs (at x 0) ≤ 128
+  first-low = le_trans (term-low 2 (λ o. nat_abs (at x o)) 0 (lit< tt)) light
+
+  second-low : nat_abs (at x 1) ≤ 128
+  second-low = le_trans (term-low 2 (λ o. nat_abs (at x o)) 1 (lit< tt)) light
+
+  pub one-within : (y : ℤ) → y ≡ pos 0 +ℤ factor_read (at x 0) *ℤ entry_read (at rs p) → nat_abs y ≤ 2 ^ 38
+  one-within y e = more-low (at x 0) (at rs p) first-low a (pos 0) y 0 (omega arith) e
+
+  pub one-asks : 0 + nat_abs (factor_read (at x 0)) * nat_abs (entry_read (at rs p)) < 2 ^ 63
+  one-asks = let h = product-low (at x 0) (at rs p) first-low a in omega arith
+
+  module _ (b : mag (at rs (p + 1)) < 2 ^ 31) (y : ℤ) (e : y ≡ pos 0 +ℤ factor_read (at x 0) *ℤ entry_read (at rs p)) where
+    pub two-asks : nat_abs (factor_read y) + nat_abs (factor_read (at x 1)) * nat_abs (entry_read (at rs (p + 1))) < 2 ^ 63
+    two-asks =
+        let h = product-low (at x 1) (at rs (p + 1)) second-low b in
+        let k = kept_low y (2 ^ 38) (one-within y e) (lit< tt) in
+        omega arith
+
+    pub two : (z : ℤ) → z ≡ factor_read y +ℤ factor_read (at x 1) *ℤ entry_read (at rs (p + 1)) → Two x rs p y z
+    two z f = record {
+      one-low = le_trans (one-within y e) (lit≤ tt);
+      two-low = le_trans (more-low (at x 1) (at rs (p + 1)) second-low b (factor_read y) z (2 ^ 38)
+          (kept_low y (2 ^ 38) (one-within y e) (lit< tt)) f) (lit≤ tt);
+      two_is = f
+          ∙ ap₂ ◌+ℤ◌ (kept y (2 ^ 38) (one-within y e) (lit< tt) ∙ e
+          ∙ ap (λ w. pos 0 +ℤ w) (product_is (at x 0) (at rs p) first-low a))
+          (product_is (at x 1) (at rs (p + 1)) second-low b)
+          ∙ group-two x rs p;
+    }
+
+module _ (x rs : List ℤ) (p : ℕ) (low : nat_abs (at x 2) ≤ 128) (b : mag (at rs (p + 2)) < 2 ^ 31) (y z : ℤ) (t : Two x rs p y z) where
+  pub three-asks : nat_abs (factor_read z) + nat_abs (factor_read (at x 2)) * nat_abs (entry_read (at rs (p + 2))) < 2 ^ 63
+  three-asks =
+      let h = product-low (at x 2) (at rs (p + 2)) low b in
+      let k = kept_low z (2 ^ 40) t.two-low (lit< tt) in
+      omega arith
+
+  pub three-is : (w : ℤ) → w ≡ factor_read z +ℤ factor_read (at x 2) *ℤ entry_read (at rs (p + 2)) → factor_read w ≡ group_sum 3 (at x) rs p
+  unfolding group_sum sum
+  three-is w f =
+      kept w (2 ^ 41)
+      (le_trans (more-low (at x 2) (at rs (p + 2)) low b (factor_read z) w (2 ^ 40) (kept_low z (2 ^ 40) t.two-low (lit< tt)) f)
+      (lit≤ tt))
+      (lit< tt)
+      ∙ f ∙ ap₂ ◌+ℤ◌ (kept z (2 ^ 40) t.two-low (lit< tt) ∙ t.two_is) (product_is (at x 2) (at rs (p + 2)) low b)
+
+-- entries that were read
+module _ (rs : List ℤ) (p : ℕ) (a : mag (at rs p) < 2 ^ 31) (b : mag (at rs (p + 1)) < 2 ^ 31) where
+  first-near : nat_abs (at rs (p + 0)) ≤ 2 ^ 31
+  first-near = subst (λ (k : ℕ). nat_abs (at rs k) ≤ 2 ^ 31) (sym (add-zero p)) (near (at rs p) a)
+
+  pub two-near : EntriesWithin (2 ^ 31) rs p 2
+  two-near = by_2 (λ o. nat_abs (at rs (p + o)) ≤ 2 ^ 31) first-near (near (at rs (p + 1)) b)
+
+  pub three-near : mag (at rs (p + 2)) < 2 ^ 31 → EntriesWithin (2 ^ 31) rs p 3
+  three-near c = by-3 (λ o. nat_abs (at rs (p + o)) ≤ 2 ^ 31) first-near (near (at rs (p + 1)) b) (near (at rs (p + 2)) c)
+
+pub group-low : (m : ℕ) (x rs : List ℤ) (p : ℕ) → total m (λ o. nat_abs (at x o)) ≤ 128 → EntriesWithin (2 ^ 31) rs p m
+    → nat_abs (group_sum m (at x) rs p) ≤ 2 ^ 38
+unfolding group_sum
+group-low m x rs p = weighted-low m (at x) (λ o. at rs (p + o)) 128 (2 ^ 31)
+
+-- ---- an order more of a group, as the code reads its factor and its entry
 
 module _ (x rs : List ℤ) (n i : ℕ) (light : total n (λ o. nat_abs (at x o)) ≤ 128) (l : i < n)
     (low : (j : ℕ) → j < i → nat_abs (at rs (0 + j)) ≤ 2 ^ 31) (f r z : ℤ) (factor : f ≡ at x i) (entry : r ≡ at rs i)

@@ -1,5 +1,5 @@
 -- What the total takes of the orders at a node: the numbers of the code, and how large they are.
-use mathlib.Core.Path.{◌≡◌, refl, sym, ap, ap₂, ◌∙◌}
+use mathlib.Core.Path.{◌≡◌, refl, sym, ap, ap₂, subst, ◌∙◌}
 use mathlib.Core.Bool.{Bool, true, false}
 use mathlib.Core.List.{List, [], ◌∷◌}
 use Prim.Native.Nat.{ℕ, ◌+◌, ◌-◌, ◌≤◌, ◌<◌}
@@ -67,6 +67,20 @@ module _ (m K j : ℕ) where
   unfolding taken_by pick
   taken_none m3 e = by_tests m K j true (ltb j K) (ltb 0 j) (eq-eqb K 0 e) refl refl (at (pos 1 ∷ pos 0 ∷ pos 0 ∷ []))
       (λ o l. by-3 (λ o. at (pos 1 ∷ pos 0 ∷ pos 0 ∷ []) o ≡ pick (eqb o 0) (pos 1) (pos 0)) refl refl refl o (omega arith))
+
+  -- of a node with a cell above it, below it
+  pub taken-cubic : (above below : Bool) → m ≡ 2 → 0 < K → ltb j K ≡ above → ltb 0 j ≡ below → (xs : List ℤ)
+      → at xs 0 ≡ taken_by 2 false above below 0 → at xs 1 ≡ taken_by 2 false above below 1 → Taken m K j xs
+  taken-cubic above below e k a b xs p q =
+      subst (λ (m : ℕ). (o : ℕ) → o < m → at xs o ≡ taken_at m K j o) (sym e)
+      (by_tests 2 K j false above below (ne_eqb K 0 (λ z. omega arith)) a b (at xs) (by_2 _ p q))
+
+  pub taken-quintic : (above below : Bool) → m ≡ 3 → 0 < K → ltb j K ≡ above → ltb 0 j ≡ below → (xs : List ℤ)
+      → at xs 0 ≡ taken_by 3 false above below 0 → at xs 1 ≡ taken_by 3 false above below 1 → at xs 2 ≡ taken_by 3 false above below 2
+      → Taken m K j xs
+  taken-quintic above below e k a b xs p q r =
+      subst (λ (m : ℕ). (o : ℕ) → o < m → at xs o ≡ taken_at m K j o) (sym e)
+      (by_tests 3 K j false above below (ne_eqb K 0 (λ z. omega arith)) a b (at xs) (by-3 _ p q r))
 
 -- by degree: at the first, at the last and at any other node
 abbrev pub numbers : List (List (List ℤ))

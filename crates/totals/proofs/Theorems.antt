@@ -294,7 +294,7 @@ module _ (s : Shape) (ok : Shaped s) (from to : Place) (box : Boxed s from to) (
     (passed : records_outcome s rs from to ≡ done tt) where
   layout : Layout
   layout = record {
-    orders = record { count = orders s; bounds = orders-range s.degree };
+    orders = orders s;
     entries = entries s;
     base = base s from;
     strides = node_stride s 0 ∷ node_stride s 1 ∷ node_stride s 2 ∷ [];
@@ -314,11 +314,11 @@ module _ (s : Shape) (ok : Shaped s) (from to : Place) (box : Boxed s from to) (
   walked : Walk layout K (length rs)
   walked = walk s ok from to box rs long layout laid K cells
 
-  row_low : (r : ℕ) → r < row_count K → nat_abs (row_sum layout.orders.count (layout.entries / layout.orders.count) (get_or K 0 0)
-      (across layout.orders.count K r) rs (row_start layout K r)) ≤ 2 ^ 48
+  row_low : (r : ℕ) → r < row_count K → nat_abs (row_sum layout.orders (layout.entries / layout.orders) (get_or K 0 0)
+      (across layout.orders K r) rs (row_start layout K r)) ≤ 2 ^ 48
   row_low r h = row_within _ _ (get_or K 0 0) _ rs (row_start layout K r) walked.orders-low walked.orders-high
       (walked.cells-few 0 (lit< tt))
-      (across-light layout.orders.count (layout.entries / layout.orders.count) K r walked.orders-low walked.orders-high walked.groups-few)
+      (across-light layout.orders (layout.entries / layout.orders) K r walked.orders-low walked.orders-high walked.groups-few)
       (subst (λ (e : ℕ). EntriesWithin (2 ^ 21) rs (row_start layout K r) (e * (get_or K 0 0 + 1))) walked.entries-are
       (entries-low s ok from to box rs long layout laid K cells passed r h))
 

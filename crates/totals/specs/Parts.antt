@@ -75,9 +75,9 @@ FewCells K = (a : ℕ) → a < 3 → get_or K a 0 ≤ 63
 
 pub record Walk (l : Layout) (K : List ℕ) (n : ℕ) : Type 0 where
   pub small : Small l
-  pub orders-low : 2 ≤ l.orders.count
-  pub orders-high : l.orders.count ≤ 3
-  pub entries-are : l.entries ≡ l.orders.count * (l.entries / l.orders.count)
-  pub groups-few : l.entries / l.orders.count ≤ l.orders.count * l.orders.count
+  pub orders-low : 2 ≤ l.orders
+  pub orders-high : l.orders ≤ 3
+  pub entries-are : l.entries ≡ l.orders * (l.entries / l.orders)
+  pub groups-few : l.entries / l.orders ≤ l.orders * l.orders
   pub cells-few : FewCells K
   pub inside : (r : ℕ) → r < row_count K → row_start l K r + l.entries * (get_or K 0 0 + 1) ≤ n

@@ -64,12 +64,6 @@ fn check_row(
 
 // ---- sums
 
-// By degree: what the total of a row of cells takes of the orders at its first, its last and any other node.
-const TAKEN: [[[i64; 3]; 3]; 2] = [
-    [[12, 1, 0], [12, -1, 0], [24, 0, 0]],
-    [[60, 6, 1], [60, -6, 1], [120, 0, 2]],
-];
-
 // What the total of `cells` cells takes of the orders at a node; 1 of the value along an unused axis, which has no cells.
 fn factors(m: Orders, cells: usize, node: usize) -> [i64; 3]
     requires { node ≤ cells }
@@ -78,14 +72,22 @@ fn factors(m: Orders, cells: usize, node: usize) -> [i64; 3]
     if cells == 0 {
         return [1, 0, 0];
     }
-    let taken = TAKEN[m.count - 2];
+    if m.count == 2 {
+        if node == 0 {
+            return [12, 1, 0];
+        }
+        if node == cells {
+            return [12, -1, 0];
+        }
+        return [24, 0, 0];
+    }
     if node == 0 {
-        return taken[0];
+        return [60, 6, 1];
     }
     if node == cells {
-        return taken[1];
+        return [60, -6, 1];
     }
-    taken[2]
+    [120, 0, 2]
 }
 
 // One product more.
@@ -96,29 +98,30 @@ fn added(sum: i64, factor: i64, x: i64) -> i64
     sum + factor * x
 }
 
-// The orders along x of a group.
-fn group_sum(x: [i64; 3], group: &[i32]) -> i64
-    requires { (length group.now ≤ 3) × (total (length group.now) (λ o. nat_abs (at x o)) ≤ 128) }
-    ensures value { result ≡ group_sum (length group.now) (at x) group.now 0 }
+// The orders along x of the group at index p.
+fn group_sum(m: Orders, x: [i64; 3], records: &[i32], p: usize) -> i64
+    requires { (p + m.count ≤ length records.now) × (total m.count (λ o. nat_abs (at x o)) ≤ 128) }
+    ensures value { result ≡ group_sum m.count (at x) records.now p }
     ensures low { nat_abs result ≤ 2 ^ 38 }
 {
-    let mut sum: i64 = 0;
-    for (&factor, &entry) in x.iter().zip(group) {
-        sum = added(sum, factor, entry as i64);
+    let value = added(0, x[0], records[p] as i64);
+    let two = added(value, x[1], records[p + 1] as i64);
+    if m.count == 2 {
+        return two;
     }
-    sum
+    added(two, x[2], records[p + 2] as i64)
 }
 
-// The groups of a record.
-fn record_sum(m: Orders, x: [i64; 3], ys: &[i64], entries: &[i32]) -> i64
-    requires long { (length ys.now ≤ 9) × (length entries.now ≡ m.count * length ys.now) }
+// The groups of the record at index p.
+fn record_sum(m: Orders, x: [i64; 3], ys: &[i64], records: &[i32], p: usize) -> i64
+    requires long { (length ys.now ≤ 9) × (p + m.count * length ys.now ≤ length records.now) }
     requires light { (total m.count (λ o. nat_abs (at x o)) ≤ 128) × (total (length ys.now) (λ g. nat_abs (at ys.now g)) ≤ 2 ^ 14) }
-    ensures value { result ≡ record_sum m.count (length ys.now) (at x) (at ys.now) entries.now 0 }
+    ensures value { result ≡ record_sum m.count (length ys.now) (at x) (at ys.now) records.now p }
     ensures low { nat_abs result ≤ 2 ^ 52 }
 {
     let mut sum: i64 = 0;
-    for (&y, group) in ys.iter().zip(entries.chunks_exact(m.count)) {
-        sum = added(sum, y, group_sum(x, group));
+    for g in 0..ys.len() {
+        sum = added(sum, ys[g], group_sum(m, x, records, p + m.count * g));
     }
     sum
 }
@@ -170,9 +173,11 @@ impl Rows<'_> {
     // What the total takes of the orders along y and z in row r; 0 past the groups of a record.
     fn across(&self, r: usize) -> [i64; 9]
         requires { r < row_count self.now.cells }
-        ensures { (g : ℕ) → g < self.now.layout.entries / self.now.layout.orders.count → at result g ≡ across self.now.layout.orders.count self.now.cells r g }
+        ensures { (g : ℕ) → g < self.now.layout.entries / self.now.layout.orders → at result g ≡ across self.now.layout.orders self.now.cells r g }
     {
-        let m = self.layout.orders;
+        let m = Orders {
+            count: self.layout.orders,
+        };
         let rows = self.cells[1] + 1;
         let y = factors(m, self.cells[1], r % rows);
         let z = factors(m, self.cells[2], r / rows);
@@ -185,23 +190,28 @@ impl Rows<'_> {
 
     // The records of a row, ys being what the total takes across it.
     fn row_sum(&self, ys: &[i64], row: &[i32]) -> i64
-        requires long { (length ys.now ≡ self.now.layout.entries / self.now.layout.orders.count) × (length row.now ≡ self.now.layout.entries * (get_or self.now.cells 0 0 + 1)) }
+        requires long { (length ys.now ≡ self.now.layout.entries / self.now.layout.orders) × (length row.now ≡ self.now.layout.entries * (get_or self.now.cells 0 0 + 1)) }
         requires light { total (length ys.now) (λ g. nat_abs (at ys.now g)) ≤ 2 ^ 14 }
-        ensures { result ≡ row_sum self.now.layout.orders.count (length ys.now) (get_or self.now.cells 0 0) (at ys.now) row.now 0 }
+        ensures { result ≡ row_sum self.now.layout.orders (length ys.now) (get_or self.now.cells 0 0) (at ys.now) row.now 0 }
     {
-        let m = self.layout.orders;
+        let m = Orders {
+            count: self.layout.orders,
+        };
+        let entries = self.layout.entries;
+        let cells = self.cells[0];
         let mut sum: i64 = 0;
-        for (i, entries) in row.chunks_exact(self.layout.entries).enumerate() {
-            sum += record_sum(m, factors(m, self.cells[0], i), ys, entries);
+        for i in 0..cells + 1 {
+            let x = factors(m, cells, i);
+            sum += record_sum(m, x, ys, row, entries * i);
         }
         sum
     }
 
     fn sum(&self) -> i64
         requires { (r : ℕ) → r < row_count self.now.cells → EntriesWithin (2 ^ 21) self.now.records.now (row_start self.now.layout self.now.cells r) (self.now.layout.entries * (get_or self.now.cells 0 0 + 1)) }
-        ensures { result ≡ rows_sum self.now.layout.orders.count (self.now.layout.entries / self.now.layout.orders.count) self.now.layout self.now.cells self.now.records.now }
+        ensures { result ≡ rows_sum self.now.layout.orders (self.now.layout.entries / self.now.layout.orders) self.now.layout self.now.cells self.now.records.now }
     {
-        let groups = self.layout.entries / self.layout.orders.count;
+        let groups = self.layout.entries / self.layout.orders;
         let long = self.layout.entries * (self.cells[0] + 1);
         let mut sum: i64 = 0;
         for r in 0..self.count() {
@@ -250,7 +260,9 @@ fn total_in(s: Shape, records: &[i32], from: [u32; 3], to: [u32; 3]) -> Result<i
         cells,
         records,
     };
-    rows.check(&cell::entry_limits(layout.orders))?;
+    rows.check(&cell::entry_limits(Orders {
+        count: layout.orders,
+    }))?;
     Ok(rows.sum())
 }
 

@@ -13,4 +13,4 @@ abbrev pub row_test : List ℤ → ℕ → List ℤ → Layout → ℕ → Check
 row_test limits n rs l r = first (corner_test limits n rs l (2 * r)) (corner_test limits n rs l (2 * r + 1))
 
 abbrev pub invariant-loop-row : goal.invariant-loop-row
-invariant-loop-row q = first_of q.row (row_test q.limits.limits q.n q.records q.l) ≡ done tt
+invariant-loop-row q = first_of q.row (row_test q.limits q.n q.records q.l) ≡ done tt

@@ -17,7 +17,7 @@ pub loop-e-preserved : goal.loop-e-preserved
 loop-e-preserved c =
     let a = c.args in
     let e = c.loop-e.e in
-    let limits = a.limits.now.limits in
+    let limits = a.limits.now in
     let low = test limits a.records.now a.start in
     let high = test limits a.records.now (a.start + a.n) in
     let low_told = limit-told limits a.records.now a.start e _ c.beyond-arg-1.given c.beyond-arg-in-loop-e-1.given
@@ -32,8 +32,8 @@ pub returns : goal.returns
 unfolding record_outcome
 returns c =
     let a = c.args in
-    let low = test a.limits.now.limits a.records.now a.start in
-    let high = test a.limits.now.limits a.records.now (a.start + a.n) in
+    let low = test a.limits.now a.records.now a.start in
+    let high = test a.limits.now a.records.now (a.start + a.n) in
     let e : c.loop-e.e ≡ a.n = omega arith in
     c.loop-e.invariant ∙ ap (λ (k : ℕ). passed (first_of k low) && passed (first_of k high)) e
     ∙ sym (passed_first (first_of a.n low) (first_of a.n high))

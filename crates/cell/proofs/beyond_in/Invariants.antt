@@ -9,5 +9,5 @@ use Rattle.cell.proofs.beyond_in.Given as goal
 
 abbrev pub invariant-loop-e : goal.invariant-loop-e
 invariant-loop-e l =
-    eqb l.over 0 ≡ (passed (first_of l.e (test l.limits.limits l.records l.start)) && passed
-    (first_of l.e (test l.limits.limits l.records (l.start + l.n))))
+    eqb l.over 0 ≡ (passed (first_of l.e (test l.limits l.records l.start)) && passed
+    (first_of l.e (test l.limits l.records (l.start + l.n))))

@@ -4,7 +4,7 @@ use Rattle.cell.proofs.CellLaws.{laid-small}
 use Rattle.lattice.specs.declared.Shape.{Shape}
 use Rattle.lattice.specs.Outcome.{Check, done, first_of}
 use Rattle.lattice.specs.Shape.{Shaped}
-use Rattle.lattice.proofs.ShapeLaws.{entries-high}
+use Rattle.lattice.proofs.ShapeLaws.{orders-range, entries-high}
 use Rattle.lattice.proofs.OutcomeLaws.{first_of-stops, first_of-more, handed_on}
 use Rattle.cell.specs.Cell.{place_at, limit_in, record_outcome, corners_outcome}
 use Rattle.cell.proofs.LayoutLaws.{corner_test, few, record-in, all-is}
@@ -32,6 +32,12 @@ tested : (c : After-corner_start-start)
     ≡ test c.before.before c.loop-c.c
 tested c = ap (λ (k : ℕ). record_outcome (limit_in c.entry_limits-limits.result.limits) c.args.l.entries c.args.records.now k)
     c.corner_start-start.ensures
+
+pub invariant_of-entry_limits : goal.invariant_of-entry_limits
+invariant_of-entry_limits c =
+    let r = orders-range c.args.s.degree in
+    let e = c.requires.accepted.1.orders-are in
+    record { bounds = (omega arith, omega arith) }
 
 pub loop-c-init : goal.loop-c-init
 unfolding first_of

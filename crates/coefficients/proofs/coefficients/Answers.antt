@@ -8,12 +8,16 @@ use lib.IntN.{ℤ}
 use lib.ListN.{length, drop}
 use Rattle.std.proofs.lemmas.List.{length-take-le}
 use Rattle.arith.proofs.Machine.{shifted}
+use Rattle.lattice.specs.declared.Shape.{Shape}
 use Rattle.lattice.specs.declared.FullShape.{FullShape}
 use Rattle.lattice.specs.Outcome.{done}
 use Rattle.lattice.specs.Buffer.{at, tabulate, overwrite}
 use Rattle.lattice.specs.Shape.{orders}
+use Rattle.lattice.specs.Axes.{Place}
 use Rattle.lattice.proofs.OutcomeLaws.{stopped, went-on, at_once, refused-first, first-passed, when-done, when-refused}
-use Rattle.cell.specs.Cell.{place_at}
+use Rattle.lattice.proofs.ShapeLaws.{orders-range}
+use Rattle.cell.specs.declared.Layout.{Layout}
+use Rattle.cell.specs.Cell.{place_at, Laid}
 use Rattle.cell.specs.Coefficients.{coefficient_count}
 use Rattle.coefficients.specs.Coefficients.{request_outcome, coefficients_outcome, coefficients_writes}
 use Rattle.coefficients.specs.Blocks.{cell_coefficient, Filled}
@@ -25,6 +29,10 @@ use Rattle.coefficients.proofs.coefficients.Goals as goal
 facts : (t : FullShape) (rs out : List ℤ) (cell : List ℕ) → done tt ≡ request_outcome t (length rs) (place_at cell) (length out)
     → Asked t.shape (length rs) (place_at cell) (length out)
 facts t rs out cell h = asked t (length rs) cell (length out) (sym h)
+
+-- m is 2 or 3
+orders-in : (s : Shape) (l : Layout) (cell : Place) → Laid s cell l → (2 ≤ l.orders) × (l.orders ≤ 3)
+orders-in s l cell laid = rw laid.orders-are (orders-range s.degree)
 
 pub returns-in_err-check_request-clause-result_value : goal.returns-in_err-check_request-clause-result_value
 unfolding coefficients_outcome
@@ -56,7 +64,8 @@ overflow_shl-n c =
 pub filled-xs-requires : goal.filled-xs-requires
 filled-xs-requires c =
     let f = (facts c.args.t c.args.records.now c.args.out.now c.args.cell c.in_ok-check_request.ensures).shape in
-    (f.axes-low, f.axes-high, le_of_eq (shifted c.args.t.shape.axes f.axes-high), c.in_ok-l.ensures.layout.1)
+    let m = orders-in c.args.t.shape c.in_ok-l.l (place_at c.args.cell) c.in_ok-l.ensures.layout.0 in
+    (m.0, m.1, f.axes-low, f.axes-high, le_of_eq (shifted c.args.t.shape.axes f.axes-high), c.in_ok-l.ensures.layout.1)
 
 pub coefficient_count-count-requires : goal.coefficient_count-count-requires
 coefficient_count-count-requires c =
@@ -101,8 +110,9 @@ returns-clause-out_after c =
     ∙ ap (λ (k : ℕ). overwrite (tabulate k (at xs)) a.out.now) c.coefficient_count-count.ensures.0
     ∙ ap (λ (ys : List ℤ). overwrite ys a.out.now)
     (list-is s f.shape (place_at a.cell) f.here a.records.now f.many l c.in_ok-l.ensures.layout.0 xs
-    (filled-all l.orders.count s.axes (let m2 = l.orders.bounds.0 in omega arith) f.shape.axes-low f.shape.axes-high _ xs
-    (subst (λ (k : ℕ). Filled l.orders.count s.axes (cell_coefficient l.orders.count s.axes l a.records.now) k xs)
+    (filled-all l.orders s.axes (let m2 = (orders-in s l (place_at a.cell) c.in_ok-l.ensures.layout.0).0 in omega arith) f.shape.axes-low
+    f.shape.axes-high _ xs
+    (subst (λ (k : ℕ). Filled l.orders s.axes (cell_coefficient l.orders s.axes l a.records.now) k xs)
     (shifted s.axes f.shape.axes-high) c.filled-xs.ensures)))
     ∙ when-done _ a.out.now
     (first-passed _ _ (sym c.in_ok-check_request.ensures) ∙ sym c.in_ok-l.ensures.outcome)

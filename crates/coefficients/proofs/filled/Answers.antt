@@ -59,7 +59,7 @@ loop-turn-init c =
     (cell_coefficient b.orders.count b.axes c.args.l c.args.records.now) (noughts 216) refl (noughts-at 216)
 
 -- the corner records by the sizes of the block
-many : (n : ℕ) (l : Layout) (rs : List ℤ) → Gathered l.orders.count n l rs → (b : Block) → (b.orders.count ≡ l.orders.count) × (b.axes ≡ n)
+many : (n : ℕ) (l : Layout) (rs : List ℤ) → Gathered l.orders n l rs → (b : Block) → (b.orders.count ≡ l.orders) × (b.axes ≡ n)
     → Gathered b.orders.count b.axes l rs
 many n l rs g b e = rw (e.0, e.1) g
 
@@ -69,7 +69,7 @@ turn_low k n turn h l = omega arith
 
 pub corner_start-start-requires : goal.corner_start-start-requires
 corner_start-start-requires c =
-    (corner-low c.of-b.result.sizes c.corner_at-c.result c.corner_at-c.ensures.1, c.requires.3.small)
+    (corner-low c.of-b.result.sizes c.corner_at-c.result c.corner_at-c.ensures.1, c.requires.5.small)
 
 -- number j of the record from `start` on
 of_record : (rs : List ℤ) (start size s count : ℕ) → start ≡ s → size ≡ count → (j : ℕ) → j < count
@@ -83,7 +83,7 @@ store-requires c =
     let a = c.args in
     let b = c.of-b.result in (
       c.corner_at-c.ensures.1,
-      low b a.l a.records.now (many a.n a.l a.records.now c.requires.3 b c.of-b.ensures) c.corner_at-c.result c.corner_at-c.ensures.1
+      low b a.l a.records.now (many a.n a.l a.records.now c.requires.5 b c.of-b.ensures) c.corner_at-c.result c.corner_at-c.ensures.1
           _ (of_record a.records.now c.corner_start-start.result c.size.result _ _ c.corner_start-start.ensures c.size.ensures.0)
           c.block_solve.new.zs c.block_solve.ensures,
     )
@@ -92,9 +92,9 @@ pub loop-turn-preserved : goal.loop-turn-preserved
 loop-turn-preserved c =
     let a = c.args in
     let b = c.of-b.result in
-    let h : a.k ≤ 2 ^ b.axes = rw c.of-b.ensures.1 c.requires.2 in
+    let h : a.k ≤ 2 ^ b.axes = rw c.of-b.ensures.1 c.requires.4 in
     rw c.store.ensures
-    (more b a.l a.records.now (many a.n a.l a.records.now c.requires.3 b c.of-b.ensures) c.corner_at-c.result c.corner_at-c.ensures.1
+    (more b a.l a.records.now (many a.n a.l a.records.now c.requires.5 b c.of-b.ensures) c.corner_at-c.result c.corner_at-c.ensures.1
     _ (of_record a.records.now c.corner_start-start.result c.size.result _ _ c.corner_start-start.ensures c.size.ensures.0)
     c.block_solve.new.zs c.block_solve.ensures c.loop-turn.turn
     (turn_low a.k b.axes c.loop-turn.turn h c.loop-turn-test.true) c.corner_at-c.ensures.0 c.loop-turn.out c.loop-turn.invariant)

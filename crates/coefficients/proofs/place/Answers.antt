@@ -24,6 +24,6 @@ place-low m (suc (suc b)) o l h = absurd (omega arith)
 
 pub returns : goal.returns
 returns c = (
-  place_is c.args.m.count c.args.b c.args.o c.requires.0 c.requires.1,
-  place-low c.args.m.count c.args.b c.args.o c.requires.0 c.requires.1,
+  place_is c.args.m c.args.b c.args.o c.requires.1 c.requires.2,
+  place-low c.args.m c.args.b c.args.o c.requires.1 c.requires.2,
 )

@@ -44,7 +44,7 @@ pub returns : goal.returns
 returns c =
     let a = c.args in
     let p = c.requires in (
-      (sums a.m.count c.place.result c.place-2.result a.m.bounds.1 c.place.ensures.1 c.place-2.ensures.1).1,
+      (sums a.m c.place.result c.place-2.result p.1 c.place.ensures.1 c.place-2.ensures.1).1,
       λ t l. rw (c.place.ensures.0, c.place-2.ensures.0)
-          (place_is a.m.count a.c a.o.y a.o.z t p.0 p.1 p.2 l),
+          (place_is a.m a.c a.o.y a.o.z t p.2 p.3 p.4 l),
     )

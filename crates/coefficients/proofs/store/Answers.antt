@@ -42,12 +42,12 @@ loop-k-init c = refl
 pub offset_bounds-out-p : goal.offset_bounds-out-p
 offset_bounds-out-p c =
     let l : c.loop-k.k < c.size.result = omega (arith, length-take {A = ℕ}) in
-    let h = place-low c.args.b c.args.c c.requires.0 c.size.result c.size.ensures.0 c.places-ps.result c.places-ps.ensures c.loop-k.k l in
+    let h = place-low c.args.b c.args.c c.requires.0 c.size.result c.size.ensures.0 c.put_places.new.ps c.put_places.ensures c.loop-k.k l in
     omega arith
 
 pub bounds-out-p : goal.bounds-out-p
 bounds-out-p c =
-    place-low c.args.b c.args.c c.requires.0 c.size.result c.size.ensures.0 c.places-ps.result c.places-ps.ensures c.loop-k.k
+    place-low c.args.b c.args.c c.requires.0 c.size.result c.size.ensures.0 c.put_places.new.ps c.put_places.ensures c.loop-k.k
     (omega (arith, length-take {A = ℕ}))
 
 pub loop-k-preserved : goal.loop-k-preserved
@@ -57,5 +57,5 @@ loop-k-preserved c =
     let l : k < c.size.result = omega (arith, length-take {A = ℕ}) in
     let h : nat_abs z ≤ 2 ^ 30 = c.requires.1 k (rw (sym c.size.ensures.0) l) in
     scatter-more (coefficient_index c.args.b.orders.count c.args.c) (at c.args.zs.now) c.args.out.now c.loop-k.out k _ _ c.loop-k.invariant
-    (place_is c.args.b c.args.c c.requires.0 c.size.result c.size.ensures.0 c.places-ps.result c.places-ps.ensures k l)
+    (place_is c.args.b c.args.c c.requires.0 c.size.result c.size.ensures.0 c.put_places.new.ps c.put_places.ensures k l)
     (ap (λ y. to_z w32 (of_z w32 y)) (kept z (2 ^ 30) h (lit< tt)) ∙ to_z-of_z (sfits-abs {w = w32} z (omega arith)))

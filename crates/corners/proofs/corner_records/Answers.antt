@@ -8,18 +8,13 @@ use native.Mathlib.Omega.{arith}
 use lib.IntN.{ℤ, pos, ◌*ℤ◌, nat_abs}
 use Rattle.arith.specs.Int.{floor_div}
 use lib.ListN.{length}
-use Rattle.std.specs.Prelude.{Result, Ok, Err, IsErr}
-use Rattle.std.specs.Result.{IsErrAnd}
 use Rattle.arith.proofs.Machine.{shifted}
-use Rattle.lattice.specs.declared.refusal.Refusal.{Refusal}
-use Rattle.lattice.specs.Answers.{number_of}
-use Rattle.lattice.specs.Outcome.{done, refused, first_of}
+use Rattle.lattice.specs.Outcome.{done, first_of}
 use Rattle.lattice.specs.Buffer.{at}
 use Rattle.lattice.proofs.DigitsLaws.{no-group}
-use Rattle.lattice.proofs.OutcomeLaws.{first_of-stops, first_of-more}
+use Rattle.lattice.proofs.OutcomeLaws.{first_of-stops, first_of-more, at_once}
 use Rattle.cell.specs.Cell.{limit_of}
 use Rattle.coefficients.specs.declared.block.Block.{Block}
-use Rattle.coefficients.specs.Coefficients.{check_of}
 use Rattle.coefficients.specs.Blocks.{StartsWith, AllWithin, block_sign, solved_block, scatter}
 use Rattle.coefficients.proofs.BlockLaws.{count_low}
 use Rattle.coefficients.proofs.SignLaws.{block-sign-size}
@@ -28,12 +23,6 @@ use Rattle.corners.specs.Back.{Gathers, block_test, entry_of}
 use Rattle.corners.proofs.BackLaws.{tests-are, filled, count-is, rows}
 use Rattle.corners.proofs.corner_records.Invariants.{row}
 use Rattle.corners.proofs.corner_records.Goals as goal
-
--- what is handed on of a refusal
-handed : {A : Type 0} (r : Result A Refusal) (e : Refusal) → IsErr r × IsErrAnd r (λ x. x ≡ e)
-    → check_of r ≡ refused (number_of e.reason) e.place
-handed (Ok a) e h = let f = h.0 in cc
-handed (Err x) e h = ap (λ (y : Refusal). refused (number_of y.reason) y.place) h.1
 
 -- the turn of a corner
 corner : (b : Block) (c : ℕ) → c < 1 * 2 ^ b.axes % 18446744073709551616 → c < 2 ^ b.axes
@@ -71,7 +60,9 @@ module _ (b : Block) (cs : List ℤ) (k : ℕ) (inside : k < 2 ^ b.axes) (limits
 
 pub loop-c-init : goal.loop-c-init
 unfolding first_of
-loop-c-init c = (refl, refl, λ i l. absurd (no-group (c.args.b.orders.count ^ c.args.b.axes) i l))
+loop-c-init c =
+    let long : length c.args.out.now ≡ 216 = omega arith in
+    (long, refl, λ i l. absurd (no-group (c.args.b.orders.count ^ c.args.b.axes) i l))
 
 pub store-requires : goal.store-requires
 store-requires c =
@@ -82,17 +73,17 @@ store-requires c =
           c.solve.ensures.within c.signed.ensures,
     )
 
-pub returns-in_err-store-clause-outcome : goal.returns-in_err-store-clause-outcome
-returns-in_err-store-clause-outcome c =
+pub returns-in_err-store-clause-result_value : goal.returns-in_err-store-clause-result_value
+returns-in_err-store-clause-result_value c =
     let a = c.args in
     let inside = corner a.b c.loop-c.c c.loop-c-test.true in
-    handed _ _ c.from_residual.ensures
-    ∙ sym (rows a.b.orders.count a.b.axes a.cs.now
+    at_once _ _ _ c.from_residual.ensures
+    (sym (rows a.b.orders.count a.b.axes a.cs.now
     ∙ first_of-stops (2 ^ a.b.axes) c.loop-c.c (row a.b.orders.count a.b.axes a.cs.now) _ _ inside c.loop-c.invariant.1
     (sym (c.in_err-store.ensures.result_value
     ∙ tested a.b a.cs.now c.loop-c.c inside c.entry_limits-limits.result.limits c.entry_limits-limits.ensures c.gather.new.xs
     c.solve.new.zs c.signed.new.zs c.gather.ensures c.solve.ensures.starts_with c.solve.ensures.within
-    c.signed.ensures)))
+    c.signed.ensures))))
 
 pub loop-c-preserved : goal.loop-c-preserved
 loop-c-preserved c =
@@ -116,19 +107,17 @@ loop-c-preserved c =
 ends : (b : Block) (c corners : ℕ) → corners ≤ c → c ≤ corners → corners ≡ 2 ^ b.axes → c ≡ 2 ^ b.axes
 ends b c corners f l e = omega arith
 
-pub returns-clause-outcome : goal.returns-clause-outcome
-returns-clause-outcome c =
+pub returns-clause-result_value : goal.returns-clause-result_value
+returns-clause-result_value c =
     let a = c.args in
     let e : c.loop-c.c ≡ 2 ^ a.b.axes =
     ends a.b c.loop-c.c _ c.loop-c-test.false c.loop-c.auto.c-end (shifted a.b.axes a.b.sizes.axes-high) in
     sym (rows a.b.orders.count a.b.axes a.cs.now
     ∙ subst (λ (k : ℕ). first_of k (row a.b.orders.count a.b.axes a.cs.now) ≡ done tt) e c.loop-c.invariant.1)
 
-pub returns-clause-entries : goal.returns-clause-entries
-returns-clause-entries c =
+pub returns-clause-i_after : goal.returns-clause-i_after
+returns-clause-i_after c passed j q =
     let a = c.args in
     let e : c.loop-c.c ≡ 2 ^ a.b.axes =
-    ends a.b c.loop-c.c _ c.loop-c-test.false c.loop-c.auto.c-end (shifted a.b.axes a.b.sizes.axes-high) in (
-      c.loop-c.invariant.0,
-      λ j q. c.loop-c.invariant.2 j (rw (e, sym (count-is a.b.orders.count a.b.axes)) q),
-    )
+    ends a.b c.loop-c.c _ c.loop-c-test.false c.loop-c.auto.c-end (shifted a.b.axes a.b.sizes.axes-high) in
+    c.loop-c.invariant.2 j (rw (e, sym (count-is a.b.orders.count a.b.axes)) q)

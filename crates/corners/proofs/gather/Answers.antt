@@ -32,22 +32,22 @@ module _ (b : Block) (d : ℕ) (hd : d < 2 ^ b.axes) (size : ℕ) (e : size ≡ 
 pub offset_bounds-cs-p : goal.offset_bounds-cs-p
 offset_bounds-cs-p c =
     let l : c.loop-k.k < c.size.result = omega (arith, length-take {A = ℕ}) in
-    let h = place-low c.args.b c.args.c c.requires.0 c.size.result c.size.ensures.0 c.places-ps.result c.places-ps.ensures c.loop-k.k l in
+    let h = place-low c.args.b c.args.c c.requires.0 c.size.result c.size.ensures.0 c.put_places.new.ps c.put_places.ensures c.loop-k.k l in
     let few = count_low c.args.b.sizes in
     omega arith
 
 pub bounds-cs-p : goal.bounds-cs-p
 bounds-cs-p c =
     rw c.requires.1
-    (place-low c.args.b c.args.c c.requires.0 c.size.result c.size.ensures.0 c.places-ps.result c.places-ps.ensures c.loop-k.k
+    (place-low c.args.b c.args.c c.requires.0 c.size.result c.size.ensures.0 c.put_places.new.ps c.put_places.ensures c.loop-k.k
     (omega (arith, length-take {A = ℕ})))
 
 pub loop-k-preserved : goal.loop-k-preserved
 loop-k-preserved c =
     let k = c.loop-k.k in
     let l : k < c.size.result = omega (arith, length-take {A = ℕ}) in
-    let x = at c.args.cs.now (get_or (take c.size.result c.places-ps.result) k 0) in
+    let x = at c.args.cs.now (get_or (take c.size.result c.put_places.new.ps) k 0) in
     gathers-more c.args.b.orders.count c.args.c k c.args.cs.now c.loop-k.xs _ (let few = c.size.ensures.1 in omega arith) c.loop-k.invariant
     (widened x c.xs-1.given ∙ ap (at c.args.cs.now)
-    (place_is c.args.b c.args.c c.requires.0 c.size.result c.size.ensures.0 c.places-ps.result c.places-ps.ensures k l))
+    (place_is c.args.b c.args.c c.requires.0 c.size.result c.size.ensures.0 c.put_places.new.ps c.put_places.ensures k l))
     (rw (widened x c.xs-1.given) (near x c.xs-1.given))

@@ -15,6 +15,7 @@ use Rattle.arith.proofs.Choices.{by-3}
 use Rattle.lattice.specs.Axes.{Field, axes, without}
 use Rattle.lattice.specs.Buffer.{at}
 use Rattle.lattice.specs.Records.{records_field}
+use Rattle.lattice.proofs.ShapeLaws.{orders-range}
 use Rattle.hermite.specs.declared.Rounded.{Rounded}
 use Rattle.cell.specs.Cell.{place_at}
 use Rattle.cell.proofs.CellLaws.{base-in, laid-small}
@@ -33,10 +34,10 @@ use Rattle.evaluate.proofs.on_lattice.Goals.{After-in_sequence-sequence, After-l
 
 module _ (c : After-in_sequence-sequence) where
   abbrev f : After-last_axis-last
-  f = c.before.before.before.before
+  f = c.before.before.before.before.before
 
   abbrev b : Start
-  b = f.before.before
+  b = f.before
 
   abbrev n : ℕ
   n = b.args.s.axes
@@ -93,7 +94,7 @@ module _ (c : After-in_sequence-sequence) where
       (are-axes b.args.s (place_at b.args.step) (eqb n 3) (beside 0 last) (beside 2 last) c.in_sequence-sequence.result.first
       c.in_sequence-sequence.result.middle is-first is-middle)
 
-  whole : Workable (rounding_of b.args.even) b.args.l.orders.count b.args.derivative.order c.in_sequence-sequence.result.last others
+  whole : Workable (rounding_of b.args.even) b.args.l.orders b.args.derivative.order c.in_sequence-sequence.result.last others
       (length b.args.records.now) (at b.args.records.now) b.args.l.base
   whole =
       let a = b.args in
@@ -118,7 +119,7 @@ module _ (c : After-in_sequence-sequence) where
   base-small = let h = b.requires.ready in
       (laid-small b.args.s (place_at b.args.cell) b.args.l h.shape h.here h.laid).base-low
 
-  asks : Workable (rounding_of b.args.even) b.args.l.orders.count b.args.derivative.order c.in_sequence-sequence.result.last others
+  asks : Workable (rounding_of b.args.even) b.args.l.orders b.args.derivative.order c.in_sequence-sequence.result.last others
       (length here)
       (at here) 0
   asks = workable-part b.args.records.now b.args.l.base base-low whole
@@ -129,8 +130,8 @@ module _ (c : After-in_sequence-sequence) where
   abbrev field : Field
   field = records_field b.args.s b.args.records.now
 
-  gives : (r : Rounded) → WorkedOff b.args.l.orders.count b.args.derivative.order c.in_sequence-sequence.result.last others
-      (Reports (rounding_of b.args.even) b.args.l.orders.count (at here) 0 r)
+  gives : (r : Rounded) → WorkedOff b.args.l.orders b.args.derivative.order c.in_sequence-sequence.result.last others
+      (Reports (rounding_of b.args.even) b.args.l.orders (at here) 0 r)
       → (r.number ≡ answer_by (rounding_of b.args.even) asked field)
       × (eqb r.rest 0 ≡ exact_by (rounding_of b.args.even) asked field)
   gives r h =
@@ -142,8 +143,8 @@ module _ (c : After-in_sequence-sequence) where
       (worked-off-part a.records.now a.l.base r h)
 
 module _ (w : After-in_sequence-sequence) (r : Rounded) (ok : mag r.number < 2 ^ 63)
-    (e : WorkedOff (b w).args.l.orders.count (b w).args.derivative.order w.in_sequence-sequence.result.last (others w)
-    (Reports (rounding_of (b w).args.even) (b w).args.l.orders.count (at (here w)) 0 r)) where
+    (e : WorkedOff (b w).args.l.orders (b w).args.derivative.order w.in_sequence-sequence.result.last (others w)
+    (Reports (rounding_of (b w).args.even) (b w).args.l.orders (at (here w)) 0 r)) where
   fits_in : SFits w32 (to_z w64 (of_z w64 r.number))
   fits_in =
       let s = b w in
@@ -157,6 +158,13 @@ module _ (w : After-in_sequence-sequence) (r : Rounded) (ok : mag r.number < 2 ^
       let a = s.args in
       cast (edition-sound a.even) a.s a.records.now (place_at a.cell) a.step a.derivative.order a.derivative.axis a.l s.requires.ready
       r.number ok (gives w r e).0
+
+-- the orders of the layout are those of a degree
+pub invariant_of-m : goal.invariant_of-m
+invariant_of-m c =
+    let r = orders-range c.args.s.degree in
+    let e = c.requires.ready.laid.orders-are in
+    record { bounds = (omega arith, omega arith) }
 
 pub returns : goal.returns
 returns c =

@@ -12,6 +12,7 @@ use Rattle.arith.proofs.Editions.{edition-sound}
 use Rattle.lattice.specs.Axes.{Field, axes, without}
 use Rattle.lattice.specs.Buffer.{at}
 use Rattle.lattice.specs.Records.{records_field}
+use Rattle.lattice.proofs.ShapeLaws.{orders-range}
 use Rattle.hermite.specs.declared.Rounded.{Rounded}
 use Rattle.cell.specs.Cell.{place_at}
 use Rattle.evaluate.specs.Evaluate.{Ask, last_axis, ask_at, answer_by, exact_by}
@@ -36,7 +37,7 @@ module _ (c : After-strides_of-x) where
       a.l
       b.requires.ready 0 (lit< tt) c.strides_of-x.result c.strides_of-x.ensures
 
-  asks : Workable (rounding_of b.args.even) b.args.l.orders.count b.args.derivative.order c.strides_of-x.result []
+  asks : Workable (rounding_of b.args.even) b.args.l.orders b.args.derivative.order c.strides_of-x.result []
       (length b.args.records.now)
       (at b.args.records.now) b.args.l.base
   unfolding axes without pick
@@ -53,8 +54,8 @@ module _ (c : After-strides_of-x) where
   abbrev field : Field
   field = records_field b.args.s b.args.records.now
 
-  gives : (r : Rounded) → WorkedOff b.args.l.orders.count b.args.derivative.order c.strides_of-x.result []
-      (Reports (rounding_of b.args.even) b.args.l.orders.count (at b.args.records.now) b.args.l.base r)
+  gives : (r : Rounded) → WorkedOff b.args.l.orders b.args.derivative.order c.strides_of-x.result []
+      (Reports (rounding_of b.args.even) b.args.l.orders (at b.args.records.now) b.args.l.base r)
       → (r.number ≡ answer_by (rounding_of b.args.even) asked field)
       × (eqb r.rest 0 ≡ exact_by (rounding_of b.args.even) asked field)
   unfolding axes without pick
@@ -66,8 +67,8 @@ module _ (c : After-strides_of-x) where
       c.strides_of-x.result [] is tt
 
 module _ (w : After-strides_of-x) (r : Rounded) (ok : mag r.number < 2 ^ 63)
-    (e : WorkedOff (b w).args.l.orders.count (b w).args.derivative.order w.strides_of-x.result []
-    (Reports (rounding_of (b w).args.even) (b w).args.l.orders.count (at (b w).args.records.now) (b w).args.l.base r)) where
+    (e : WorkedOff (b w).args.l.orders (b w).args.derivative.order w.strides_of-x.result []
+    (Reports (rounding_of (b w).args.even) (b w).args.l.orders (at (b w).args.records.now) (b w).args.l.base r)) where
   fits_in : SFits w32 (to_z w64 (of_z w64 r.number))
   fits_in =
       let s = b w in
@@ -81,6 +82,13 @@ module _ (w : After-strides_of-x) (r : Rounded) (ok : mag r.number < 2 ^ 63)
       let a = s.args in
       cast (edition-sound a.even) a.s a.records.now (place_at a.cell) a.step a.derivative.order a.derivative.axis a.l s.requires.ready
       r.number ok (gives w r e).0
+
+-- the orders of the layout are those of a degree
+pub invariant_of-m : goal.invariant_of-m
+invariant_of-m c =
+    let r = orders-range c.args.s.degree in
+    let e = c.requires.ready.laid.orders-are in
+    record { bounds = (omega arith, omega arith) }
 
 pub returns : goal.returns
 returns c =

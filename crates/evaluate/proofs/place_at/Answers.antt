@@ -10,26 +10,26 @@ use Rattle.evaluate.proofs.place_at.Goals as goal
 use Rattle.evaluate.proofs.place_at.Goals.{Start}
 
 module _ (b : Start) where
-  low : b.args.t < b.args.m.count → place_of b.args.m.count b.args.order b.args.node b.args.t ≡ b.args.t * b.args.order
+  low : b.args.t < b.args.m → place_of b.args.m b.args.order b.args.node b.args.t ≡ b.args.t * b.args.order
   unfolding place_of
-  low l = let a = b.args in pick_true (ltb a.t a.m.count) _ _ (lt-ltb a.t a.m.count l)
+  low l = let a = b.args in pick_true (ltb a.t a.m) _ _ (lt-ltb a.t a.m l)
 
-  high : b.args.m.count ≤ b.args.t
-      → place_of b.args.m.count b.args.order b.args.node b.args.t ≡ b.args.node + (b.args.t - b.args.m.count) * b.args.order
+  high : b.args.m ≤ b.args.t
+      → place_of b.args.m b.args.order b.args.node b.args.t ≡ b.args.node + (b.args.t - b.args.m) * b.args.order
   unfolding place_of
-  high l = let a = b.args in pick-false (ltb a.t a.m.count) _ _ (le-ltb a.t a.m.count l)
+  high l = let a = b.args in pick-false (ltb a.t a.m) _ _ (le-ltb a.t a.m l)
 
 pub overflow_mul-result : goal.overflow_mul-result
-overflow_mul-result c = let h = low c.before.before c.if-t-m.true in let k = c.requires.1 in omega arith
+overflow_mul-result c = let h = low c.before c.if-t-m.true in let k = c.requires.1 in omega arith
 
 pub returns-then-t-m : goal.returns-then-t-m
-returns-then-t-m c = sym (low c.before.before c.if-t-m.true)
+returns-then-t-m c = sym (low c.before c.if-t-m.true)
 
 pub overflow_mul-result-2 : goal.overflow_mul-result-2
-overflow_mul-result-2 c = let h = high c.before.before.before c.if-t-m.false in let k = c.requires.1 in omega arith
+overflow_mul-result-2 c = let h = high c.before c.if-t-m.false in let k = c.requires.1 in omega arith
 
 pub overflow_add-result : goal.overflow_add-result
-overflow_add-result c = let h = high c.before.before.before c.if-t-m.false in let k = c.requires.1 in omega arith
+overflow_add-result c = let h = high c.before c.if-t-m.false in let k = c.requires.1 in omega arith
 
 pub returns : goal.returns
-returns c = sym (high c.before.before.before c.if-t-m.false)
+returns c = sym (high c.before c.if-t-m.false)

@@ -48,7 +48,7 @@ module _ (c : After-at_position) where
   stands : HeldSteps c.args.t (floats_at c.args.p) fin (position_at steps)
   unfolding floats_at steps_on
   stands = three-held c.args.t (floats_at c.args.p) c.step_of-x.result c.step_of-y.result c.step_of-z.result
-      c.step_of-x.ensures c.step_of-y.ensures c.step_of-z.ensures _ _ _
+      c.step_of-x.ensures.result_value c.step_of-y.ensures.result_value c.step_of-z.ensures.result_value _ _ _
       c.held_step.ensures c.held_step-2.ensures c.held_step-3.ensures
 
   told : renumbered (ten_number fin) position ≡ by_float c.args.t c.args.records.now want (floats_at c.args.p)

@@ -16,8 +16,11 @@ all_within-requires c =
     let a = c.args in
     let p = c.requires in
     let held : List ℤ = c.copy_rows.new.held in
-    subst (λ (o : Layout). CornerRows o held a.e a.rows) (sym c.layout_alone.ensures)
-    (alone-rows a.l.orders a.e a.rows held p.some p.low p.few c.copy_rows.ensures.long)
+    let low = p.low in (
+      subst (λ (o : Layout). CornerRows o held a.e a.rows) (sym c.layout_alone.ensures)
+          (alone-rows a.l.orders a.e a.rows held p.some low p.few c.copy_rows.ensures.long),
+      λ j l. a.limits.now.not_negative j (omega (arith, l, low)),
+    )
 
 pub returns-clause-value : goal.returns-clause-value
 returns-clause-value c =

@@ -13,7 +13,7 @@ use Rattle.arith.specs.Int.{rounding_of}
 use Rattle.lattice.specs.Buffer.{at}
 use Rattle.lattice.specs.declared.order_count.Orders.{Orders}
 use Rattle.evaluate.specs.declared.Axis.{Axis}
-use Rattle.evaluate.specs.Stages.{strides_of, after, clean_after, Made, Workable, AllPrepared, Safe}
+use Rattle.evaluate.specs.Stages.{strides_of, after, Made, Workable, AllPrepared, Safe}
 use Rattle.evaluate.proofs.EndLaws.{stage-asks, stage-gives, safe-index}
 use Rattle.evaluate.proofs.StageOrder.{three-ask, three-give}
 use Rattle.ramp.proofs.in_space.Goals as goal
@@ -53,25 +53,25 @@ two_ends-both-requires c =
     }
 
 pub stage-r-requires : goal.stage-r-requires
-unfolding after clean_after
+unfolding after
 stage-r-requires c =
     let a = c.args in
     let asked = asks a.even a.m a.u a.v a.w a.held.now c.requires c.axis_of-z.result c.axis_of-y.result c.axis_of-x.result
     c.axis_of-z.ensures c.axis_of-y.ensures c.axis_of-x.ensures in
     let t = c.two_ends-both.ensures (after (rounding_of a.even) a.m.count (c.axis_of-y.result ∷ c.axis_of-x.result ∷ []) (at a.held.now))
-    (clean_after (rounding_of a.even) a.m.count (c.axis_of-y.result ∷ c.axis_of-x.result ∷ []) (at a.held.now))
+    (λ i. true)
     (λ o l. (λ r e. search rules, λ r e. search rules)) in
     let both = stage-asks asked.0.0.0 t.0 c.axis_of-z.result.shift asked.0.1 asked.1.1 in
     record { k_bound = both.0; low_value = both.1 }
 
 pub returns : goal.returns
-unfolding after clean_after
+unfolding after
 returns c =
     let a = c.args in
     let asked = asks a.even a.m a.u a.v a.w a.held.now c.requires c.axis_of-z.result c.axis_of-y.result c.axis_of-x.result
     c.axis_of-z.ensures c.axis_of-y.ensures c.axis_of-x.ensures in
     let t = c.two_ends-both.ensures (after (rounding_of a.even) a.m.count (c.axis_of-y.result ∷ c.axis_of-x.result ∷ []) (at a.held.now))
-    (clean_after (rounding_of a.even) a.m.count (c.axis_of-y.result ∷ c.axis_of-x.result ∷ []) (at a.held.now))
+    (λ i. true)
     (λ o l. (λ r e. search rules, λ r e. search rules)) in
     three-give (strides_of a.v (2 * (a.m.count * a.m.count * a.m.count)) a.m.count) c.axis_of-x.ensures c.axis_of-z.ensures
     c.axis_of-y.ensures true refl

@@ -1,68 +1,80 @@
--- `totals::group_sum` meets its contract. The invariant: the sum of the first orders.
-use mathlib.Core.Path.{◌≡◌, refl, ap, ◌∙◌}
-use Prim.Native.Nat.{ℕ, ◌+◌, ◌^◌, ◌<◌}
-use native.Mathlib.Nat.{not-suc-le-zero}
+-- `totals::group_sum` meets its contract: two or three products, none of which is large.
+use mathlib.Core.List.{List}
+use mathlib.Core.Path.{◌≡◌, sym, ap, ◌∙◌}
+use Prim.Native.Nat.{ℕ, ◌+◌, ◌≤◌, ◌^◌}
+use native.Mathlib.Nat.{le_trans}
 use native.Mathlib.Omega.{arith}
-use lib.IntN.{ℤ, pos}
-use lib.ListN.{length, get_or}
-use mir.Syntax.{w64}
-use mir.Val.{to_z}
-use Rattle.arith.specs.Sum.{sum}
+use lib.Dec.{lit<}
+use lib.IntN.{ℤ, nat_abs}
+use Rattle.arith.specs.Sum.{total}
+use Rattle.arith.proofs.Machine.{widen-fits, kept}
+use Rattle.arith.proofs.Sums.{total-part}
 use Rattle.lattice.specs.Buffer.{at}
-use Rattle.std.proofs.lemmas.List.{length_push}
-use Rattle.std.proofs.lemmas.Slice.Zip.{zip_turn, zip_end}
 use Rattle.totals.specs.Parts.{group_sum}
-use Rattle.totals.proofs.SumLaws.{order-asks, order-more, entries-low, weighted-low}
+use Rattle.totals.proofs.SumLaws.{term-low, one-asks, two-asks, two, three-asks, three-is, two-near, three-near, group-low}
 use Rattle.totals.proofs.group_sum.Goals as goal
-use Rattle.totals.proofs.group_sum.Goals.{In-Some}
 
-pub loop-factor-init : goal.loop-factor-init
-unfolding group_sum sum
-loop-factor-init c = (refl, λ j h. absurd (not-suc-le-zero h))
+-- two factors, a third one
+light-two : (m : ℕ) (x : List ℤ) → 2 ≤ m → total m (λ o. nat_abs (at x o)) ≤ 128 → total 2 (λ o. nat_abs (at x o)) ≤ 128
+light-two m x h light = le_trans (total-part 2 m (λ o. nat_abs (at x o)) h) light
 
--- the factor and the entry at hand
-Turn : In-Some → Type 0
-Turn c = let k = length c.loop-factor.yielded in
-    (k < length c.args.x) × (k < length c.args.group.now) × ((d : ℤ) → c.in-Some.field-0-0.now ≡ get_or c.args.x k d)
-    × ((d : ℤ) → c.in-Some.field-0-1.now ≡ get_or c.args.group.now k d)
+third : (m : ℕ) (x : List ℤ) → 3 ≤ m → total m (λ o. nat_abs (at x o)) ≤ 128 → nat_abs (at x 2) ≤ 128
+third m x h light = le_trans (term-low m (λ o. nat_abs (at x o)) 2 h) light
 
-turn : (c : In-Some) → Turn c
-unfolding Turn
-turn c = zip_turn c.args.x c.args.group.now c.loop-factor.yielded c.into_iter-factor-iterator.result _ c.next.new.self _ (cc) (cc)
-    c.loop-factor.yielded_by _ c.in-Some.is c.next.ensures.steps
+pub overflow_cast-records : goal.overflow_cast-records
+overflow_cast-records c = widen-fits (at c.args.records.now c.args.p) c.added-arg-2-1.given
 
-pub added-sum-requires : goal.added-sum-requires
-unfolding Turn
-added-sum-requires c =
-    let t = turn c.before.before in
-    let w = c.loop-factor in
-    order-asks c.args.x c.args.group.now (length c.args.group.now) (length w.yielded) c.requires.1 t.1 w.invariant.1
-    c.in-Some.field-0-0.now c.in-Some.field-0-1.now (to_z w64 w.sum-bits) (t.2 (pos 0)) (t.3 (pos 0)) c.entry-1.given w.invariant.0
+pub added-value-requires : goal.added-value-requires
+added-value-requires c =
+    let a = c.args in
+    one-asks a.x a.records.now a.p (light-two a.m.count a.x a.m.bounds.0 c.requires.1) c.added-arg-2-1.given
 
-pub loop-factor-preserved : goal.loop-factor-preserved
-unfolding Turn
-loop-factor-preserved c =
-    let t = turn c.before.before.before in
-    let w = c.loop-factor in
-    let e = length_push w.yielded (c.in-Some.field-0-0, c.in-Some.field-0-1) in
-    rw e (
-      order-more c.args.x c.args.group.now (length c.args.group.now) (length w.yielded) c.requires.1 t.1 w.invariant.1
-          c.in-Some.field-0-0.now c.in-Some.field-0-1.now (to_z w64 w.sum-bits) (t.2 (pos 0)) (t.3 (pos 0)) c.entry-1.given w.invariant.0
-          c.added-sum.result c.added-sum.ensures,
-      entries-low c.args.x c.args.group.now (length c.args.group.now) (length w.yielded) c.requires.1 t.1 w.invariant.1
-          c.in-Some.field-0-0.now c.in-Some.field-0-1.now (to_z w64 w.sum-bits) (t.2 (pos 0)) (t.3 (pos 0)) c.entry-1.given w.invariant.0,
-    )
+pub overflow_cast-records-2 : goal.overflow_cast-records-2
+overflow_cast-records-2 c = widen-fits (at c.args.records.now (c.args.p + 1)) c.added-arg-4-1.given
 
-pub returns : goal.returns
-unfolding group_sum
-returns c =
-    let w = c.loop-factor in
-    let n = length c.args.group.now in
-    let t = zip_end c.args.x c.args.group.now w.yielded c.into_iter-factor-iterator.result _ c.next.new.self _ (cc) (cc) w.yielded_by
-    c.in-None.is c.next.ensures.steps in
-    let e : length w.yielded ≡ n = omega arith in
-    let v = w.invariant.0 ∙ ap (λ (k : ℕ). group_sum k (at c.args.x) c.args.group.now 0) e in
+pub added-two-requires : goal.added-two-requires
+added-two-requires c =
+    let a = c.args in
+    two-asks a.x a.records.now a.p (light-two a.m.count a.x a.m.bounds.0 c.requires.1) c.added-arg-2-1.given c.added-arg-4-1.given
+    c.added-value.result c.added-value.ensures
+
+pub returns-then-m-eq2 : goal.returns-then-m-eq2
+returns-then-m-eq2 c =
+    let a = c.args in
+    let t = two a.x a.records.now a.p (light-two a.m.count a.x a.m.bounds.0 c.requires.1) c.added-arg-2-1.given c.added-arg-4-1.given
+    c.added-value.result c.added-value.ensures c.added-two.result c.added-two.ensures in
+    let v = kept c.added-two.result (2 ^ 40) t.two-low (lit< tt) ∙ t.two_is
+    ∙ ap (λ (m : ℕ). group_sum m (at a.x) a.records.now a.p) (sym c.if-m-eq2.true) in
     record {
       value = v;
-      low = rw v (weighted-low n (at c.args.x) (λ j. at c.args.group.now (0 + j)) 128 (2 ^ 31) c.requires.1 (rw e at w.invariant.1));
+      low = rw v (group-low a.m.count a.x a.records.now a.p c.requires.1
+          (rw c.if-m-eq2.true (two-near a.records.now a.p c.added-arg-2-1.given c.added-arg-4-1.given)));
+    }
+
+pub overflow_cast-records-3 : goal.overflow_cast-records-3
+overflow_cast-records-3 c = widen-fits (at c.args.records.now (c.args.p + 2)) c.added-arg-6-1.given
+
+pub added-requires : goal.added-requires
+added-requires c =
+    let a = c.args in
+    let h = a.m.bounds in
+    let t = two a.x a.records.now a.p (light-two a.m.count a.x a.m.bounds.0 c.requires.1) c.added-arg-2-1.given c.added-arg-4-1.given
+    c.added-value.result c.added-value.ensures c.added-two.result c.added-two.ensures in
+    three-asks a.x a.records.now a.p (third a.m.count a.x (omega arith) c.requires.1) c.added-arg-6-1.given c.added-value.result
+    c.added-two.result t
+
+pub returns : goal.returns
+returns c =
+    let a = c.args in
+    let h = a.m.bounds in
+    let e : a.m.count ≡ 3 = omega arith in
+    let t = two a.x a.records.now a.p (light-two a.m.count a.x a.m.bounds.0 c.requires.1) c.added-arg-2-1.given c.added-arg-4-1.given
+    c.added-value.result c.added-value.ensures c.added-two.result c.added-two.ensures in
+    let v = three-is a.x a.records.now a.p (third a.m.count a.x (omega arith) c.requires.1) c.added-arg-6-1.given c.added-value.result
+    c.added-two.result t c.added.result c.added.ensures
+    ∙ ap (λ (m : ℕ). group_sum m (at a.x) a.records.now a.p) (sym e) in
+    record {
+      value = v;
+      low = rw v (group-low a.m.count a.x a.records.now a.p c.requires.1
+          (rw e (three-near a.records.now a.p c.added-arg-2-1.given c.added-arg-4-1.given c.added-arg-6-1.given)));
     }

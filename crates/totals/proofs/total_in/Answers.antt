@@ -1,11 +1,13 @@
 -- `totals::total_in` meets its contract: refused where the walk meets an entry beyond its limit, else the sum of all rows.
 use mathlib.Core.Path.{sym, ap, ◌∙◌}
+use native.Mathlib.Omega.{arith}
 use mir.Facts.{to_z-of_z}
 use mir.Syntax.{w64}
 use borrow.Author.Rules.{sfits_of}
 use lib.IntN.{ℤ}
 use Rattle.lattice.specs.Outcome.{done}
 use Rattle.lattice.proofs.OutcomeLaws.{stopped, went-on}
+use Rattle.lattice.proofs.ShapeLaws.{orders-range}
 use Rattle.cell.specs.Cell.{place_at}
 use Rattle.totals.specs.Parts.{cells_within}
 use Rattle.totals.proofs.NumeratorLaws.{numerator-rows}
@@ -30,6 +32,12 @@ invariant_of-rows c =
       walk = walk a.s c.requires.0 (place_at a.from) (place_at a.to) c.requires.2 a.records.now c.requires.1 c.layout_of-layout.result
           c.layout_of-layout.ensures c.cells_of-cells.result c.cells_of-cells.ensures;
     }
+
+pub invariant_of-entry_limits : goal.invariant_of-entry_limits
+invariant_of-entry_limits c =
+    let r = orders-range c.args.s.degree in
+    let e = c.layout_of-layout.ensures.orders-are in
+    record { bounds = (omega arith, omega arith) }
 
 pub returns-in_err-check : goal.returns-in_err-check
 unfolding cells_within

@@ -20,7 +20,7 @@ pub overflow_mul-ys : goal.overflow_mul-ys
 overflow_mul-ys c =
     let s = c.args.self.now in
     let m = s.layout.orders in
-    pair-asks m.count (s.layout.entries / m.count) m.bounds.0 m.bounds.1 s.walk.groups-few s.cells c.args.r c.loop-g.g c.loop-g-test.true
+    pair-asks m (s.layout.entries / m) s.walk.orders-low s.walk.orders-high s.walk.groups-few s.cells c.args.r c.loop-g.g c.loop-g-test.true
     c.factors-y.result c.factors-z.result c.factors-y.ensures c.factors-z.ensures
 
 pub loop-g-preserved : goal.loop-g-preserved
@@ -29,10 +29,10 @@ loop-g-preserved c =
     let m = s.layout.orders in
     let n = c.loop-g.invariant.0 in
     let few = s.walk.groups-few in
-    let f = nine m.count c.loop-g.g m.bounds.1 (omega (arith, c.loop-g-test.true)) in (
+    let f = nine m c.loop-g.g s.walk.orders-high (omega (arith, c.loop-g-test.true)) in (
       simp length-set c.loop-g.invariant.0,
-      fill c.loop-g.ys c.loop-g.g (across m.count s.cells c.args.r) _ (omega arith) c.loop-g.invariant.1
-          (pair-across m.count (s.layout.entries / m.count) m.bounds.0 m.bounds.1 s.walk.groups-few s.cells c.args.r c.loop-g.g
+      fill c.loop-g.ys c.loop-g.g (across m s.cells c.args.r) _ (omega arith) c.loop-g.invariant.1
+          (pair-across m (s.layout.entries / m) s.walk.orders-low s.walk.orders-high s.walk.groups-few s.cells c.args.r c.loop-g.g
           c.loop-g-test.true c.factors-y.result c.factors-z.result c.factors-y.ensures c.factors-z.ensures),
     )
 

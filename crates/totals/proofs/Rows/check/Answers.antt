@@ -21,7 +21,7 @@ check_row-requires c =
     let k = w.inside c.loop-r.r (let e = c.count-r-end.ensures.0 in omega arith) in
     let h = w.cells-few 0 (lit< tt) in
     let n = w.entries-are in
-    let m = entries-few s.layout.orders.count (s.layout.entries / s.layout.orders.count) w.orders-high w.groups-few in
+    let m = entries-few s.layout.orders (s.layout.entries / s.layout.orders) w.orders-high w.groups-few in
     (omega arith, omega arith, omega arith)
 
 pub returns-in_err-check_row : goal.returns-in_err-check_row

@@ -20,7 +20,7 @@ use Rattle.totals.proofs.Rows.sum.Goals.{After-row_sum-sum}
 module _ (s : Rows) (within : (r : ℕ) → r < row_count s.cells
     → EntriesWithin (2 ^ 21) s.records.now (row_start s.layout s.cells r) (s.layout.entries * (get_or s.cells 0 0 + 1))) where
   abbrev m : ℕ
-  m = s.layout.orders.count
+  m = s.layout.orders
 
   abbrev k : ℕ
   k = s.layout.entries / m

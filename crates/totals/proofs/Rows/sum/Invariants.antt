@@ -8,5 +8,5 @@ use Rattle.totals.proofs.Rows.sum.Given as goal
 
 abbrev pub invariant-loop-r : goal.invariant-loop-r
 invariant-loop-r q =
-    q.sum ≡ sum q.r (λ r. row_sum q.self.layout.orders.count (q.self.layout.entries / q.self.layout.orders.count) (get_or q.self.cells 0 0)
-    (across q.self.layout.orders.count q.self.cells r) q.self.records.now (row_start q.self.layout q.self.cells r))
+    q.sum ≡ sum q.r (λ r. row_sum q.self.layout.orders (q.self.layout.entries / q.self.layout.orders) (get_or q.self.cells 0 0)
+    (across q.self.layout.orders q.self.cells r) q.self.records.now (row_start q.self.layout q.self.cells r))
